@@ -1,0 +1,59 @@
+-- A CPU: what the hypervisor sees of it, and what an entry makes of it.
+use Rattle.std.specs.Prelude.{ℕ, ◌^◌, List, replicate}
+use Rattle.pef_model.specs.declared.state.Ctx.{Ctx}
+use Rattle.pef_model.specs.declared.state.Ctx.TheVariants as ctx
+use Rattle.pef_model.specs.declared.command.Cmd.{Cmd}
+use Rattle.pef_model.specs.declared.command.Cmd.TheVariants.{UReturn, GLi, GLd, GSt}
+use Rattle.pef_model.specs.declared.entry.Answer.{Answer}
+use Rattle.pef_model.specs.declared.entry.Answer.TheVariants as answer
+use Rattle.pef_model.specs.Plan.{Plan}
+use Rattle.pef_model.specs.Event.{Event}
+use Rattle.pef_model.specs.Registers.{zero_registers, load_return, with_code}
+
+-- the context, the hypervisor's 32 registers, the selected guest and vCPU, the last answer, the hand of one page
+pub record CpuPart : Type 0 where
+  pub ctx : Ctx
+  pub own : List ℕ
+  pub lpid : ℕ
+  pub vid : ℕ
+  pub last : Answer
+  pub hand : List ℕ
+
+-- a CPU begins in the hypervisor, with zero registers and hand, vCPU 0 of guest 1 selected
+abbrev pub start_cpu : Plan → CpuPart
+start_cpu plan = record { ctx = ctx.Hv; own = zero_registers; lpid = 1; vid = 0; last = answer.Nothing; hand = replicate (2 ^ plan.shift) 0 }
+
+-- the registers after a call that the hypervisor made, by what it answered
+abbrev pub own_after_return : List ℕ → Answer → List ℕ
+own_after_return loaded (answer.Ret code) = with_code loaded code
+own_after_return loaded other = loaded
+
+-- the hypervisor's registers after a command of its own
+abbrev pub own_after : List ℕ → Cmd → Answer → List ℕ
+own_after own (UReturn r0 r2 outs) a = own_after_return (load_return own r0 r2 outs) a
+own_after own (GLi rd value) a = own
+own_after own (GLd rd gpa) a = own
+own_after own (GSt rs gpa) a = own
+
+-- the last answer: Context isn't kept
+abbrev pub last_after : Answer → Answer → Answer
+last_after old answer.Context = old
+last_after old a = a
+
+-- a CPU after a step of the hypervisor
+abbrev pub cpu_after_hypervisor : CpuPart → Event → CpuPart
+cpu_after_hypervisor cpu e = record cpu { ctx = e.saw.after; own = own_after cpu.own e.trace.cmd e.trace.answer; last = last_after cpu.last e.trace.answer }
+
+-- a CPU after a step of a guest that goes on, or that has ended
+abbrev pub cpu_after_guest : CpuPart → Answer → CpuPart
+cpu_after_guest cpu answer.Gone = record cpu { ctx = ctx.Hv; own = zero_registers; last = answer.Gone }
+cpu_after_guest cpu a = cpu
+
+-- a CPU after an entry of its own, by the context before it
+abbrev pub cpu_after_in : Ctx → CpuPart → Event → CpuPart
+cpu_after_in ctx.Hv cpu e = cpu_after_hypervisor cpu e
+cpu_after_in (ctx.Guest run) cpu e = cpu_after_guest cpu e.trace.answer
+
+-- a CPU after an entry that touches it
+abbrev pub next_cpu : CpuPart → Event → CpuPart
+next_cpu cpu e = cpu_after_in e.saw.before cpu e

@@ -1,0 +1,112 @@
+-- What a step does, by the tables: its answer, and what it shows.
+use Rattle.std.specs.Prelude.{ℕ, ◌==◌, Bool, true, false, ◌&&◌, if◌then◌else◌, List, [], ◌∷◌, Option, Some, None}
+use Rattle.pef_model.specs.declared.state.Phase.{Phase}
+use Rattle.pef_model.specs.declared.state.Phase.TheVariants as phase
+use Rattle.pef_model.specs.declared.state.VState.{VState}
+use Rattle.pef_model.specs.declared.state.VState.TheVariants as vstate
+use Rattle.pef_model.specs.declared.state.Ctx.{Ctx}
+use Rattle.pef_model.specs.declared.state.Ctx.TheVariants as ctx
+use Rattle.pef_model.specs.declared.command.Code.TheVariants.{UInvalid}
+use Rattle.pef_model.specs.declared.command.Cmd.{Cmd}
+use Rattle.pef_model.specs.declared.command.Cmd.TheVariants.{UReturn, GLi, GLd, GSt}
+use Rattle.pef_model.specs.declared.entry.Answer.{Answer}
+use Rattle.pef_model.specs.declared.entry.Answer.TheVariants as answer
+use Rattle.pef_model.specs.declared.entry.PoolSaw.{PoolSaw}
+use Rattle.pef_model.specs.Plan.{Plan}
+use Rattle.pef_model.specs.Target.{Ask}
+use Rattle.pef_model.specs.Guest.{GuestPart, page_of, has_place, is_invalid}
+use Rattle.pef_model.specs.Private.{Guest, doubleword}
+
+-- what a step does at its target: the answer, the context after it, the values that the guest lets out, the pool, the frame, the bytes
+pub record Deed : Type 0 where
+  pub answer : Answer
+  pub after : Ctx
+  pub shown : List ℕ
+  pub pool : Option PoolSaw
+  pub frame : Option ℕ
+  pub bytes : List ℕ
+
+-- a step that answers and leaves the CPU's context
+abbrev pub answering : Ask → Answer → Deed
+answering ask a = record { answer = a; after = ask.before; shown = []; pool = None; frame = None; bytes = [] }
+
+-- a step that takes a free frame, or finds none
+abbrev pub taking : Deed → Bool → Deed
+taking deed true = record deed { pool = Some (record { any = true; taken = 1; given = 0 }) }
+taking deed false = record deed { pool = Some (record { any = false; taken = 0; given = 0 }) }
+
+-- a command of another context
+abbrev pub deed_alone : Ask → Cmd → Deed
+deed_alone ask cmd = answering ask answer.Context
+
+-- whether UV_RETURN may take up a vCPU in this phase
+abbrev pub may_return_in : Phase → Bool
+may_return_in phase.Absent = false
+may_return_in phase.Normal = false
+may_return_in phase.Starting = true
+may_return_in phase.Secure = true
+may_return_in phase.Aborting = false
+
+-- whether UV_RETURN takes up a vCPU in this state
+abbrev pub is_waiting : VState → Bool
+is_waiting vstate.Idle = false
+is_waiting vstate.Fresh = true
+is_waiting (vstate.Running cpu) = false
+
+-- UV_RETURN of the hypervisor: the selected vCPU runs, if it waits in a Secure or Starting guest
+abbrev pub deed_return : GuestPart → Ask → Deed
+deed_return g ask =
+    if may_return_in g.phase && is_waiting (g.vcpus ask.vid).state
+    then record (answering ask answer.Enter) { after = ctx.Guest (record { lpid = ask.lpid; vid = ask.vid; generation = g.generation }) }
+    else answering ask (answer.Ret UInvalid)
+
+-- what an access to an address meets
+pub data Reach : Type 0 where
+  NoPage : Reach
+  InFrame : Reach
+  Backs : Reach
+  NoFrame : Reach
+
+-- what an access to a page meets: an Invalid page is backed where a frame is free
+abbrev pub reach_of : Bool → Bool → Reach
+reach_of true true = Backs
+reach_of true false = NoFrame
+reach_of false any = InFrame
+
+-- what an access of a guest meets
+abbrev pub reach : Plan → GuestPart → Bool → ℕ → Reach
+reach plan g any gpa = if has_place plan gpa then reach_of (is_invalid (g.pages (page_of plan gpa))) any else NoPage
+
+-- an access, with its answer where it is done
+abbrev pub deed_access : Ask → Answer → Reach → Deed
+deed_access ask success NoPage = answering ask answer.Hole
+deed_access ask success InFrame = answering ask success
+deed_access ask success Backs = taking (answering ask success) true
+deed_access ask success NoFrame = taking (answering ask answer.Hole) false
+
+-- a command of a guest that runs; any: a secure frame is free
+abbrev pub deed_running : Plan → Guest → Bool → Ask → Cmd → Deed
+deed_running plan g any ask (UReturn r0 r2 outs) = record (answering ask (answer.Ret UInvalid)) { shown = r0 ∷ r2 ∷ outs }
+deed_running plan g any ask (GLi rd value) = answering ask answer.Done
+deed_running plan g any ask (GLd rd gpa) = deed_access ask (answer.Val (doubleword plan g gpa)) (reach plan g.part any gpa)
+deed_running plan g any ask (GSt rs gpa) = deed_access ask answer.Done (reach plan g.part any gpa)
+
+-- a guest whose generation is another by now lets nothing out, and the hypervisor runs
+abbrev pub deed_gone : Ask → Deed
+deed_gone ask = record (answering ask answer.Gone) { after = ctx.Hv }
+
+-- a command of the hypervisor at a guest
+abbrev pub deed_hypervisor : GuestPart → Ask → Cmd → Deed
+deed_hypervisor g ask (UReturn r0 r2 outs) = deed_return g ask
+deed_hypervisor g ask (GLi rd value) = answering ask answer.Context
+deed_hypervisor g ask (GLd rd gpa) = answering ask answer.Context
+deed_hypervisor g ask (GSt rs gpa) = answering ask answer.Context
+
+-- a command at a guest, by the CPU's context
+abbrev pub deed_guest_in : Ctx → Plan → Guest → Bool → Ask → Cmd → Deed
+deed_guest_in ctx.Hv plan g any ask cmd = deed_hypervisor g.part ask cmd
+deed_guest_in (ctx.Guest run) plan g any ask cmd = if run.generation == g.part.generation then deed_running plan g any ask cmd else deed_gone ask
+
+-- a command at a guest
+abbrev pub deed_guest : Plan → Guest → Bool → Ask → Cmd → Deed
+deed_guest plan g any ask cmd = deed_guest_in ask.before plan g any ask cmd

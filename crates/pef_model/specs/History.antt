@@ -1,0 +1,86 @@
+-- The objects after a history, the one entry that a step adds, and legal histories.
+use Rattle.std.specs.Prelude.{◌≡◌, ℕ, ◌<◌, nat_lt, List, [], ◌∷◌, slice_index}
+use Rattle.pef_model.specs.declared.command.Cmd.{Cmd}
+use Rattle.pef_model.specs.Plan.{Plan}
+use Rattle.pef_model.specs.Event.{Event, Mark, mark_of, value_after}
+use Rattle.pef_model.specs.Target.{Ask, Target, Alone, AtGuest, target_in, touches_cpu, touches_guest, touches_pool, touches_frame}
+use Rattle.pef_model.specs.Cpu.{CpuPart, start_cpu, next_cpu}
+use Rattle.pef_model.specs.Guest.{GuestPart}
+use Rattle.pef_model.specs.Private.{Guest, start_guest, next_guest, doubleword}
+use Rattle.pef_model.specs.Memory.{start_pool, next_pool, start_frame, next_frame}
+use Rattle.pef_model.specs.Deed.{Deed, deed_alone, deed_guest}
+
+-- a CPU after a history
+abbrev pub cpu_after : Plan → ℕ → List Event → CpuPart
+cpu_after plan n past = value_after (touches_cpu n) next_cpu (start_cpu plan) past
+
+-- a guest after a history, with what it keeps to itself
+abbrev pub guest_after : Plan → ℕ → List Event → Guest
+guest_after plan lpid past = value_after (touches_guest lpid) (next_guest plan) (start_guest plan lpid) past
+
+-- the number of free secure frames after a history
+abbrev pub pool_after : Plan → List Event → ℕ
+pool_after plan past = value_after touches_pool next_pool (start_pool plan) past
+
+-- a normal frame after a history
+abbrev pub frame_after : Plan → ℕ → List Event → List ℕ
+frame_after plan n past = value_after (touches_frame n) next_frame (start_frame plan) past
+
+-- all that the hypervisor could know; it has no secret
+pub record PublicState : Type 0 where
+  pub cpus : ℕ → CpuPart
+  pub guests : ℕ → GuestPart
+  pub pool : ℕ
+  pub frames : ℕ → List ℕ
+
+-- the public state after a history
+abbrev pub public_state : Plan → List Event → PublicState
+public_state plan past = record {
+  cpus = λ n. cpu_after plan n past;
+  guests = λ lpid. (guest_after plan lpid past).part;
+  pool = pool_after plan past;
+  frames = λ n. frame_after plan n past;
+}
+
+-- the value last stored at an address of a guest's private page; 0 where the page is Invalid
+abbrev pub last_store : Plan → List Event → ℕ → ℕ → ℕ
+last_store plan past lpid gpa = doubleword plan (guest_after plan lpid past) gpa
+
+-- the value last assigned to one of R0 to R31 of a vCPU
+abbrev pub reg : Plan → List Event → ℕ → ℕ → ℕ → ℕ
+reg plan past lpid vid r = slice_index ((guest_after plan lpid past).registers vid).gpr r
+
+-- what a step learns of its CPU
+abbrev pub ask_of : CpuPart → Ask
+ask_of cpu = record { before = cpu.ctx; lpid = cpu.lpid; vid = cpu.vid; last = cpu.last }
+
+-- the entry of a step
+abbrev pub entry_of : Ask → Mark → Cmd → Deed → Event
+entry_of ask mark cmd deed = record {
+  trace = record { line = mark.line; cpu = mark.cpu; place = mark.place; stamp = mark.stamp; cmd = cmd; answer = deed.answer };
+  saw = record { before = ask.before; after = deed.after; lpid = ask.lpid; vid = ask.vid; last = ask.last; pool = deed.pool; frame = deed.frame; shown = deed.shown };
+  bytes = deed.bytes;
+}
+
+-- what a step does after a history
+abbrev pub deed_after : Plan → List Event → Ask → Cmd → Target → Deed
+deed_after plan past ask cmd Alone = deed_alone ask cmd
+deed_after plan past ask cmd (AtGuest lpid) = deed_guest plan (guest_after plan lpid past) (nat_lt 0 (pool_after plan past)) ask cmd
+
+-- the entry that a step adds to a history, once it is known what the step learns of its CPU
+abbrev pub next_entry_by : Plan → List Event → Ask → Mark → Cmd → Event
+next_entry_by plan past ask mark cmd = entry_of ask mark cmd (deed_after plan past ask cmd (target_in ask.before ask.lpid cmd))
+
+-- the one entry that a step of a CPU adds to a history
+abbrev pub next_entry : Plan → List Event → Mark → Cmd → Event
+next_entry plan past mark cmd = next_entry_by plan past (ask_of (cpu_after plan mark.cpu past)) mark cmd
+
+-- an entry extends a history: its CPU is one of the machine's, and it is what the tables give
+pub record Extends (plan : Plan) (past : List Event) (e : Event) : Type 0 where
+  pub cpu : e.trace.cpu < plan.cpus
+  pub is : e ≡ next_entry plan past (mark_of e) e.trace.cmd
+
+-- each entry of a history extends those before it
+abbrev pub IsLegal : Plan → List Event → Type 0
+IsLegal plan [] = Unit {0}
+IsLegal plan (e ∷ past) = Extends plan past e × IsLegal plan past

@@ -1,0 +1,14 @@
+pub mod Plan
+pub mod Event
+pub mod Registers
+pub mod Target
+pub mod Cpu
+pub mod Guest
+pub mod Private
+pub mod Memory
+pub mod Deed
+pub mod History
+pub mod Script
+pub mod Run
+pub mod Report
+pub mod Law

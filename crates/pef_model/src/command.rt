@@ -1,0 +1,81 @@
+//! A command is one of a closed list, and names no register above R31.
+
+ghost use Rattle.std.specs.Prelude.{◌≡◌, ◌<◌, ◌↔◌, IsSome, IfSome};
+ghost use Rattle.pef_model.specs.Registers.{number_of};
+
+use std::marker::Model;
+
+/// The number of the ultracall UV_RETURN, which its caller puts into R3. This project's own.
+pub const UV_RETURN: u64 = 8;
+
+/// The number of one of the registers R0 to R31, seen as that number.
+#[derive(Clone, Copy, Debug, PartialEq, Eq)]
+pub struct Reg {
+    number: u8,
+}
+
+impl Model for Reg {
+    ghost use Rattle.std.specs.Prelude.{ℕ, ◌<◌};
+
+    ghost Value = { ℕ };
+
+    ghost view = { λ r. r.number };
+
+    ghost invariant = { λ r. r.number < 32 };
+
+    ghost inverse = { λ n. record { number = n } };
+}
+
+impl Reg {
+    /// The register of a number; None exactly where the number is 32 or above.
+    pub fn new(number: u8) -> Option<Reg>
+        ensures found { IsSome result ↔ (number < 32) }
+        ensures value { IfSome result (λ r. r ≡ number) }
+    {
+        if number < 32 {
+            Some(Reg { number })
+        } else {
+            None
+        }
+    }
+
+    /// Its number, 0 to 31.
+    pub fn number(self) -> u8
+        ensures value { result ≡ self }
+        ensures bound { result < 32 }
+    {
+        self.number
+    }
+}
+
+/// What an ultracall or a hypercall gives back in R3.
+#[derive(Clone, Copy, Debug, PartialEq, Eq)]
+pub enum Code {
+    /// The call makes no sense in the caller's state.
+    UInvalid,
+}
+
+impl Code {
+    /// The number that stands for it in R3. This project's own.
+    pub fn number(self) -> u64
+        ensures { result ≡ number_of self }
+    {
+        match self {
+            Code::UInvalid => 9,
+        }
+    }
+}
+
+/// A command of a script: what the hypervisor or the guest on a CPU does in one step.
+#[derive(Clone, Copy, Debug, PartialEq, Eq)]
+pub enum Cmd {
+    /// The ultracall UV_RETURN, with the values that the caller loads: R0 a hypercall's return value, R2 the
+    /// address of a synthesized interrupt or 0, and R4 to R12 a hypercall's outputs.
+    UReturn { r0: u64, r2: u64, outs: [u64; 9] },
+    /// The guest puts a value into a register.
+    GLi { rd: Reg, value: u64 },
+    /// The guest loads the doubleword at a guest address, in bytes, into a register.
+    GLd { rd: Reg, gpa: u64 },
+    /// The guest stores a register at a guest address, in bytes.
+    GSt { rs: Reg, gpa: u64 },
+}

@@ -1,0 +1,13 @@
+//! What a reader of this project has to believe: the types, the definitions and the laws.
+#![tactic(auto)]
+
+pub mod command;
+pub mod config;
+pub mod entry;
+pub mod laws;
+pub mod state;
+
+pub use command::{Cmd, Code, Reg, UV_RETURN};
+pub use config::{Config, EntropyWord, EntropyWords, Lpids};
+pub use entry::{Answer, Entry, Exposed, History, PoolSaw, Saw, Trace};
+pub use state::{Ctx, Kind, Phase, Regs, Run, VState};

@@ -1,0 +1,67 @@
+//! The parts of the machine's state that entries name.
+
+/// The phase of a guest.
+#[derive(Clone, Copy, Debug, PartialEq, Eq)]
+pub enum Phase {
+    /// It has no partition entry.
+    Absent,
+    /// It runs in normal memory through its partition entry.
+    Normal,
+    /// UV_ESM is under way; none of its vCPUs executes an instruction.
+    Starting,
+    /// It is a secure virtual machine.
+    Secure,
+    /// UV_ESM failed; its pages go back as they came.
+    Aborting,
+}
+
+/// The kind of a guest's page.
+#[derive(Clone, Copy, Debug, PartialEq, Eq)]
+pub enum Kind {
+    /// It has no frame, and reads as zero.
+    Invalid,
+    /// It lies in a secure frame.
+    Secure,
+}
+
+/// The state of a vCPU.
+#[derive(Clone, Copy, Debug, PartialEq, Eq)]
+pub enum VState {
+    /// It doesn't run, and UV_RETURN doesn't take it up.
+    Idle,
+    /// It hasn't run yet, and UV_RETURN takes it up.
+    Fresh,
+    /// It runs on the CPU of this number.
+    Running(u8),
+}
+
+/// Which vCPU runs, and in which life of its guest.
+#[derive(Clone, Copy, Debug, PartialEq, Eq)]
+pub struct Run {
+    /// The guest's number, from 1.
+    pub lpid: u16,
+    /// The vCPU's number, from 0.
+    pub vid: u8,
+    /// The guest's generation when the vCPU was taken up, from 1.
+    pub generation: u64,
+}
+
+/// What a CPU is doing.
+#[derive(Clone, Copy, Debug, PartialEq, Eq)]
+pub enum Ctx {
+    /// The hypervisor runs.
+    Hv,
+    /// A guest's vCPU runs.
+    Guest(Run),
+}
+
+/// The registers of a vCPU.
+#[derive(Clone, Copy, Debug, PartialEq, Eq)]
+pub struct Regs {
+    /// R0 to R31.
+    pub gpr: [u64; 32],
+    /// The address of the next instruction.
+    pub nip: u64,
+    /// Where an interrupt goes back to.
+    pub srr0: u64,
+}
