@@ -15,7 +15,7 @@ use Rattle.pef_model.specs.declared.entry.PoolSaw.{PoolSaw}
 use Rattle.pef_model.specs.Plan.{Plan}
 use Rattle.pef_model.specs.Target.{Ask}
 use Rattle.pef_model.specs.Guest.{GuestPart, page_of, has_place, is_invalid}
-use Rattle.pef_model.specs.Private.{Guest, doubleword}
+use Rattle.pef_model.specs.Private.{Guest, private_doubleword}
 
 -- what a step does at its target: the answer, the context after it, the values that the guest lets out, the pool, the frame, the bytes
 pub record Deed : Type 0 where
@@ -88,7 +88,7 @@ deed_access ask success NoFrame = taking (answering ask answer.Hole) false
 abbrev pub deed_running : Plan → Guest → Bool → Ask → Cmd → Deed
 deed_running plan g any ask (UReturn r0 r2 outs) = record (answering ask (answer.Ret UInvalid)) { shown = r0 ∷ r2 ∷ outs }
 deed_running plan g any ask (GLi rd value) = answering ask answer.Done
-deed_running plan g any ask (GLd rd gpa) = deed_access ask (answer.Val (doubleword plan g gpa)) (reach plan g.part any gpa)
+deed_running plan g any ask (GLd rd gpa) = deed_access ask (answer.Val (private_doubleword plan g gpa)) (reach plan g.part any gpa)
 deed_running plan g any ask (GSt rs gpa) = deed_access ask answer.Done (reach plan g.part any gpa)
 
 -- a guest whose generation is another by now lets nothing out, and the hypervisor runs

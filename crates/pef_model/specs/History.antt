@@ -6,7 +6,7 @@ use Rattle.pef_model.specs.Event.{Event, Mark, mark_of, value_after}
 use Rattle.pef_model.specs.Target.{Ask, Target, Alone, AtGuest, target_in, touches_cpu, touches_guest, touches_pool, touches_frame}
 use Rattle.pef_model.specs.Cpu.{CpuPart, start_cpu, next_cpu}
 use Rattle.pef_model.specs.Guest.{GuestPart}
-use Rattle.pef_model.specs.Private.{Guest, start_guest, next_guest, doubleword}
+use Rattle.pef_model.specs.Private.{Guest, start_guest, next_guest, private_doubleword}
 use Rattle.pef_model.specs.Memory.{start_pool, next_pool, start_frame, next_frame}
 use Rattle.pef_model.specs.Deed.{Deed, deed_alone, deed_guest}
 
@@ -44,7 +44,7 @@ public_state plan past = record {
 
 -- the value last stored at an address of a guest's private page; 0 where the page is Invalid
 abbrev pub last_store : Plan → List Event → ℕ → ℕ → ℕ
-last_store plan past lpid gpa = doubleword plan (guest_after plan lpid past) gpa
+last_store plan past lpid gpa = private_doubleword plan (guest_after plan lpid past) gpa
 
 -- the value last assigned to one of R0 to R31 of a vCPU
 abbrev pub reg : Plan → List Event → ℕ → ℕ → ℕ → ℕ

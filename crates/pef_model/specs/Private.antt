@@ -23,8 +23,8 @@ abbrev pub start_guest : Plan → ℕ → Guest
 start_guest plan lpid = record { part = start_part plan lpid; content = λ gpa. 0; registers = λ vid. fresh_registers }
 
 -- the doubleword at an address of a private page: 0 where the page is Invalid
-abbrev pub doubleword : Plan → Guest → ℕ → ℕ
-doubleword plan g gpa = if is_invalid (g.part.pages (page_of plan gpa)) then 0 else g.content gpa
+abbrev pub private_doubleword : Plan → Guest → ℕ → ℕ
+private_doubleword plan g gpa = if is_invalid (g.part.pages (page_of plan gpa)) then 0 else g.content gpa
 
 -- an access backs an Invalid page with zeros
 abbrev pub backed_by : Plan → Guest → ℕ → ℕ → Option ℕ
