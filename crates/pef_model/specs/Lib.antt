@@ -11,4 +11,7 @@ pub mod History
 pub mod Script
 pub mod Run
 pub mod Report
-pub mod Law
+pub mod RunLaw
+pub mod ReadLaw
+pub mod SecretLaw
+pub mod SearchLaw

@@ -36,12 +36,14 @@ stored_by_command plan g vid (GSt rs at) answer.Done gpa = if at == gpa then Som
 stored_by_command plan g vid (GLd rd at) (answer.Val value) gpa = backed_by plan g at gpa
 stored_by_command plan g vid cmd a gpa = None
 
+-- the hypervisor's commands decide none
+abbrev pub stored_in : Ctx → Plan → Guest → Cmd → Answer → ℕ → Option ℕ
+stored_in ctx.Hv plan g cmd a gpa = None
+stored_in (ctx.Guest run) plan g cmd a gpa = stored_by_command plan g run.vid cmd a gpa
+
 -- the value that an entry gives the doubleword at an address
 abbrev pub stored_by : Plan → Guest → Event → ℕ → Option ℕ
-stored_by plan g e gpa = stored_in e.saw.before where
-  stored_in : Ctx → Option ℕ
-  stored_in ctx.Hv = None
-  stored_in (ctx.Guest run) = stored_by_command plan g run.vid e.trace.cmd e.trace.answer gpa
+stored_by plan g e gpa = stored_in e.saw.before plan g e.trace.cmd e.trace.answer gpa
 
 -- the next instruction is the one after
 abbrev pub stepped : Regs → List ℕ → Regs
@@ -64,12 +66,14 @@ abbrev pub registers_after_return : Regs → Cmd → Answer → Regs
 registers_after_return regs (UReturn r0 r2 outs) answer.Enter = interrupted regs r2
 registers_after_return regs cmd a = regs
 
+-- the registers of a guest's vCPUs after a step, by the context before it: those of the selected vCPU, or of the running one
+abbrev pub registers_after_in : Ctx → (ℕ → Regs) → ℕ → Cmd → Answer → ℕ → Regs
+registers_after_in ctx.Hv registers vid cmd a = put registers vid (registers_after_return (registers vid) cmd a)
+registers_after_in (ctx.Guest run) registers vid cmd a = put registers run.vid (registers_after_command (registers run.vid) cmd a)
+
 -- the registers of a guest's vCPUs after an entry
 abbrev pub next_registers : (ℕ → Regs) → Event → ℕ → Regs
-next_registers registers e = after_in e.saw.before where
-  after_in : Ctx → ℕ → Regs
-  after_in ctx.Hv = put registers e.saw.vid (registers_after_return (registers e.saw.vid) e.trace.cmd e.trace.answer)
-  after_in (ctx.Guest run) = put registers run.vid (registers_after_command (registers run.vid) e.trace.cmd e.trace.answer)
+next_registers registers e = registers_after_in e.saw.before registers e.saw.vid e.trace.cmd e.trace.answer
 
 -- a guest after an entry that touches it
 abbrev pub next_guest : Plan → Guest → Event → Guest

@@ -1,11 +1,20 @@
--- The laws of the definitions.
+-- Laws of runs and reports.
 use Rattle.std.specs.Prelude.{◌≡◌, ℕ, List, codes, Option, Some, None}
 use Rattle.pef_model.specs.Plan.{plan_of}
-use Rattle.pef_model.specs.Script.{Script, script_of}
-use Rattle.pef_model.specs.Run.{run_of}
+use Rattle.pef_model.specs.Script.{Script, IsScript, script_of}
+use Rattle.pef_model.specs.Run.{IsRun, run_of}
 use Rattle.pef_model.specs.Report.{report}
 
--- the report of a script that a text may be
+-- a fact holds of a value, and of no other
+pub record IsOnly {A : Type 0} (P : A → Type 0) (x : A) : Type 0 where
+  pub holds : P x
+  pub only : (y : A) → P y → y ≡ x
+
+-- each script has exactly one run
+abbrev pub OneRun : Type 0
+OneRun = (script : Script) → IsScript script → IsOnly (IsRun script) (run_of script)
+
+-- the report of the script that a text is
 abbrev pub report_of : Option Script → Option (List ℕ)
 report_of None = None
 report_of (Some script) = Some (report (plan_of script.config) (run_of script))

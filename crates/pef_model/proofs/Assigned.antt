@@ -1,0 +1,259 @@
+-- A vCPU's register holds what was last assigned.
+use Rattle.std.proofs.Common.{◌≡◌, ◌≢◌, ℕ, zero, suc, replicate, ◌+◌, ◌-◌, ◌<◌, ◌≤◌, List, [], ◌∷◌, ◌++◌, length, take, drop, Bool, true, false, refl, ap, sym, subst, ◌∙◌, ◌==◌, ◌&&◌, nat_lt, nat_le, if◌then◌else◌, Option, Some, None, arith, length-append, length-take, length-drop, get_or}
+use Rattle.std.proofs.lemmas.List.{get_or-drop}
+use Rattle.std.specs.Prelude.{unwrap_or, slice_set}
+use Rattle.std.specs.List.{AllByRecursion}
+use Rattle.std.proofs.Math.ListN.{length-set}
+use Rattle.std.proofs.lemmas.Grind.{common_steps}
+use Rattle.std.proofs.lemmas.Bool.Decides.{nat_tests}
+use Rattle.pef_model.specs.declared.state.Regs.{Regs}
+use Rattle.pef_model.specs.declared.state.Ctx.{Ctx}
+use Rattle.pef_model.specs.declared.state.Ctx.TheVariants as ctx
+use Rattle.pef_model.specs.declared.command.TheConstants.{UV_RETURN}
+use Rattle.pef_model.specs.declared.command.Cmd.{Cmd}
+use Rattle.pef_model.specs.declared.command.Cmd.TheVariants.{UReturn, GLi, GLd, GSt}
+use Rattle.pef_model.specs.declared.entry.Answer.{Answer}
+use Rattle.pef_model.specs.declared.entry.Answer.TheVariants.{Done, Val, Ret, Enter, Gone, Hole, Context, Nothing}
+use Rattle.pef_model.specs.Plan.{Plan}
+use Rattle.pef_model.specs.Event.{Event}
+use Rattle.pef_model.specs.Registers.{number_of, load_return}
+use Rattle.pef_model.specs.Target.{touches_guest}
+use Rattle.pef_model.specs.Private.{Guest, start_guest, next_guest, registers_after_command, registers_after_return, registers_after_in}
+use Rattle.pef_model.specs.History.{guest_after, reg}
+use Rattle.pef_model.specs.SearchLaw.{newest, decides_register, loaded_value, assigned_by_command, assigned_in, IsCommand, RegIsNewest}
+use Rattle.pef_model.proofs.Folds.{test_same, counts, skips}
+
+-- the registers that a refused UV_RETURN of a guest leaves
+abbrev returned : List ℕ → ℕ → ℕ → List ℕ → ℕ → List ℕ
+returned gpr r0 r2 outs code = slice_set (take 4 gpr ++ (outs ++ drop 13 gpr)) 3 code
+
+length-returned : (gpr outs : List ℕ) (r0 r2 code : ℕ) → length gpr ≡ 32 → length outs ≡ 9 → length (returned gpr r0 r2 outs code) ≡ 32
+length-returned gpr outs r0 r2 code h k = simp (length-set, length-append, length-take, length-drop) (omega arith)
+
+-- register by register, before the code
+at_three : (gpr outs : List ℕ) (r0 r2 code : ℕ) → length gpr ≡ 32 → length outs ≡ 9 → get_or (returned gpr r0 r2 outs code) 3 0 ≡ code
+at_three gpr outs r0 r2 code h k = grind (arith, common_steps)
+
+below_three : (gpr outs : List ℕ) (r0 r2 code r : ℕ) → length gpr ≡ 32 → length outs ≡ 9 → r < 3 → get_or (returned gpr r0 r2 outs code) r 0 ≡ get_or gpr r 0
+below_three gpr outs r0 r2 code r h k l = grind (arith, common_steps)
+
+outputs : (gpr outs : List ℕ) (r0 r2 code r : ℕ) → length gpr ≡ 32 → length outs ≡ 9 → 4 ≤ r → r < 13 → get_or (returned gpr r0 r2 outs code) r 0 ≡ get_or outs (r - 4) 0
+outputs gpr outs r0 r2 code r h k l m = grind (arith, common_steps)
+
+past_outputs : (front outs rest : List ℕ) (code r : ℕ) → length front ≡ 4 → length outs ≡ 9 → 13 ≤ r →
+    get_or (slice_set (front ++ (outs ++ rest)) 3 code) r 0 ≡ get_or rest (r - 13) 0
+past_outputs front outs rest code r h k l = grind (arith, common_steps)
+
+above : (gpr outs : List ℕ) (r0 r2 code r : ℕ) → length gpr ≡ 32 → length outs ≡ 9 → 13 ≤ r → get_or (returned gpr r0 r2 outs code) r 0 ≡ get_or gpr r 0
+above gpr outs r0 r2 code r h k l =
+    let front : length (take 4 gpr) ≡ 4 = omega (arith, length-take 4 gpr) in
+    let at : 13 + (r - 13) ≡ r = omega arith in
+    past_outputs (take 4 gpr) outs (drop 13 gpr) code r front k l ∙ get_or-drop 13 gpr (r - 13) 0 ∙ ap (λ (x : ℕ). get_or gpr x 0) at
+
+-- the registers with R0, R2 and R3 loaded
+abbrev loaded : List ℕ → ℕ → ℕ → List ℕ
+loaded gpr r0 r2 = slice_set (slice_set (slice_set gpr 0 r0) 2 r2) 3 UV_RETURN
+
+length-loaded : (gpr : List ℕ) (r0 r2 : ℕ) → length gpr ≡ 32 → length (loaded gpr r0 r2) ≡ 32
+length-loaded gpr r0 r2 h = simp length-set h
+
+-- each register after a refused UV_RETURN of a guest
+returned_value : (gpr outs : List ℕ) (r0 r2 code r : ℕ) → length gpr ≡ 32 → length outs ≡ 9 → r < 32 →
+    get_or (slice_set (load_return gpr r0 r2 outs) 3 code) r 0 ≡ unwrap_or (loaded_value r0 r2 outs code r) (get_or gpr r 0)
+returned_value gpr outs r0 r2 code r h k small = by_zero (r == 0) refl where
+  value : Bool → Bool → Bool → Bool → ℕ
+  value a b c d = unwrap_or (if a then Some r0 else (if b then Some r2 else (if c then Some code else (if d then Some (get_or outs (r - 4) 0) else None)))) (get_or gpr r 0)
+
+  full : length (loaded gpr r0 r2) ≡ 32
+  full = length-loaded gpr r0 r2 h
+
+  now : ℕ
+  now = get_or (slice_set (load_return gpr r0 r2 outs) 3 code) r 0
+
+  by_output : (r == 0) ≡ false → (r == 2) ≡ false → (r == 3) ≡ false → (d : Bool) → nat_le 4 r && nat_lt r 13 ≡ d → now ≡ value false false false d
+  by_output a b c true t =
+      let low : 4 ≤ r = grind (arith, nat_tests) in
+      let high : r < 13 = grind (arith, nat_tests) in
+      outputs (loaded gpr r0 r2) outs r0 r2 code r full k low high
+  by_output a b c false t = by_one (nat_lt r 3) refl where
+    by_one : (x : Bool) → nat_lt r 3 ≡ x → now ≡ get_or gpr r 0
+    by_one true x =
+        let one : r ≡ 1 = grind (arith, nat_tests) in
+        below_three (loaded gpr r0 r2) outs r0 r2 code r full k (omega arith) ∙ grind (arith, common_steps)
+    by_one false x =
+        let high : 13 ≤ r = grind (arith, nat_tests) in
+        above (loaded gpr r0 r2) outs r0 r2 code r full k high ∙ grind (arith, common_steps)
+
+  by_three : (r == 0) ≡ false → (r == 2) ≡ false → (c : Bool) → (r == 3) ≡ c → now ≡ value false false c (nat_le 4 r && nat_lt r 13)
+  by_three a b true t =
+      ap (λ (x : ℕ). get_or (slice_set (load_return gpr r0 r2 outs) 3 code) x 0) (test_same r 3 t) ∙ at_three (loaded gpr r0 r2) outs r0 r2 code full k
+  by_three a b false t = by_output a b t (nat_le 4 r && nat_lt r 13) refl
+
+  by_two : (r == 0) ≡ false → (b : Bool) → (r == 2) ≡ b → now ≡ value false b (r == 3) (nat_le 4 r && nat_lt r 13)
+  by_two a true t =
+      let two : r ≡ 2 = test_same r 2 t in
+      below_three (loaded gpr r0 r2) outs r0 r2 code r full k (omega arith) ∙ grind (arith, common_steps)
+  by_two a false t = by_three a t (r == 3) refl
+
+  by_zero : (a : Bool) → (r == 0) ≡ a → now ≡ value a (r == 2) (r == 3) (nat_le 4 r && nat_lt r 13)
+  by_zero true t =
+      let zero_is : r ≡ 0 = test_same r 0 t in
+      below_three (loaded gpr r0 r2) outs r0 r2 code r full k (omega arith) ∙ grind (arith, common_steps)
+  by_zero false t = by_two t (r == 2) refl
+
+-- a command keeps that there are 32 registers
+length_command : (regs : Regs) (cmd : Cmd) (a : Answer) → IsCommand cmd → length regs.gpr ≡ 32 → length (registers_after_command regs cmd a).gpr ≡ 32
+length_command regs (UReturn r0 r2 outs) (Ret code) k h = length-returned (loaded regs.gpr r0 r2) outs r0 r2 (number_of code) (length-loaded regs.gpr r0 r2 h) k
+length_command regs (UReturn r0 r2 outs) Done k h = h
+length_command regs (UReturn r0 r2 outs) (Val value) k h = h
+length_command regs (UReturn r0 r2 outs) Enter k h = h
+length_command regs (UReturn r0 r2 outs) Gone k h = h
+length_command regs (UReturn r0 r2 outs) Hole k h = h
+length_command regs (UReturn r0 r2 outs) Context k h = h
+length_command regs (UReturn r0 r2 outs) Nothing k h = h
+length_command regs (GLi rd value) Done k h = simp length-set h
+length_command regs (GLi rd value) (Val v) k h = h
+length_command regs (GLi rd value) (Ret code) k h = h
+length_command regs (GLi rd value) Enter k h = h
+length_command regs (GLi rd value) Gone k h = h
+length_command regs (GLi rd value) Hole k h = h
+length_command regs (GLi rd value) Context k h = h
+length_command regs (GLi rd value) Nothing k h = h
+length_command regs (GLd rd gpa) (Val value) k h = simp length-set h
+length_command regs (GLd rd gpa) Done k h = h
+length_command regs (GLd rd gpa) (Ret code) k h = h
+length_command regs (GLd rd gpa) Enter k h = h
+length_command regs (GLd rd gpa) Gone k h = h
+length_command regs (GLd rd gpa) Hole k h = h
+length_command regs (GLd rd gpa) Context k h = h
+length_command regs (GLd rd gpa) Nothing k h = h
+length_command regs (GSt rs gpa) Done k h = h
+length_command regs (GSt rs gpa) (Val value) k h = h
+length_command regs (GSt rs gpa) (Ret code) k h = h
+length_command regs (GSt rs gpa) Enter k h = h
+length_command regs (GSt rs gpa) Gone k h = h
+length_command regs (GSt rs gpa) Hole k h = h
+length_command regs (GSt rs gpa) Context k h = h
+length_command regs (GSt rs gpa) Nothing k h = h
+
+set_value : (gpr : List ℕ) (rd value r : ℕ) → length gpr ≡ 32 → rd < 32 → get_or (slice_set gpr rd value) r 0 ≡ unwrap_or (if r == rd then Some value else None) (get_or gpr r 0)
+set_value gpr rd value r h k = by_test (r == rd) refl where
+  by_test : (b : Bool) → (r == rd) ≡ b → get_or (slice_set gpr rd value) r 0 ≡ unwrap_or (if b then Some value else None) (get_or gpr r 0)
+  by_test true t = let same : r ≡ rd = test_same r rd t in grind (arith, common_steps)
+  by_test false t = let other : rd ≢ r = grind (arith, nat_tests) in grind (arith, common_steps)
+
+-- each register after a command of its vCPU
+command_value : (regs : Regs) (cmd : Cmd) (a : Answer) (r : ℕ) → IsCommand cmd → length regs.gpr ≡ 32 → r < 32 →
+    get_or (registers_after_command regs cmd a).gpr r 0 ≡ unwrap_or (assigned_by_command cmd a r) (get_or regs.gpr r 0)
+command_value regs (UReturn r0 r2 outs) (Ret code) r k h small = returned_value regs.gpr outs r0 r2 (number_of code) r h k small
+command_value regs (UReturn r0 r2 outs) Done r k h small = refl
+command_value regs (UReturn r0 r2 outs) (Val value) r k h small = refl
+command_value regs (UReturn r0 r2 outs) Enter r k h small = refl
+command_value regs (UReturn r0 r2 outs) Gone r k h small = refl
+command_value regs (UReturn r0 r2 outs) Hole r k h small = refl
+command_value regs (UReturn r0 r2 outs) Context r k h small = refl
+command_value regs (UReturn r0 r2 outs) Nothing r k h small = refl
+command_value regs (GLi rd value) Done r k h small = set_value regs.gpr rd value r h k
+command_value regs (GLi rd value) (Val v) r k h small = refl
+command_value regs (GLi rd value) (Ret code) r k h small = refl
+command_value regs (GLi rd value) Enter r k h small = refl
+command_value regs (GLi rd value) Gone r k h small = refl
+command_value regs (GLi rd value) Hole r k h small = refl
+command_value regs (GLi rd value) Context r k h small = refl
+command_value regs (GLi rd value) Nothing r k h small = refl
+command_value regs (GLd rd gpa) (Val value) r k h small = set_value regs.gpr rd value r h k
+command_value regs (GLd rd gpa) Done r k h small = refl
+command_value regs (GLd rd gpa) (Ret code) r k h small = refl
+command_value regs (GLd rd gpa) Enter r k h small = refl
+command_value regs (GLd rd gpa) Gone r k h small = refl
+command_value regs (GLd rd gpa) Hole r k h small = refl
+command_value regs (GLd rd gpa) Context r k h small = refl
+command_value regs (GLd rd gpa) Nothing r k h small = refl
+command_value regs (GSt rs gpa) Done r k h small = refl
+command_value regs (GSt rs gpa) (Val value) r k h small = refl
+command_value regs (GSt rs gpa) (Ret code) r k h small = refl
+command_value regs (GSt rs gpa) Enter r k h small = refl
+command_value regs (GSt rs gpa) Gone r k h small = refl
+command_value regs (GSt rs gpa) Hole r k h small = refl
+command_value regs (GSt rs gpa) Context r k h small = refl
+command_value regs (GSt rs gpa) Nothing r k h small = refl
+
+-- UV_RETURN of the hypervisor moves no register of R0 to R31
+gpr_after_return : (regs : Regs) (cmd : Cmd) (a : Answer) → (registers_after_return regs cmd a).gpr ≡ regs.gpr
+gpr_after_return regs (UReturn r0 r2 outs) Enter = by_test (r2 == 0) where
+  by_test : (b : Bool) → (if b then regs else record regs { nip = r2; srr0 = regs.nip }).gpr ≡ regs.gpr
+  by_test true = refl
+  by_test false = refl
+gpr_after_return regs (UReturn r0 r2 outs) Done = refl
+gpr_after_return regs (UReturn r0 r2 outs) (Val value) = refl
+gpr_after_return regs (UReturn r0 r2 outs) (Ret code) = refl
+gpr_after_return regs (UReturn r0 r2 outs) Gone = refl
+gpr_after_return regs (UReturn r0 r2 outs) Hole = refl
+gpr_after_return regs (UReturn r0 r2 outs) Context = refl
+gpr_after_return regs (UReturn r0 r2 outs) Nothing = refl
+gpr_after_return regs (GLi rd value) a = refl
+gpr_after_return regs (GLd rd gpa) a = refl
+gpr_after_return regs (GSt rs gpa) a = refl
+
+-- each vCPU has 32 registers
+abbrev AreFull : (ℕ → Regs) → Type 0
+AreFull registers = (vid : ℕ) → length (registers vid).gpr ≡ 32
+
+gpr_in_hypervisor : (registers : ℕ → Regs) (selected : ℕ) (cmd : Cmd) (a : Answer) (vid : ℕ) → (registers_after_in ctx.Hv registers selected cmd a vid).gpr ≡ (registers vid).gpr
+gpr_in_hypervisor registers selected cmd a vid = by_test (vid == selected) refl where
+  by_test : (b : Bool) → (vid == selected) ≡ b → (if b then registers_after_return (registers selected) cmd a else registers vid).gpr ≡ (registers vid).gpr
+  by_test true t = gpr_after_return (registers selected) cmd a ∙ ap (λ (v : ℕ). (registers v).gpr) (sym (test_same vid selected t))
+  by_test false t = refl
+
+full_after : (c : Ctx) (registers : ℕ → Regs) (selected : ℕ) (cmd : Cmd) (a : Answer) → IsCommand cmd → AreFull registers → AreFull (registers_after_in c registers selected cmd a)
+full_after ctx.Hv registers selected cmd a k full vid = ap length (gpr_in_hypervisor registers selected cmd a vid) ∙ full vid
+full_after (ctx.Guest run) registers selected cmd a k full vid = by_test (vid == run.vid) where
+  by_test : (b : Bool) → length (if b then registers_after_command (registers run.vid) cmd a else registers vid).gpr ≡ 32
+  by_test true = length_command (registers run.vid) cmd a k (full run.vid)
+  by_test false = full vid
+
+value_after_step : (c : Ctx) (registers : ℕ → Regs) (selected : ℕ) (cmd : Cmd) (a : Answer) (vid r : ℕ) → IsCommand cmd → AreFull registers → r < 32 →
+    get_or (registers_after_in c registers selected cmd a vid).gpr r 0 ≡ unwrap_or (assigned_in c vid cmd a r) (get_or (registers vid).gpr r 0)
+value_after_step ctx.Hv registers selected cmd a vid r k full small = ap (λ (gpr : List ℕ). get_or gpr r 0) (gpr_in_hypervisor registers selected cmd a vid)
+value_after_step (ctx.Guest run) registers selected cmd a vid r k full small = by_test (vid == run.vid) refl where
+  by_test : (b : Bool) → (vid == run.vid) ≡ b →
+      get_or (if b then registers_after_command (registers run.vid) cmd a else registers vid).gpr r 0
+      ≡ unwrap_or (if b then assigned_by_command cmd a r else None) (get_or (registers vid).gpr r 0)
+  by_test true t =
+      command_value (registers run.vid) cmd a r k (full run.vid) small
+      ∙ ap (λ (v : ℕ). unwrap_or (assigned_by_command cmd a r) (get_or (registers v).gpr r 0)) (sym (test_same vid run.vid t))
+  by_test false t = refl
+
+full_registers : (plan : Plan) (past : List Event) (lpid : ℕ) → AllByRecursion (λ (e : Event). IsCommand e.trace.cmd) past → AreFull (guest_after plan lpid past).registers
+full_registers plan [] lpid commands = λ vid. refl
+full_registers plan (e ∷ past) lpid commands = by_test (full_registers plan past lpid commands.1) (touches_guest lpid e) refl where
+  by_test : AreFull (guest_after plan lpid past).registers → (b : Bool) → touches_guest lpid e ≡ b → AreFull (guest_after plan lpid (e ∷ past)).registers
+  by_test ih true t =
+      subst (λ (g : Guest). AreFull g.registers) (sym (counts (touches_guest lpid) (next_guest plan) (start_guest plan lpid) e past t))
+      (full_after e.saw.before (guest_after plan lpid past).registers e.saw.vid e.trace.cmd e.trace.answer commands.0 ih)
+  by_test ih false t = subst (λ (g : Guest). AreFull g.registers) (sym (skips (touches_guest lpid) (next_guest plan) (start_guest plan lpid) e past t)) ih
+
+pub reg_is_newest : RegIsNewest
+reg_is_newest plan [] lpid vid r small commands = zero_at 32 r where
+  zero_at : (n i : ℕ) → get_or (replicate {A = ℕ} n 0) i 0 ≡ 0
+  zero_at zero i = refl
+  zero_at (suc n) zero = refl
+  zero_at (suc n) (suc i) = zero_at n i
+reg_is_newest plan (e ∷ past) lpid vid r small commands = by_test (reg_is_newest plan past lpid vid r small commands.1) (touches_guest lpid e) refl where
+  decision : Bool → Option ℕ
+  decision b = if b then assigned_in e.saw.before vid e.trace.cmd e.trace.answer r else None
+
+  value : Guest → ℕ
+  value g = get_or (g.registers vid).gpr r 0
+
+  by_test : reg plan past lpid vid r ≡ newest (decides_register lpid vid r) 0 past → (b : Bool) → touches_guest lpid e ≡ b →
+      reg plan (e ∷ past) lpid vid r ≡ newest (decides_register lpid vid r) 0 (e ∷ past)
+  by_test ih true t =
+      ap value (counts (touches_guest lpid) (next_guest plan) (start_guest plan lpid) e past t)
+      ∙ value_after_step e.saw.before (guest_after plan lpid past).registers e.saw.vid e.trace.cmd e.trace.answer vid r commands.0 (full_registers plan past lpid commands.1) small
+      ∙ ap (unwrap_or (decision true)) ih
+      ∙ ap (λ (b : Bool). unwrap_or (decision b) (newest (decides_register lpid vid r) 0 past)) (sym t)
+  by_test ih false t =
+      ap value (skips (touches_guest lpid) (next_guest plan) (start_guest plan lpid) e past t)
+      ∙ ih
+      ∙ ap (λ (b : Bool). unwrap_or (decision b) (newest (decides_register lpid vid r) 0 past)) (sym t)

@@ -1,0 +1,37 @@
+-- A load that is done gives the last store.
+use Rattle.std.proofs.Common.{◌≡◌, ℕ, Bool, true, false, ap, sym, ◌∙◌, ◌==◌, if◌then◌else◌, nat_lt}
+use Rattle.pef_model.specs.declared.state.Ctx.TheVariants as ctx
+use Rattle.pef_model.specs.declared.command.Cmd.{Cmd}
+use Rattle.pef_model.specs.declared.command.Cmd.TheVariants.{GLd}
+use Rattle.pef_model.specs.declared.entry.Answer.TheVariants.{Val}
+use Rattle.pef_model.specs.Plan.{Plan}
+use Rattle.pef_model.specs.Event.{Event, mark_of}
+use Rattle.pef_model.specs.Target.{Ask}
+use Rattle.pef_model.specs.Deed.{Reach, NoPage, InFrame, Backs, NoFrame, deed_access, deed_running, deed_gone, reach}
+use Rattle.pef_model.specs.Private.{Guest, private_doubleword}
+use Rattle.pef_model.specs.History.{ask_of, cpu_after, guest_after, pool_after, next_entry_by}
+use Rattle.pef_model.specs.SearchLaw.{LoadGivesLastStore}
+
+-- an access that gives a value gives that of the place
+access_gives : (ask : Ask) (v w : ℕ) (r : Reach) → (deed_access ask (Val v) r).answer ≡ Val w → w ≡ v
+access_gives ask v w NoPage h = cc
+access_gives ask v w InFrame h = cc
+access_gives ask v w Backs h = cc
+access_gives ask v w NoFrame h = cc
+
+running_gives : (plan : Plan) (g : Guest) (any : Bool) (ask : Ask) (rd gpa w : ℕ) (b : Bool) →
+    (if b then deed_running plan g any ask (GLd rd gpa) else deed_gone ask).answer ≡ Val w → w ≡ private_doubleword plan g gpa
+running_gives plan g any ask rd gpa w true h = access_gives ask (private_doubleword plan g gpa) w (reach plan g.part any gpa) h
+running_gives plan g any ask rd gpa w false h = cc
+
+pub load_gives_last_store : LoadGivesLastStore
+load_gives_last_store plan past e run rd gpa value extends step =
+    let ask : Ask = ask_of (cpu_after plan e.trace.cpu past) in
+    let running : Ask = record { before = ctx.Guest run; lpid = ask.lpid; vid = ask.vid; last = ask.last } in
+    let g : Guest = guest_after plan run.lpid past in
+    let before : ask.before ≡ ctx.Guest run = ap (λ (x : Event). x.saw.before) (sym extends.is) ∙ step.before in
+    let same : ask ≡ running = (λ i. record { before = before i; lpid = ask.lpid; vid = ask.vid; last = ask.last }) in
+    let answer : (next_entry_by plan past running (mark_of e) (GLd rd gpa)).trace.answer ≡ Val value =
+    sym (ap (λ (a : Ask). (next_entry_by plan past a (mark_of e) e.trace.cmd).trace.answer) same ∙ ap (λ (cmd : Cmd). (next_entry_by plan past running (mark_of e) cmd).trace.answer) step.cmd_is)
+    ∙ ap (λ (x : Event). x.trace.answer) (sym extends.is) ∙ step.answer_is in
+    running_gives plan g (nat_lt 0 (pool_after plan past)) running rd gpa value (run.generation == g.part.generation) answer

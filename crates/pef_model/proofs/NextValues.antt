@@ -1,0 +1,103 @@
+-- What an object's value reads.
+use Rattle.std.proofs.Common.{◌≡◌, ℕ, refl, ap, ◌∙◌, slice_index}
+use Rattle.pef_model.specs.declared.state.Ctx.{Ctx}
+use Rattle.pef_model.specs.declared.state.Ctx.TheVariants as ctx
+use Rattle.pef_model.specs.declared.command.Cmd.{Cmd}
+use Rattle.pef_model.specs.declared.command.Cmd.TheVariants.{UReturn, GLi, GLd, GSt}
+use Rattle.pef_model.specs.declared.entry.Answer.{Answer}
+use Rattle.pef_model.specs.declared.entry.Answer.TheVariants.{Done, Val, Ret, Enter, Gone, Hole, Context, Nothing}
+use Rattle.pef_model.specs.Plan.{Plan}
+use Rattle.pef_model.specs.Event.{Event}
+use Rattle.pef_model.specs.Target.{touches_cpu, touches_guest, touches_pool, touches_frame}
+use Rattle.pef_model.specs.Cpu.{CpuPart, start_cpu, next_cpu, cpu_after_in, cpu_after_guest, own_after, last_after}
+use Rattle.pef_model.specs.Guest.{GuestPart, next_part, part_after_in, part_after_hypervisor, part_after_guest, part_after_return, taken_up}
+use Rattle.pef_model.specs.Private.{Guest, start_guest, next_guest, private_doubleword}
+use Rattle.pef_model.specs.Memory.{start_pool, next_pool, pooled, start_frame, next_frame}
+use Rattle.pef_model.specs.ReadLaw.{EachOwnEntriesDecide, AgreeForCpu, AgreeForGuest, IsReturn, TheseFieldsDecide}
+use Rattle.pef_model.proofs.Folds.{value_after-filter}
+
+pub own_entries_decide : EachOwnEntriesDecide
+own_entries_decide plan past =
+    let guest = λ (lpid : ℕ). value_after-filter (touches_guest lpid) (next_guest plan) (start_guest plan lpid) past in
+    record {
+      cpu = λ n. value_after-filter (touches_cpu n) next_cpu (start_cpu plan) past;
+      guest = guest;
+      pool = value_after-filter touches_pool next_pool (start_pool plan) past;
+      frame = λ n. value_after-filter (touches_frame n) next_frame (start_frame plan) past;
+      store = λ lpid gpa. ap (λ (g : Guest). private_doubleword plan g gpa) (guest lpid);
+      register = λ lpid vid r. ap (λ (g : Guest). slice_index (g.registers vid).gpr r) (guest lpid);
+    }
+
+-- a CPU's next value as a function of the four fields
+abbrev cpu_by : CpuPart → Ctx → Ctx → Cmd → Answer → CpuPart
+cpu_by cpu ctx.Hv after cmd a = record cpu { ctx = after; own = own_after cpu.own cmd a; last = last_after cpu.last a }
+cpu_by cpu (ctx.Guest run) after cmd a = cpu_after_guest cpu a
+
+cpu_by_is : (cpu : CpuPart) (e : Event) → next_cpu cpu e ≡ cpu_by cpu e.saw.before e.saw.after e.trace.cmd e.trace.answer
+cpu_by_is cpu e = by_ctx e.saw.before where
+  by_ctx : (c : Ctx) → cpu_after_in c cpu e ≡ cpu_by cpu c e.saw.after e.trace.cmd e.trace.answer
+  by_ctx ctx.Hv = refl
+  by_ctx (ctx.Guest run) = refl
+
+cpu_agrees : (e f : Event) (cpu : CpuPart) → AgreeForCpu e f → next_cpu cpu e ≡ next_cpu cpu f
+cpu_agrees e f cpu h =
+    let x = cpu_by_is cpu e in
+    let y = cpu_by_is cpu f in
+    let a = h.cmd in
+    let b = h.answer in
+    let c = h.before in
+    let d = h.after in
+    cc
+
+-- a guest's next public part as a function of the five fields
+abbrev part_by : Plan → GuestPart → Ctx → Cmd → Answer → ℕ → ℕ → GuestPart
+part_by plan g ctx.Hv (UReturn r0 r2 outs) a vid cpu = part_after_return g vid cpu a
+part_by plan g ctx.Hv cmd a vid cpu = g
+part_by plan g (ctx.Guest run) cmd a vid cpu = part_after_guest plan g cmd a
+
+part_by_is : (plan : Plan) (g : GuestPart) (e : Event) → next_part plan g e ≡ part_by plan g e.saw.before e.trace.cmd e.trace.answer e.saw.vid e.trace.cpu
+part_by_is plan g e = by_ctx e.saw.before where
+  by_cmd : (cmd : Cmd) → part_after_hypervisor g cmd e ≡ part_by plan g ctx.Hv cmd e.trace.answer e.saw.vid e.trace.cpu
+  by_cmd (UReturn r0 r2 outs) = refl
+  by_cmd (GLi rd value) = refl
+  by_cmd (GLd rd gpa) = refl
+  by_cmd (GSt rs gpa) = refl
+
+  by_ctx : (c : Ctx) → part_after_in c plan g e ≡ part_by plan g c e.trace.cmd e.trace.answer e.saw.vid e.trace.cpu
+  by_ctx ctx.Hv = by_cmd e.trace.cmd
+  by_ctx (ctx.Guest run) = refl
+
+-- the vCPU counts at UV_RETURN alone, and the CPU where the vCPU runs from then on
+part_by_reads : (plan : Plan) (g : GuestPart) (c : Ctx) (cmd : Cmd) (a : Answer) (v w m n : ℕ) → (IsReturn cmd → v ≡ w) → (a ≡ Enter → m ≡ n) →
+    part_by plan g c cmd a v m ≡ part_by plan g c cmd a w n
+part_by_reads plan g ctx.Hv (UReturn r0 r2 outs) Enter v w m n h k =
+    ap (λ (x : ℕ). taken_up g x m) (h tt) ∙ ap (λ (x : ℕ). taken_up g w x) (k refl)
+part_by_reads plan g ctx.Hv (UReturn r0 r2 outs) Done v w m n h k = refl
+part_by_reads plan g ctx.Hv (UReturn r0 r2 outs) (Val value) v w m n h k = refl
+part_by_reads plan g ctx.Hv (UReturn r0 r2 outs) (Ret code) v w m n h k = refl
+part_by_reads plan g ctx.Hv (UReturn r0 r2 outs) Gone v w m n h k = refl
+part_by_reads plan g ctx.Hv (UReturn r0 r2 outs) Hole v w m n h k = refl
+part_by_reads plan g ctx.Hv (UReturn r0 r2 outs) Context v w m n h k = refl
+part_by_reads plan g ctx.Hv (UReturn r0 r2 outs) Nothing v w m n h k = refl
+part_by_reads plan g ctx.Hv (GLi rd value) a v w m n h k = refl
+part_by_reads plan g ctx.Hv (GLd rd gpa) a v w m n h k = refl
+part_by_reads plan g ctx.Hv (GSt rs gpa) a v w m n h k = refl
+part_by_reads plan g (ctx.Guest run) cmd a v w m n h k = refl
+
+guest_agrees : (plan : Plan) (e f : Event) (g : GuestPart) → AgreeForGuest e f → next_part plan g e ≡ next_part plan g f
+guest_agrees plan e f g h =
+    let x = part_by_is plan g e in
+    let y = part_by_is plan g f in
+    let z = part_by_reads plan g e.saw.before e.trace.cmd e.trace.answer e.saw.vid f.saw.vid e.trace.cpu f.trace.cpu h.vid h.cpu in
+    let a = h.cmd in
+    let b = h.answer in
+    let c = h.before in
+    cc
+
+pub these_fields_decide : TheseFieldsDecide
+these_fields_decide plan e f = record {
+  cpu = λ cpu h. cpu_agrees e f cpu h;
+  guest = λ g h. guest_agrees plan e f g h;
+  pool = λ free h. ap (pooled free) h;
+  frame = λ bytes. refl;
+}

@@ -1,0 +1,237 @@
+-- A guest's memory holds what was last stored.
+use Rattle.std.proofs.Common.{◌≡◌, ℕ, List, [], ◌∷◌, ◌++◌, Bool, true, false, refl, ap, sym, subst, ◌∙◌, ◌==◌, ◌&&◌, if◌then◌else◌, Option, Some, None, slice_index}
+use Rattle.std.specs.Prelude.{unwrap_or}
+use Rattle.pef_model.specs.declared.state.Run.{Run}
+use Rattle.pef_model.specs.declared.state.Kind.TheVariants as kind
+use Rattle.pef_model.specs.declared.state.Ctx.{Ctx}
+use Rattle.pef_model.specs.declared.state.Ctx.TheVariants as ctx
+use Rattle.pef_model.specs.declared.command.Cmd.{Cmd}
+use Rattle.pef_model.specs.declared.command.Cmd.TheVariants.{UReturn, GLi, GLd, GSt}
+use Rattle.pef_model.specs.declared.entry.Answer.{Answer}
+use Rattle.pef_model.specs.declared.entry.Answer.TheVariants.{Done, Val, Ret, Enter, Gone, Hole, Context, Nothing}
+use Rattle.pef_model.specs.Plan.{Plan}
+use Rattle.pef_model.specs.Event.{Event}
+use Rattle.pef_model.specs.Target.{touches_guest, target_in, is_guest}
+use Rattle.pef_model.specs.Guest.{GuestPart, is_invalid, page_of, secured, accessed, next_part, part_after_in, part_after_hypervisor, part_after_return, part_after_guest, part_after_access}
+use Rattle.pef_model.specs.Private.{Guest, start_guest, next_guest, stored_by, stored_in, stored_by_command, backed_by}
+use Rattle.pef_model.specs.History.{guest_after, reg}
+use Rattle.pef_model.specs.SearchLaw.{newest, decides_doubleword, LastStoreIsNewest, is_store, is_store_by, HasNoStore, IsStep, LastStoreIsStored, LastStoreIsZero}
+use Rattle.pef_model.proofs.Folds.{same_test, test_same, counts, skips}
+
+content_newest : (plan : Plan) (lpid gpa : ℕ) (past : List Event) → (guest_after plan lpid past).content gpa ≡ newest (decides_doubleword plan lpid gpa) 0 past
+content_newest plan lpid gpa [] = refl
+content_newest plan lpid gpa (e ∷ past) = by_test (content_newest plan lpid gpa past) (touches_guest lpid e) refl where
+  decision : Bool → Option ℕ
+  decision b = if b then stored_by plan (guest_after plan lpid past) e gpa else None
+
+  by_test : (guest_after plan lpid past).content gpa ≡ newest (decides_doubleword plan lpid gpa) 0 past → (b : Bool) → touches_guest lpid e ≡ b →
+      (guest_after plan lpid (e ∷ past)).content gpa ≡ newest (decides_doubleword plan lpid gpa) 0 (e ∷ past)
+  by_test ih true t =
+      ap (λ (g : Guest). g.content gpa) (counts (touches_guest lpid) (next_guest plan) (start_guest plan lpid) e past t)
+      ∙ ap (λ (x : ℕ). unwrap_or (decision true) x) ih
+      ∙ ap (λ (b : Bool). unwrap_or (decision b) (newest (decides_doubleword plan lpid gpa) 0 past)) (sym t)
+  by_test ih false t =
+      ap (λ (g : Guest). g.content gpa) (skips (touches_guest lpid) (next_guest plan) (start_guest plan lpid) e past t)
+      ∙ ih
+      ∙ ap (λ (b : Bool). unwrap_or (decision b) (newest (decides_doubleword plan lpid gpa) 0 past)) (sym t)
+
+pub last_store_is_newest : LastStoreIsNewest
+last_store_is_newest plan past lpid gpa =
+    ap (λ (x : ℕ). if is_invalid ((guest_after plan lpid past).part.pages (page_of plan gpa)) then 0 else x) (content_newest plan lpid gpa past)
+
+-- A page that isn't Invalid stays so.
+stays_accessed : (g : GuestPart) (gfn p : ℕ) → is_invalid (g.pages p) ≡ false → is_invalid ((accessed g gfn).pages p) ≡ false
+stays_accessed g gfn p h = by_kind (is_invalid (g.pages gfn)) where
+  by_place : (b : Bool) → is_invalid (if b then (record { kind = kind.Secure }) else g.pages p) ≡ false
+  by_place true = refl
+  by_place false = h
+
+  by_kind : (b : Bool) → is_invalid ((if b then secured g gfn else g).pages p) ≡ false
+  by_kind true = by_place (p == gfn)
+  by_kind false = h
+
+stays_after_access : (g : GuestPart) (gfn p : ℕ) (a : Answer) → is_invalid (g.pages p) ≡ false → is_invalid ((part_after_access g gfn a).pages p) ≡ false
+stays_after_access g gfn p Done h = stays_accessed g gfn p h
+stays_after_access g gfn p (Val value) h = stays_accessed g gfn p h
+stays_after_access g gfn p (Ret code) h = h
+stays_after_access g gfn p Enter h = h
+stays_after_access g gfn p Gone h = h
+stays_after_access g gfn p Hole h = h
+stays_after_access g gfn p Context h = h
+stays_after_access g gfn p Nothing h = h
+
+stays_after_return : (g : GuestPart) (vid cpu p : ℕ) (a : Answer) → is_invalid (g.pages p) ≡ false → is_invalid ((part_after_return g vid cpu a).pages p) ≡ false
+stays_after_return g vid cpu p Enter h = h
+stays_after_return g vid cpu p Done h = h
+stays_after_return g vid cpu p (Val value) h = h
+stays_after_return g vid cpu p (Ret code) h = h
+stays_after_return g vid cpu p Gone h = h
+stays_after_return g vid cpu p Hole h = h
+stays_after_return g vid cpu p Context h = h
+stays_after_return g vid cpu p Nothing h = h
+
+stays : (plan : Plan) (g : GuestPart) (e : Event) (p : ℕ) → is_invalid (g.pages p) ≡ false → is_invalid ((next_part plan g e).pages p) ≡ false
+stays plan g e p h = by_ctx e.saw.before where
+  by_hypervisor : (cmd : Cmd) → is_invalid ((part_after_hypervisor g cmd e).pages p) ≡ false
+  by_hypervisor (UReturn r0 r2 outs) = stays_after_return g e.saw.vid e.trace.cpu p e.trace.answer h
+  by_hypervisor (GLi rd value) = h
+  by_hypervisor (GLd rd gpa) = h
+  by_hypervisor (GSt rs gpa) = h
+
+  by_guest : (cmd : Cmd) → is_invalid ((part_after_guest plan g cmd e.trace.answer).pages p) ≡ false
+  by_guest (UReturn r0 r2 outs) = h
+  by_guest (GLi rd value) = h
+  by_guest (GLd rd gpa) = stays_after_access g (page_of plan gpa) p e.trace.answer h
+  by_guest (GSt rs gpa) = stays_after_access g (page_of plan gpa) p e.trace.answer h
+
+  by_ctx : (c : Ctx) → is_invalid ((part_after_in c plan g e).pages p) ≡ false
+  by_ctx ctx.Hv = by_hypervisor e.trace.cmd
+  by_ctx (ctx.Guest run) = by_guest e.trace.cmd
+
+-- An access backs no page that has a frame.
+backs_nothing : (plan : Plan) (g : Guest) (at gpa : ℕ) → is_invalid (g.part.pages (page_of plan gpa)) ≡ false → backed_by plan g at gpa ≡ None
+backs_nothing plan g at gpa h = by_test (page_of plan at == page_of plan gpa) refl where
+  choice : Bool → Bool → Option ℕ
+  choice a b = if a && b then Some 0 else None
+
+  elsewhere : (a : Bool) → choice a false ≡ None
+  elsewhere true = refl
+  elsewhere false = refl
+
+  by_test : (b : Bool) → (page_of plan at == page_of plan gpa) ≡ b → backed_by plan g at gpa ≡ None
+  by_test true t =
+      ap (λ (a : Bool). choice a (page_of plan at == page_of plan gpa)) (ap (λ (p : ℕ). is_invalid (g.part.pages p)) (test_same _ _ t) ∙ h)
+  by_test false t = ap (choice (is_invalid (g.part.pages (page_of plan at)))) t ∙ elsewhere (is_invalid (g.part.pages (page_of plan at)))
+
+-- A guest's page has a frame, and this doubleword there.
+record Holds (plan : Plan) (g : Guest) (gpa value : ℕ) : Type 0 where
+  has_frame : is_invalid (g.part.pages (page_of plan gpa)) ≡ false
+  value_is : g.content gpa ≡ value
+
+accessed_has_frame : (g : GuestPart) (gfn : ℕ) → is_invalid ((accessed g gfn).pages gfn) ≡ false
+accessed_has_frame g gfn = by_kind (is_invalid (g.pages gfn)) refl where
+  by_kind : (b : Bool) → is_invalid (g.pages gfn) ≡ b → is_invalid ((if b then secured g gfn else g).pages gfn) ≡ false
+  by_kind true h = ap (λ (b : Bool). is_invalid (if b then (record { kind = kind.Secure }) else g.pages gfn)) (same_test gfn)
+  by_kind false h = h
+
+stored_holds : (plan : Plan) (g : Guest) (e : Event) (run : Run) (rs gpa : ℕ) → IsStep run (GSt rs gpa) Done e →
+    Holds plan (next_guest plan g e) gpa (slice_index (g.registers run.vid).gpr rs)
+stored_holds plan g e run rs gpa step = record {
+  has_frame = rw (step.before, step.cmd_is, step.answer_is) (accessed_has_frame g.part (page_of plan gpa));
+  value_is = rw (step.before, step.cmd_is, step.answer_is, same_test gpa) refl;
+}
+
+second_is_false : (a b : Bool) → a ≡ true → a && b ≡ false → b ≡ false
+second_is_false true b h k = k
+second_is_false false b h k = cc
+
+-- An entry that touches the guest and is no store to the address decides nothing there.
+decides_nothing : (plan : Plan) (g : Guest) (lpid gpa l : ℕ) (c : Ctx) (cmd : Cmd) (a : Answer) → is_invalid (g.part.pages (page_of plan gpa)) ≡ false →
+    is_guest lpid (target_in c l cmd) ≡ true → is_store_by lpid gpa c cmd a ≡ false → stored_in c plan g cmd a gpa ≡ None
+decides_nothing plan g lpid gpa l ctx.Hv cmd a h touched other = refl
+decides_nothing plan g lpid gpa l (ctx.Guest run) cmd a h touched other = by_command cmd a other where
+  by_command : (cmd : Cmd) (a : Answer) → is_store_by lpid gpa (ctx.Guest run) cmd a ≡ false → stored_by_command plan g run.vid cmd a gpa ≡ None
+  by_command (UReturn r0 r2 outs) a k = refl
+  by_command (GLi rd value) a k = refl
+  by_command (GLd rd at) (Val value) k = backs_nothing plan g at gpa h
+  by_command (GLd rd at) Done k = refl
+  by_command (GLd rd at) (Ret code) k = refl
+  by_command (GLd rd at) Enter k = refl
+  by_command (GLd rd at) Gone k = refl
+  by_command (GLd rd at) Hole k = refl
+  by_command (GLd rd at) Context k = refl
+  by_command (GLd rd at) Nothing k = refl
+  by_command (GSt rs at) Done k =
+      ap (λ (b : Bool). if b then Some (slice_index (g.registers run.vid).gpr rs) else backed_by plan g at gpa) (second_is_false _ _ touched k)
+      ∙ backs_nothing plan g at gpa h
+  by_command (GSt rs at) (Val value) k = refl
+  by_command (GSt rs at) (Ret code) k = refl
+  by_command (GSt rs at) Enter k = refl
+  by_command (GSt rs at) Gone k = refl
+  by_command (GSt rs at) Hole k = refl
+  by_command (GSt rs at) Context k = refl
+  by_command (GSt rs at) Nothing k = refl
+
+kept_holds : (plan : Plan) (g : Guest) (e : Event) (lpid gpa value : ℕ) → touches_guest lpid e ≡ true → is_store lpid gpa e ≡ false →
+    Holds plan g gpa value → Holds plan (next_guest plan g e) gpa value
+kept_holds plan g e lpid gpa value touched other holds =
+    let nothing : stored_by plan g e gpa ≡ None = decides_nothing plan g lpid gpa e.saw.lpid e.saw.before e.trace.cmd e.trace.answer holds.has_frame touched other in
+    record {
+      has_frame = stays plan g.part e (page_of plan gpa) holds.has_frame;
+      value_is = ap (λ (o : Option ℕ). unwrap_or o (g.content gpa)) nothing ∙ holds.value_is;
+    }
+
+since_holds : (plan : Plan) (past since : List Event) (e : Event) (run : Run) (rs gpa : ℕ) → IsStep run (GSt rs gpa) Done e → HasNoStore run.lpid gpa since →
+    Holds plan (guest_after plan run.lpid (since ++ e ∷ past)) gpa (reg plan past run.lpid run.vid rs)
+since_holds plan past [] e run rs gpa step none =
+    let touched : touches_guest run.lpid e ≡ true = rw step.before (same_test run.lpid) in
+    rw (counts (touches_guest run.lpid) (next_guest plan) (start_guest plan run.lpid) e past touched) (stored_holds plan (guest_after plan run.lpid past) e run rs gpa step)
+since_holds plan past (f ∷ since) e run rs gpa step none = by_test (since_holds plan past since e run rs gpa step none.1) (touches_guest run.lpid f) refl where
+  value : ℕ
+  value = reg plan past run.lpid run.vid rs
+
+  by_test : Holds plan (guest_after plan run.lpid (since ++ e ∷ past)) gpa value → (b : Bool) → touches_guest run.lpid f ≡ b →
+      Holds plan (guest_after plan run.lpid (f ∷ (since ++ e ∷ past))) gpa value
+  by_test ih true t =
+      subst (λ (g : Guest). Holds plan g gpa value) (sym (counts (touches_guest run.lpid) (next_guest plan) (start_guest plan run.lpid) f (since ++ e ∷ past) t))
+      (kept_holds plan (guest_after plan run.lpid (since ++ e ∷ past)) f run.lpid gpa value t none.0 ih)
+  by_test ih false t =
+      subst (λ (g : Guest). Holds plan g gpa value) (sym (skips (touches_guest run.lpid) (next_guest plan) (start_guest plan run.lpid) f (since ++ e ∷ past) t)) ih
+
+pub last_store_is_stored : LastStoreIsStored
+last_store_is_stored plan past since e run rs gpa step none =
+    let g : Guest = guest_after plan run.lpid (since ++ e ∷ past) in
+    let holds : Holds plan g gpa (reg plan past run.lpid run.vid rs) = since_holds plan past since e run rs gpa step none in
+    ap (λ (b : Bool). if b then 0 else g.content gpa) holds.has_frame ∙ holds.value_is
+
+-- Without a store, what an entry decides is 0.
+zero_by_backing : (plan : Plan) (g : Guest) (at gpa : ℕ) → unwrap_or (backed_by plan g at gpa) 0 ≡ 0
+zero_by_backing plan g at gpa = by_test (is_invalid (g.part.pages (page_of plan at)) && (page_of plan at == page_of plan gpa)) where
+  by_test : (b : Bool) → unwrap_or {T = ℕ} (if b then Some 0 else None) 0 ≡ 0
+  by_test true = refl
+  by_test false = refl
+
+zero_by_entry : (plan : Plan) (g : Guest) (lpid gpa l : ℕ) (c : Ctx) (cmd : Cmd) (a : Answer) → is_guest lpid (target_in c l cmd) ≡ true →
+    is_store_by lpid gpa c cmd a ≡ false → unwrap_or (stored_in c plan g cmd a gpa) 0 ≡ 0
+zero_by_entry plan g lpid gpa l ctx.Hv cmd a touched other = refl
+zero_by_entry plan g lpid gpa l (ctx.Guest run) cmd a touched other = by_command cmd a other where
+  by_command : (cmd : Cmd) (a : Answer) → is_store_by lpid gpa (ctx.Guest run) cmd a ≡ false → unwrap_or (stored_by_command plan g run.vid cmd a gpa) 0 ≡ 0
+  by_command (UReturn r0 r2 outs) a k = refl
+  by_command (GLi rd value) a k = refl
+  by_command (GLd rd at) (Val value) k = zero_by_backing plan g at gpa
+  by_command (GLd rd at) Done k = refl
+  by_command (GLd rd at) (Ret code) k = refl
+  by_command (GLd rd at) Enter k = refl
+  by_command (GLd rd at) Gone k = refl
+  by_command (GLd rd at) Hole k = refl
+  by_command (GLd rd at) Context k = refl
+  by_command (GLd rd at) Nothing k = refl
+  by_command (GSt rs at) Done k =
+      ap (λ (b : Bool). unwrap_or (if b then Some (slice_index (g.registers run.vid).gpr rs) else backed_by plan g at gpa) 0) (second_is_false _ _ touched k)
+      ∙ zero_by_backing plan g at gpa
+  by_command (GSt rs at) (Val value) k = refl
+  by_command (GSt rs at) (Ret code) k = refl
+  by_command (GSt rs at) Enter k = refl
+  by_command (GSt rs at) Gone k = refl
+  by_command (GSt rs at) Hole k = refl
+  by_command (GSt rs at) Context k = refl
+  by_command (GSt rs at) Nothing k = refl
+
+content_zero : (plan : Plan) (past : List Event) (lpid gpa : ℕ) → HasNoStore lpid gpa past → (guest_after plan lpid past).content gpa ≡ 0
+content_zero plan [] lpid gpa none = refl
+content_zero plan (e ∷ past) lpid gpa none = by_test (content_zero plan past lpid gpa none.1) (touches_guest lpid e) refl where
+  g : Guest
+  g = guest_after plan lpid past
+
+  by_test : g.content gpa ≡ 0 → (b : Bool) → touches_guest lpid e ≡ b → (guest_after plan lpid (e ∷ past)).content gpa ≡ 0
+  by_test ih true t =
+      ap (λ (x : Guest). x.content gpa) (counts (touches_guest lpid) (next_guest plan) (start_guest plan lpid) e past t)
+      ∙ ap (unwrap_or (stored_by plan g e gpa)) ih
+      ∙ zero_by_entry plan g lpid gpa e.saw.lpid e.saw.before e.trace.cmd e.trace.answer t none.0
+  by_test ih false t = ap (λ (x : Guest). x.content gpa) (skips (touches_guest lpid) (next_guest plan) (start_guest plan lpid) e past t) ∙ ih
+
+pub last_store_is_zero : LastStoreIsZero
+last_store_is_zero plan past lpid gpa none = by_page (is_invalid ((guest_after plan lpid past).part.pages (page_of plan gpa))) where
+  by_page : (b : Bool) → (if b then 0 else (guest_after plan lpid past).content gpa) ≡ 0
+  by_page true = refl
+  by_page false = content_zero plan past lpid gpa none

@@ -1,0 +1,5 @@
+use Rattle.pef_model.proofs.Runs.{one_run}
+use Rattle.pef_model.proofs.laws.one_run.Goals as goal
+
+pub returns : goal.returns
+returns c = one_run

@@ -1,0 +1,109 @@
+-- Laws of what a guest loads: the last store, as a search from the newest entry on.
+use Rattle.std.specs.Prelude.{◌≡◌, ℕ, ◌-◌, ◌<◌, ◌==◌, nat_lt, nat_le, Bool, false, ◌&&◌, if◌then◌else◌, List, [], ◌∷◌, ◌++◌, length, Option, Some, None, unwrap_or, slice_index}
+use Rattle.std.specs.List.{AllByRecursion}
+use Rattle.pef_model.specs.declared.state.Run.{Run}
+use Rattle.pef_model.specs.declared.state.Ctx.{Ctx}
+use Rattle.pef_model.specs.declared.state.Ctx.TheVariants as ctx
+use Rattle.pef_model.specs.declared.command.Cmd.{Cmd}
+use Rattle.pef_model.specs.declared.command.Cmd.TheVariants.{UReturn, GLi, GLd, GSt}
+use Rattle.pef_model.specs.declared.entry.Answer.{Answer}
+use Rattle.pef_model.specs.declared.entry.Answer.TheVariants as answer
+use Rattle.pef_model.specs.Plan.{Plan}
+use Rattle.pef_model.specs.Event.{Event}
+use Rattle.pef_model.specs.Registers.{number_of}
+use Rattle.pef_model.specs.Target.{touches_guest}
+use Rattle.pef_model.specs.Guest.{is_invalid, page_of}
+use Rattle.pef_model.specs.Private.{stored_by}
+use Rattle.pef_model.specs.History.{guest_after, last_store, reg, Extends}
+
+-- what the newest entry says that decides; the start where none does
+abbrev pub newest : (List Event → Event → Option ℕ) → ℕ → List Event → ℕ
+newest decides start [] = start
+newest decides start (e ∷ past) = unwrap_or (decides past e) (newest decides start past)
+
+-- an entry that touches a guest decides what it says
+abbrev pub if_touching : ℕ → Event → Option ℕ → Option ℕ
+if_touching lpid e decision = if touches_guest lpid e then decision else None
+
+-- the value that an entry gives the doubleword at an address of a guest
+abbrev pub decides_doubleword : Plan → ℕ → ℕ → List Event → Event → Option ℕ
+decides_doubleword plan lpid gpa past e = if_touching lpid e (stored_by plan (guest_after plan lpid past) e gpa)
+
+-- last_store is what the newest entry says that stored there or backed the page, and 0 where the page is Invalid now
+abbrev pub LastStoreIsNewest : Type 0
+LastStoreIsNewest =
+    (plan : Plan) (past : List Event) (lpid gpa : ℕ) →
+    last_store plan past lpid gpa
+    ≡ (if is_invalid ((guest_after plan lpid past).part.pages (page_of plan gpa)) then 0 else newest (decides_doubleword plan lpid gpa) 0 past)
+
+-- the value that UV_RETURN of a guest, which is refused, gives a register
+abbrev pub loaded_value : ℕ → ℕ → List ℕ → ℕ → ℕ → Option ℕ
+loaded_value r0 r2 outs code r =
+    if r == 0 then Some r0
+    else if r == 2 then Some r2
+    else if r == 3 then Some code
+    else if nat_le 4 r && nat_lt r 13 then Some (slice_index outs (r - 4))
+    else None
+
+-- the value that a command of a vCPU gives one of its registers
+abbrev pub assigned_by_command : Cmd → Answer → ℕ → Option ℕ
+assigned_by_command (UReturn r0 r2 outs) (answer.Ret code) r = loaded_value r0 r2 outs (number_of code) r
+assigned_by_command (GLi rd value) answer.Done r = if r == rd then Some value else None
+assigned_by_command (GLd rd gpa) (answer.Val value) r = if r == rd then Some value else None
+assigned_by_command cmd a r = None
+
+-- the value that an entry gives a register of a vCPU
+abbrev pub assigned_in : Ctx → ℕ → Cmd → Answer → ℕ → Option ℕ
+assigned_in ctx.Hv vid cmd a r = None
+assigned_in (ctx.Guest run) vid cmd a r = if vid == run.vid then assigned_by_command cmd a r else None
+
+abbrev pub decides_register : ℕ → ℕ → ℕ → List Event → Event → Option ℕ
+decides_register lpid vid r past e = if_touching lpid e (assigned_in e.saw.before vid e.trace.cmd e.trace.answer r)
+
+-- a command that a script can have: its registers are R0 to R31, and UV_RETURN has nine outputs
+abbrev pub IsCommand : Cmd → Type 0
+IsCommand (UReturn r0 r2 outs) = length outs ≡ 9
+IsCommand (GLi rd value) = rd < 32
+IsCommand (GLd rd gpa) = rd < 32
+IsCommand (GSt rs gpa) = rs < 32
+
+-- reg is what the newest entry says that assigned the register
+abbrev pub RegIsNewest : Type 0
+RegIsNewest =
+    (plan : Plan) (past : List Event) (lpid vid r : ℕ) → r < 32 → AllByRecursion (λ (e : Event). IsCommand e.trace.cmd) past →
+    reg plan past lpid vid r ≡ newest (decides_register lpid vid r) 0 past
+
+-- whether an entry is a store to an address of a guest that was done
+abbrev pub is_store_by : ℕ → ℕ → Ctx → Cmd → Answer → Bool
+is_store_by lpid gpa (ctx.Guest run) (GSt rs at) answer.Done = (run.lpid == lpid) && (at == gpa)
+is_store_by lpid gpa before cmd a = false
+
+abbrev pub is_store : ℕ → ℕ → Event → Bool
+is_store lpid gpa e = is_store_by lpid gpa e.saw.before e.trace.cmd e.trace.answer
+
+-- no entry of a history stored to the address
+abbrev pub HasNoStore : ℕ → ℕ → List Event → Type 0
+HasNoStore lpid gpa past = AllByRecursion (λ (e : Event). is_store lpid gpa e ≡ false) past
+
+-- an entry is this command of a vCPU, with this answer
+pub record IsStep (run : Run) (cmd : Cmd) (a : Answer) (e : Event) : Type 0 where
+  pub before : e.saw.before ≡ ctx.Guest run
+  pub cmd_is : e.trace.cmd ≡ cmd
+  pub answer_is : e.trace.answer ≡ a
+
+-- a load that is done gives the last store
+abbrev pub LoadGivesLastStore : Type 0
+LoadGivesLastStore =
+    (plan : Plan) (past : List Event) (e : Event) (run : Run) (rd gpa value : ℕ) →
+    Extends plan past e → IsStep run (GLd rd gpa) (answer.Val value) e → value ≡ last_store plan past run.lpid gpa
+
+-- the last store after a store, and other entries that don't store there, is what was in the register
+abbrev pub LastStoreIsStored : Type 0
+LastStoreIsStored =
+    (plan : Plan) (past since : List Event) (e : Event) (run : Run) (rs gpa : ℕ) →
+    IsStep run (GSt rs gpa) answer.Done e → HasNoStore run.lpid gpa since →
+    last_store plan (since ++ e ∷ past) run.lpid gpa ≡ reg plan past run.lpid run.vid rs
+
+-- where nothing was stored the last store is 0
+abbrev pub LastStoreIsZero : Type 0
+LastStoreIsZero = (plan : Plan) (past : List Event) (lpid gpa : ℕ) → HasNoStore lpid gpa past → last_store plan past lpid gpa ≡ 0

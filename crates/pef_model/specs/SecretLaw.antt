@@ -1,0 +1,49 @@
+-- The law that the public state has no secret, for one entry.
+use Rattle.std.specs.Prelude.{◌≡◌, ℕ, List}
+use Rattle.pef_model.specs.declared.state.Ctx.{Ctx}
+use Rattle.pef_model.specs.declared.state.Ctx.TheVariants as ctx
+use Rattle.pef_model.specs.declared.command.Cmd.{Cmd}
+use Rattle.pef_model.specs.declared.command.Cmd.TheVariants.{UReturn, GLi, GLd, GSt}
+use Rattle.pef_model.specs.declared.entry.Answer.{Answer}
+use Rattle.pef_model.specs.declared.entry.Answer.TheVariants.{Val}
+use Rattle.pef_model.specs.Plan.{Plan}
+use Rattle.pef_model.specs.Event.{Event}
+use Rattle.pef_model.specs.Target.{touches_cpu, touches_guest, touches_pool, touches_frame}
+use Rattle.pef_model.specs.Cpu.{CpuPart, next_cpu}
+use Rattle.pef_model.specs.Guest.{GuestPart, next_part}
+use Rattle.pef_model.specs.Memory.{next_pool, next_frame}
+
+-- a command without the value that a guest alone knows
+abbrev pub open_cmd : Cmd → Cmd
+open_cmd (UReturn r0 r2 outs) = UReturn r0 r2 outs
+open_cmd (GLi rd value) = GLi rd 0
+open_cmd (GLd rd gpa) = GLd rd gpa
+open_cmd (GSt rs gpa) = GSt rs gpa
+
+-- a guest's answer without the value that it alone knows
+abbrev pub open_answer_of_guest : Answer → Answer
+open_answer_of_guest (Val value) = Val 0
+open_answer_of_guest a = a
+
+-- the answer of a step, without a value that a guest alone knows
+abbrev pub open_answer : Ctx → Answer → Answer
+open_answer ctx.Hv a = a
+open_answer (ctx.Guest run) a = open_answer_of_guest a
+
+-- an entry without the value of a g.li and the value that a guest's load gave
+abbrev pub open_entry : Event → Event
+open_entry e = record e { trace = record e.trace { cmd = open_cmd e.trace.cmd; answer = open_answer e.saw.before e.trace.answer } }
+
+-- two entries that agree but there touch the same objects, and give equal next public values
+pub record SecretsStayIn (plan : Plan) (e f : Event) : Type 0 where
+  pub touches_cpu : (n : ℕ) → touches_cpu n e ≡ touches_cpu n f
+  pub touches_guest : (lpid : ℕ) → touches_guest lpid e ≡ touches_guest lpid f
+  pub touches_pool : touches_pool e ≡ touches_pool f
+  pub touches_frame : (n : ℕ) → touches_frame n e ≡ touches_frame n f
+  pub cpu : (cpu : CpuPart) → next_cpu cpu e ≡ next_cpu cpu f
+  pub guest : (g : GuestPart) → next_part plan g e ≡ next_part plan g f
+  pub pool : (free : ℕ) → next_pool free e ≡ next_pool free f
+  pub frame : (bytes : List ℕ) → next_frame bytes e ≡ next_frame bytes f
+
+abbrev pub NoSecretInPublicState : Type 0
+NoSecretInPublicState = (plan : Plan) (e f : Event) → open_entry e ≡ open_entry f → SecretsStayIn plan e f
