@@ -5,3 +5,4 @@ pub mod Secrets
 pub mod Stores
 pub mod Loads
 pub mod Assigned
+pub mod Touched

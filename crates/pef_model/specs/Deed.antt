@@ -1,4 +1,4 @@
--- What a step does, by the tables: its answer, and what it shows.
+-- What a step does, row by row: its answer, and what it shows.
 use Rattle.std.specs.Prelude.{ℕ, ◌==◌, Bool, true, false, ◌&&◌, if◌then◌else◌, List, [], ◌∷◌, Option, Some, None}
 use Rattle.pef_model.specs.declared.state.Phase.{Phase}
 use Rattle.pef_model.specs.declared.state.Phase.TheVariants as phase

@@ -12,6 +12,7 @@ pub mod Script
 pub mod Run
 pub mod Report
 pub mod RunLaw
+pub mod WordLaw
 pub mod ReadLaw
 pub mod SecretLaw
 pub mod SearchLaw
