@@ -1,0 +1,3 @@
+mod Hexadecimal
+pub mod SinkLemmas
+pub mod SourceLemmas

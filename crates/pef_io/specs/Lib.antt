@@ -1,0 +1,7 @@
+pub mod Cause
+pub mod MemSink
+pub mod MemSource
+pub mod Sink
+pub mod Source
+pub mod Standard
+pub mod Text
