@@ -58,7 +58,7 @@ length-loaded : (gpr : List ℕ) (r0 r2 : ℕ) → length gpr ≡ 32 → length 
 length-loaded gpr r0 r2 h = simp length-set h
 
 -- each register after a refused UV_RETURN of a guest
-returned_value : (gpr outs : List ℕ) (r0 r2 code r : ℕ) → length gpr ≡ 32 → length outs ≡ 9 → r < 32 →
+pub returned_value : (gpr outs : List ℕ) (r0 r2 code r : ℕ) → length gpr ≡ 32 → length outs ≡ 9 → r < 32 →
     get_or (slice_set (load_return gpr r0 r2 outs) 3 code) r 0 ≡ unwrap_or (loaded_value r0 r2 outs code r) (get_or gpr r 0)
 returned_value gpr outs r0 r2 code r h k small = by_zero (r == 0) refl where
   value : Bool → Bool → Bool → Bool → ℕ
@@ -199,7 +199,7 @@ gpr_after_return regs (GSt rs gpa) a = refl
 abbrev AreFull : (ℕ → Regs) → Type 0
 AreFull registers = (vid : ℕ) → length (registers vid).gpr ≡ 32
 
-gpr_in_hypervisor : (registers : ℕ → Regs) (selected : ℕ) (cmd : Cmd) (a : Answer) (vid : ℕ) → (registers_after_in ctx.Hv registers selected cmd a vid).gpr ≡ (registers vid).gpr
+pub gpr_in_hypervisor : (registers : ℕ → Regs) (selected : ℕ) (cmd : Cmd) (a : Answer) (vid : ℕ) → (registers_after_in ctx.Hv registers selected cmd a vid).gpr ≡ (registers vid).gpr
 gpr_in_hypervisor registers selected cmd a vid = by_test (vid == selected) refl where
   by_test : (b : Bool) → (vid == selected) ≡ b → (if b then registers_after_return (registers selected) cmd a else registers vid).gpr ≡ (registers vid).gpr
   by_test true t = gpr_after_return (registers selected) cmd a ∙ ap (λ (v : ℕ). (registers v).gpr) (sym (test_same vid selected t))

@@ -6,3 +6,15 @@ pub mod Stores
 pub mod Loads
 pub mod Assigned
 pub mod Touched
+pub mod Outcomes
+pub mod Steps
+pub mod Moves
+pub mod Running
+pub mod Orders
+pub mod Frames
+pub mod Grammar
+pub mod ScriptLines
+pub mod WrittenWords
+pub mod WrittenScript
+pub mod ReadCommands
+pub mod Rows

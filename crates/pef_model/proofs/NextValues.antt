@@ -31,11 +31,11 @@ own_entries_decide plan past =
     }
 
 -- a CPU's next value as a function of the four fields
-abbrev cpu_by : CpuPart → Ctx → Ctx → Cmd → Answer → CpuPart
+abbrev pub cpu_by : CpuPart → Ctx → Ctx → Cmd → Answer → CpuPart
 cpu_by cpu ctx.Hv after cmd a = record cpu { ctx = after; own = own_after cpu.own cmd a; last = last_after cpu.last a }
 cpu_by cpu (ctx.Guest run) after cmd a = cpu_after_guest cpu a
 
-cpu_by_is : (cpu : CpuPart) (e : Event) → next_cpu cpu e ≡ cpu_by cpu e.saw.before e.saw.after e.trace.cmd e.trace.answer
+pub cpu_by_is : (cpu : CpuPart) (e : Event) → next_cpu cpu e ≡ cpu_by cpu e.saw.before e.saw.after e.trace.cmd e.trace.answer
 cpu_by_is cpu e = by_ctx e.saw.before where
   by_ctx : (c : Ctx) → cpu_after_in c cpu e ≡ cpu_by cpu c e.saw.after e.trace.cmd e.trace.answer
   by_ctx ctx.Hv = refl
@@ -52,12 +52,12 @@ cpu_agrees e f cpu h =
     cc
 
 -- a guest's next public part as a function of the five fields
-abbrev part_by : Plan → GuestPart → Ctx → Cmd → Answer → ℕ → ℕ → GuestPart
+abbrev pub part_by : Plan → GuestPart → Ctx → Cmd → Answer → ℕ → ℕ → GuestPart
 part_by plan g ctx.Hv (UReturn r0 r2 outs) a vid cpu = part_after_return g vid cpu a
 part_by plan g ctx.Hv cmd a vid cpu = g
 part_by plan g (ctx.Guest run) cmd a vid cpu = part_after_guest plan g cmd a
 
-part_by_is : (plan : Plan) (g : GuestPart) (e : Event) → next_part plan g e ≡ part_by plan g e.saw.before e.trace.cmd e.trace.answer e.saw.vid e.trace.cpu
+pub part_by_is : (plan : Plan) (g : GuestPart) (e : Event) → next_part plan g e ≡ part_by plan g e.saw.before e.trace.cmd e.trace.answer e.saw.vid e.trace.cpu
 part_by_is plan g e = by_ctx e.saw.before where
   by_cmd : (cmd : Cmd) → part_after_hypervisor g cmd e ≡ part_by plan g ctx.Hv cmd e.trace.answer e.saw.vid e.trace.cpu
   by_cmd (UReturn r0 r2 outs) = refl

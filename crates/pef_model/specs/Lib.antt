@@ -16,3 +16,8 @@ pub mod WordLaw
 pub mod ReadLaw
 pub mod SecretLaw
 pub mod SearchLaw
+pub mod StepLaw
+pub mod CountLaw
+pub mod Commands
+pub mod ScriptText
+pub mod GrammarLaw

@@ -4,8 +4,10 @@
 pub mod command;
 pub mod config;
 pub mod entry;
+pub mod grammar_laws;
 pub mod laws;
 pub mod state;
+pub mod step_laws;
 
 pub use command::{Cmd, Code, Reg, UV_RETURN};
 pub use config::{Config, EntropyWord, EntropyWords, Lpids};

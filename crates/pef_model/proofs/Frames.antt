@@ -1,0 +1,239 @@
+-- Each secure frame is free or holds a Secure page.
+use Rattle.std.proofs.Common.{◌≡◌, ◌≢◌, ℕ, zero, suc, ◌+◌, ◌<◌, nat_lt, List, [], ◌∷◌, ◌++◌, length, Bool, true, false, refl, ap, sym, subst, ◌∙◌, ◌==◌, ◌&&◌, if◌then◌else◌, Option, Some, None, is_some, arith, length-append}
+use Rattle.std.proofs.lemmas.Bool.Decides.{nat_tests}
+use Rattle.pef_model.specs.declared.state.Run.{Run}
+use Rattle.pef_model.specs.declared.state.Ctx.{Ctx}
+use Rattle.pef_model.specs.declared.state.Ctx.TheVariants as ctx
+use Rattle.pef_model.specs.declared.command.Code.TheVariants.{UInvalid}
+use Rattle.pef_model.specs.declared.command.Cmd.{Cmd}
+use Rattle.pef_model.specs.declared.command.Cmd.TheVariants.{UReturn, GLi, GLd, GSt}
+use Rattle.pef_model.specs.declared.entry.PoolSaw.{PoolSaw}
+use Rattle.pef_model.specs.declared.entry.Answer.{Answer}
+use Rattle.pef_model.specs.declared.entry.Answer.TheVariants.{Done, Val, Ret, Enter, Gone, Context}
+use Rattle.pef_model.specs.Plan.{Plan}
+use Rattle.pef_model.specs.Event.{Event}
+use Rattle.pef_model.specs.Target.{Ask, AtGuest, target_in, is_guest, touches_cpu, touches_guest}
+use Rattle.pef_model.specs.Cpu.{CpuPart, start_cpu, next_cpu}
+use Rattle.pef_model.specs.Guest.{GuestPart, start_part_of, page_of, has_place, is_invalid, secured, accessed, part_after_access, part_after_guest, part_after_return}
+use Rattle.pef_model.specs.Private.{Guest, start_guest, next_guest, private_doubleword}
+use Rattle.pef_model.specs.Memory.{pooled}
+use Rattle.pef_model.specs.Deed.{Deed, Reach, NoPage, answering, deed_return, deed_access, deed_running, deed_gone, reach, reach_of, may_return_in, is_waiting}
+use Rattle.pef_model.specs.History.{cpu_after, guest_after, pool_after, deed_after, IsLegal}
+use Rattle.pef_model.specs.CountLaw.{part_after, secure_pages, sum_to, FramesAreCounted}
+use Rattle.pef_model.proofs.Folds.{test_same, same_test, skips}
+use Rattle.pef_model.proofs.NextValues.{cpu_by_is}
+use Rattle.pef_model.proofs.Outcomes.{Outcome, outcome}
+use Rattle.pef_model.proofs.Steps.{ctx_after_guest, after_guest, ctx_after, selection_left}
+use Rattle.pef_model.proofs.Running.{Taking, takes, next_by, next_by_is}
+
+-- A CPU selects guest 1 after each history.
+selects_first : (plan : Plan) (past : List Event) (n : ℕ) → (cpu_after plan n past).lpid ≡ 1
+selects_first plan [] n = refl
+selects_first plan (e ∷ past) n = by_test (selects_first plan past n) (touches_cpu n e) where
+  cpu : CpuPart
+  cpu = cpu_after plan n past
+
+  by_test : cpu.lpid ≡ 1 → (b : Bool) → (if b then next_cpu cpu e else cpu).lpid ≡ 1
+  by_test ih true =
+      let stays = selection_left cpu e.saw.before e.saw.after e.trace.cmd e.trace.answer in
+      ap (λ (x : CpuPart). x.lpid) (cpu_by_is cpu e) ∙ stays.0 ∙ ih
+  by_test ih false = ih
+
+-- the guest that runs in a context, if one does, is guest 1
+abbrev RunsFirst : Ctx → Type 0
+RunsFirst ctx.Hv = Unit {0}
+RunsFirst (ctx.Guest run) = run.lpid ≡ 1
+
+-- if guest 1 ran before an entry, it runs after it
+first_runs_by : (g : GuestPart) (c : Ctx) (lpid vid : ℕ) (cmd : Cmd) (a : Answer) (after : Ctx) (shown : List ℕ) → lpid ≡ 1 → RunsFirst c →
+    Outcome c cmd a after shown → Taking g c lpid vid a after → RunsFirst after
+first_runs_by g ctx.Hv lpid vid (UReturn r0 r2 outs) Enter after shown one runs o taking = subst RunsFirst (sym taking.after_is) one
+first_runs_by g ctx.Hv lpid vid (UReturn r0 r2 outs) (Ret code) after shown one runs o taking = subst RunsFirst (sym o.0) tt
+first_runs_by g ctx.Hv lpid vid (GLi rd value) Context after shown one runs o taking = subst RunsFirst (sym o.0) tt
+first_runs_by g ctx.Hv lpid vid (GLd rd gpa) Context after shown one runs o taking = subst RunsFirst (sym o.0) tt
+first_runs_by g ctx.Hv lpid vid (GSt rs gpa) Context after shown one runs o taking = subst RunsFirst (sym o.0) tt
+first_runs_by g ctx.Hv lpid vid cmd a after shown one runs o taking = absurd o
+first_runs_by g (ctx.Guest run) lpid vid cmd a after shown one runs o taking = subst RunsFirst (sym (after_guest run cmd a after shown o)) (by_answer a) where
+  by_answer : (a : Answer) → RunsFirst (ctx_after_guest run a)
+  by_answer Gone = tt
+  by_answer other = runs
+
+-- In a legal history a CPU runs no guest but guest 1.
+first_runs : (plan : Plan) (past : List Event) (n : ℕ) → IsLegal plan past → RunsFirst (cpu_after plan n past).ctx
+first_runs plan [] n legal = tt
+first_runs plan (e ∷ past) n legal = by_test (first_runs plan past n legal.1) (touches_cpu n e) refl where
+  by_test : RunsFirst (cpu_after plan n past).ctx → (b : Bool) → touches_cpu n e ≡ b → RunsFirst (cpu_after plan n (e ∷ past)).ctx
+  by_test ih true t =
+      let here : e.trace.cpu ≡ n = test_same e.trace.cpu n t in
+      let is = legal.0.is in
+      let before : RunsFirst e.saw.before = subst (λ (c : Ctx). RunsFirst c) (ap (λ (x : ℕ). (cpu_after plan x past).ctx) (sym here) ∙ ap (λ (x : Event). x.saw.before) (sym is)) ih in
+      let one : e.saw.lpid ≡ 1 = ap (λ (x : Event). x.saw.lpid) is ∙ selects_first plan past e.trace.cpu in
+      subst RunsFirst (sym (ctx_after plan past e legal.0) ∙ ap (λ (x : ℕ). (cpu_after plan x (e ∷ past)).ctx) here)
+      (first_runs_by (part_after plan past e.saw.lpid) e.saw.before e.saw.lpid e.saw.vid e.trace.cmd e.trace.answer e.saw.after e.saw.shown one before (outcome plan past e legal.0) (takes plan past e legal.0))
+  by_test ih false t = subst (λ (x : CpuPart). RunsFirst x.ctx) (sym (skips (touches_cpu n) next_cpu (start_cpu plan) e past t)) ih
+
+-- An entry of a legal history aims at guest 1 or at none.
+aims : (c : Ctx) (l lpid : ℕ) (cmd : Cmd) → l ≡ 1 → RunsFirst c → is_guest lpid (target_in c l cmd) ≡ true → lpid ≡ 1
+aims ctx.Hv l lpid (UReturn r0 r2 outs) one runs t = sym (test_same l lpid t) ∙ one
+aims ctx.Hv l lpid (GLi rd value) one runs t = cc
+aims ctx.Hv l lpid (GLd rd gpa) one runs t = cc
+aims ctx.Hv l lpid (GSt rs gpa) one runs t = cc
+aims (ctx.Guest run) l lpid cmd one runs t = sym (test_same run.lpid lpid t) ∙ runs
+
+touches_first : (plan : Plan) (past : List Event) (e : Event) (lpid : ℕ) → IsLegal plan (e ∷ past) → touches_guest lpid e ≡ true → lpid ≡ 1
+touches_first plan past e lpid legal t =
+    let is = legal.0.is in
+    let before : RunsFirst e.saw.before = subst RunsFirst (ap (λ (x : Event). x.saw.before) (sym is)) (first_runs plan past e.trace.cpu legal.1) in
+    aims e.saw.before e.saw.lpid lpid e.trace.cmd (ap (λ (x : Event). x.saw.lpid) is ∙ selects_first plan past e.trace.cpu) before t
+
+other_guests : (plan : Plan) (past : List Event) (lpid : ℕ) → IsLegal plan past → lpid ≢ 1 → guest_after plan lpid past ≡ start_guest plan lpid
+other_guests plan [] lpid legal other = refl
+other_guests plan (e ∷ past) lpid legal other = by_test (other_guests plan past lpid legal.1 other) (touches_guest lpid e) refl where
+  by_test : guest_after plan lpid past ≡ start_guest plan lpid → (b : Bool) → touches_guest lpid e ≡ b → guest_after plan lpid (e ∷ past) ≡ start_guest plan lpid
+  by_test ih true t = absurd (other (touches_first plan past e lpid legal t))
+  by_test ih false t = skips (touches_guest lpid) (next_guest plan) (start_guest plan lpid) e past t ∙ ih
+
+-- a step takes as many frames as it makes pages Secure
+abbrev Balances : ℕ → Option PoolSaw → GuestPart → GuestPart → Type 0
+Balances free pool old new = pooled free pool + length new.order ≡ free + length old.order
+
+access_balances : (plan : Plan) (g : GuestPart) (free : ℕ) (ask : Ask) (success : Answer) (gpa : ℕ) → part_after_access g (page_of plan gpa) success ≡ accessed g (page_of plan gpa) →
+    let deed : Deed = deed_access ask success (reach plan g (nat_lt 0 free) gpa) in
+    Balances free deed.pool g (part_after_access g (page_of plan gpa) deed.answer)
+access_balances plan g free ask success gpa access = by_place (has_place plan gpa) where
+  gfn : ℕ
+  gfn = page_of plan gpa
+
+  At : Reach → Type 0
+  At r = Balances free (deed_access ask success r).pool g (part_after_access g gfn (deed_access ask success r).answer)
+
+  by_any : is_invalid (g.pages gfn) ≡ true → (any : Bool) → nat_lt 0 free ≡ any → At (reach_of true any)
+  by_any k true t =
+      let some : 0 < free = grind (arith, nat_tests) in
+      let more : (part_after_access g gfn success).order ≡ g.order ++ gfn ∷ [] = ap (λ (x : GuestPart). x.order) access ∙ ap (λ (b : Bool). (if b then secured g gfn else g).order) k in
+      let longer : length (part_after_access g gfn success).order ≡ length g.order + 1 = ap length more ∙ length-append g.order (gfn ∷ []) in
+      omega arith
+  by_any k false t = omega arith
+
+  by_kind : (b : Bool) → is_invalid (g.pages gfn) ≡ b → At (reach_of b (nat_lt 0 free))
+  by_kind true k = by_any k (nat_lt 0 free) refl
+  by_kind false k =
+      let same : (part_after_access g gfn success).order ≡ g.order = ap (λ (x : GuestPart). x.order) access ∙ ap (λ (b : Bool). (if b then secured g gfn else g).order) k in
+      ap (λ (xs : List ℕ). free + length xs) same
+
+  by_place : (b : Bool) → At (if b then reach_of (is_invalid (g.pages gfn)) (nat_lt 0 free) else NoPage)
+  by_place true = by_kind (is_invalid (g.pages gfn)) refl
+  by_place false = refl
+
+running_balances : (plan : Plan) (g : Guest) (free : ℕ) (ask : Ask) (cmd : Cmd) →
+    let deed : Deed = deed_running plan g (nat_lt 0 free) ask cmd in
+    Balances free deed.pool g.part (part_after_guest plan g.part cmd deed.answer)
+running_balances plan g free ask (UReturn r0 r2 outs) = refl
+running_balances plan g free ask (GLi rd value) = refl
+running_balances plan g free ask (GLd rd gpa) = access_balances plan g.part free ask (Val (private_doubleword plan g gpa)) gpa refl
+running_balances plan g free ask (GSt rs gpa) = access_balances plan g.part free ask Done gpa refl
+
+gone_balances : (plan : Plan) (g : GuestPart) (free : ℕ) (cmd : Cmd) → Balances free None g (part_after_guest plan g cmd Gone)
+gone_balances plan g free (UReturn r0 r2 outs) = refl
+gone_balances plan g free (GLi rd value) = refl
+gone_balances plan g free (GLd rd gpa) = refl
+gone_balances plan g free (GSt rs gpa) = refl
+
+return_balances : (g : GuestPart) (free vid cpu : ℕ) (last : Answer) →
+    let deed : Deed = deed_return g (record { before = ctx.Hv; lpid = 1; vid = vid; last = last }) in
+    Balances free deed.pool g (part_after_return g vid cpu deed.answer)
+return_balances g free vid cpu last = by_test (may_return_in g.phase && is_waiting (g.vcpus vid).state) where
+  ask : Ask
+  ask = record { before = ctx.Hv; lpid = 1; vid = vid; last = last }
+
+  deed : Bool → Deed
+  deed b = if b then (record (answering ask Enter) { after = ctx.Guest (record { lpid = 1; vid = vid; generation = g.generation }) }) else answering ask (Ret UInvalid)
+
+  by_test : (b : Bool) → Balances free (deed b).pool g (part_after_return g vid cpu (deed b).answer)
+  by_test true = refl
+  by_test false = refl
+
+guest_balances : (plan : Plan) (past : List Event) (run : Run) (vid : ℕ) (last : Answer) (cmd : Cmd) →
+    let deed : Deed = deed_after plan past (record { before = ctx.Guest run; lpid = 1; vid = vid; last = last }) cmd (AtGuest run.lpid) in
+    Balances (pool_after plan past) deed.pool (part_after plan past run.lpid) (part_after_guest plan (part_after plan past run.lpid) cmd deed.answer)
+guest_balances plan past run vid last cmd = by_test (run.generation == (part_after plan past run.lpid).generation) where
+  ask : Ask
+  ask = record { before = ctx.Guest run; lpid = 1; vid = vid; last = last }
+
+  g : Guest
+  g = guest_after plan run.lpid past
+
+  free : ℕ
+  free = pool_after plan past
+
+  deed : Bool → Deed
+  deed b = if b then deed_running plan g (nat_lt 0 free) ask cmd else deed_gone ask
+
+  by_test : (b : Bool) → Balances free (deed b).pool g.part (part_after_guest plan g.part cmd (deed b).answer)
+  by_test true = running_balances plan g free ask cmd
+  by_test false = gone_balances plan g.part free cmd
+
+-- guest 1 after a step and the frames that the step took
+deed_balances : (plan : Plan) (past : List Event) (c : Ctx) (vid cpu : ℕ) (last : Answer) (cmd : Cmd) → RunsFirst c →
+    let deed : Deed = deed_after plan past (record { before = c; lpid = 1; vid = vid; last = last }) cmd (target_in c 1 cmd) in
+    Balances (pool_after plan past) deed.pool (part_after plan past 1) (next_by plan c 1 vid cpu cmd deed.answer (part_after plan past 1) 1)
+deed_balances plan past ctx.Hv vid cpu last (UReturn r0 r2 outs) runs = return_balances (part_after plan past 1) (pool_after plan past) vid cpu last
+deed_balances plan past ctx.Hv vid cpu last (GLi rd value) runs = refl
+deed_balances plan past ctx.Hv vid cpu last (GLd rd gpa) runs = refl
+deed_balances plan past ctx.Hv vid cpu last (GSt rs gpa) runs = refl
+deed_balances plan past (ctx.Guest run) vid cpu last cmd runs =
+    let deed : Deed = deed_after plan past (record { before = ctx.Guest run; lpid = 1; vid = vid; last = last }) cmd (AtGuest run.lpid) in
+    let free : ℕ = pool_after plan past in
+    subst (λ (x : ℕ). Balances free deed.pool (part_after plan past x) (next_by plan (ctx.Guest run) 1 vid cpu cmd deed.answer (part_after plan past x) x)) runs
+    (subst (λ (b : Bool). Balances free deed.pool (part_after plan past run.lpid) (if b then part_after_guest plan (part_after plan past run.lpid) cmd deed.answer else part_after plan past run.lpid))
+    (sym (same_test run.lpid)) (guest_balances plan past run vid last cmd))
+
+entry_balances : (plan : Plan) (past : List Event) (e : Event) → IsLegal plan (e ∷ past) →
+    Balances (pool_after plan past) e.saw.pool (part_after plan past 1) (part_after plan (e ∷ past) 1)
+entry_balances plan past e legal =
+    let cpu : CpuPart = cpu_after plan e.trace.cpu past in
+    let g : GuestPart = part_after plan past 1 in
+    let free : ℕ = pool_after plan past in
+    subst (Balances free e.saw.pool g) (sym (next_by_is plan past e 1))
+    (subst (λ (x : Event). Balances free x.saw.pool g (next_by plan x.saw.before x.saw.lpid x.saw.vid x.trace.cpu x.trace.cmd x.trace.answer g 1)) (sym legal.0.is)
+    (subst (λ (l : ℕ).
+    let deed : Deed = deed_after plan past (record { before = cpu.ctx; lpid = l; vid = cpu.vid; last = cpu.last }) e.trace.cmd (target_in cpu.ctx l e.trace.cmd) in
+    Balances free deed.pool g (next_by plan cpu.ctx l cpu.vid e.trace.cpu e.trace.cmd deed.answer g 1))
+    (sym (selects_first plan past e.trace.cpu))
+    (deed_balances plan past cpu.ctx cpu.vid e.trace.cpu cpu.last e.trace.cmd (first_runs plan past e.trace.cpu legal.1))))
+
+pool_is : (free : ℕ) (pool : Option PoolSaw) → (if is_some pool then pooled free pool else free) ≡ pooled free pool
+pool_is free None = refl
+pool_is free (Some saw) = refl
+
+first_counted : (plan : Plan) (past : List Event) → IsLegal plan past → pool_after plan past + secure_pages plan past 1 ≡ plan.secure
+first_counted plan [] legal = by_birth (plan.is_born 1) where
+  by_birth : (b : Bool) → plan.secure + length (start_part_of b).order ≡ plan.secure
+  by_birth true = omega arith
+  by_birth false = omega arith
+first_counted plan (e ∷ past) legal =
+    ap (λ (n : ℕ). n + secure_pages plan (e ∷ past) 1) (pool_is (pool_after plan past) e.saw.pool)
+    ∙ entry_balances plan past e legal ∙ first_counted plan past legal.1
+
+sum_of_first : (n : ℕ) (f : ℕ → ℕ) → ((i : ℕ) → i ≢ 1 → f i ≡ 0) → 0 < n → sum_to n f ≡ f 1
+sum_of_first zero f zeros some = absurd (omega arith)
+sum_of_first (suc zero) f zeros some = omega arith
+sum_of_first (suc (suc n)) f zeros some =
+    let ih : sum_to (suc n) f ≡ f 1 = sum_of_first (suc n) f zeros (omega arith) in
+    let none : f (suc n + 1) ≡ 0 = zeros (suc n + 1) (omega arith) in
+    omega arith
+
+pub frames_are_counted : FramesAreCounted
+frames_are_counted plan past legal =
+    let first : pool_after plan past + secure_pages plan past 1 ≡ plan.secure = first_counted plan past legal in
+    record {
+      all = λ some. ap (λ (n : ℕ). pool_after plan past + n) (sum_of_first plan.guests (secure_pages plan past) none some) ∙ first;
+      first = first;
+      others = λ lpid other. other_guests plan past lpid legal other;
+    } where
+      none_at_start : (b : Bool) → length (start_part_of b).order ≡ 0
+      none_at_start true = refl
+      none_at_start false = refl
+
+      none : (lpid : ℕ) → lpid ≢ 1 → secure_pages plan past lpid ≡ 0
+      none lpid other = ap (λ (g : Guest). length g.part.order) (other_guests plan past lpid legal other) ∙ none_at_start (plan.is_born lpid)

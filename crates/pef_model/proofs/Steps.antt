@@ -1,0 +1,163 @@
+-- What an entry makes of its CPU and lets out.
+use Rattle.std.proofs.Common.{◌≡◌, ℕ, zero, suc, ◌<◌, List, [], ◌∷◌, ◌++◌, length, take, drop, replicate, get_or, refl, ap, sym, subst, ◌∙◌, if◌then◌else◌, arith}
+use Rattle.std.specs.Prelude.{unwrap_or, slice_set}
+use Rattle.std.proofs.lemmas.List.{set-get_or}
+use Rattle.std.proofs.Math.ListN.{length-set}
+use Rattle.pef_model.specs.declared.state.Run.{Run}
+use Rattle.pef_model.specs.declared.state.Ctx.{Ctx}
+use Rattle.pef_model.specs.declared.state.Ctx.TheVariants as ctx
+use Rattle.pef_model.specs.declared.command.TheConstants.{UV_RETURN}
+use Rattle.pef_model.specs.declared.command.Cmd.{Cmd}
+use Rattle.pef_model.specs.declared.command.Cmd.TheVariants.{UReturn, GLi, GLd, GSt}
+use Rattle.pef_model.specs.declared.entry.Answer.{Answer}
+use Rattle.pef_model.specs.declared.entry.Answer.TheVariants.{Done, Val, Ret, Enter, Gone, Hole, Context}
+use Rattle.pef_model.specs.Plan.{Plan}
+use Rattle.pef_model.specs.Event.{Event}
+use Rattle.pef_model.specs.Registers.{number_of, load_return}
+use Rattle.pef_model.specs.Cpu.{CpuPart, start_cpu, next_cpu, cpu_after_guest, last_after}
+use Rattle.pef_model.specs.Target.{touches_cpu}
+use Rattle.pef_model.specs.History.{cpu_after, Extends}
+use Rattle.pef_model.specs.SearchLaw.{loaded_value, IsCommand}
+use Rattle.pef_model.specs.StepLaw.{is_kept, own_given_in, let_out, EachEntryLeavesCpu}
+use Rattle.pef_model.proofs.Folds.{same_test, counts}
+use Rattle.pef_model.proofs.NextValues.{cpu_by, cpu_by_is}
+use Rattle.pef_model.proofs.Assigned.{returned_value}
+use Rattle.pef_model.proofs.Outcomes.{Outcome, outcome}
+
+-- the context after a guest's step, by its answer
+abbrev pub ctx_after_guest : Run → Answer → Ctx
+ctx_after_guest run Gone = ctx.Hv
+ctx_after_guest run a = ctx.Guest run
+
+pub after_guest : (run : Run) (cmd : Cmd) (a : Answer) (after : Ctx) (shown : List ℕ) → Outcome (ctx.Guest run) cmd a after shown → after ≡ ctx_after_guest run a
+after_guest run (UReturn r0 r2 outs) Gone after shown h = h.0
+after_guest run (UReturn r0 r2 outs) (Ret code) after shown h = h.0
+after_guest run (GLi rd value) Gone after shown h = h.0
+after_guest run (GLi rd value) Done after shown h = h.0
+after_guest run (GLd rd gpa) Gone after shown h = h.0
+after_guest run (GLd rd gpa) (Val value) after shown h = h.0
+after_guest run (GLd rd gpa) Hole after shown h = h.0
+after_guest run (GSt rs gpa) Gone after shown h = h.0
+after_guest run (GSt rs gpa) Done after shown h = h.0
+after_guest run (GSt rs gpa) Hole after shown h = h.0
+after_guest run cmd a after shown h = absurd h
+
+ctx_left_by_guest : (cpu : CpuPart) (run : Run) (a : Answer) → cpu.ctx ≡ ctx.Guest run → (cpu_after_guest cpu a).ctx ≡ ctx_after_guest run a
+ctx_left_by_guest cpu run Gone h = refl
+ctx_left_by_guest cpu run a h = h
+
+ctx_left : (cpu : CpuPart) (c after : Ctx) (cmd : Cmd) (a : Answer) (shown : List ℕ) → cpu.ctx ≡ c → Outcome c cmd a after shown → (cpu_by cpu c after cmd a).ctx ≡ after
+ctx_left cpu ctx.Hv after cmd a shown before h = refl
+ctx_left cpu (ctx.Guest run) after cmd a shown before h = ctx_left_by_guest cpu run a before ∙ sym (after_guest run cmd a after shown h)
+
+context_leaves : (cpu : CpuPart) (c after : Ctx) (cmd : Cmd) (shown : List ℕ) → cpu.ctx ≡ c → Outcome c cmd Context after shown → cpu_by cpu c after cmd Context ≡ cpu
+context_leaves cpu ctx.Hv after (UReturn r0 r2 outs) shown before h = absurd h
+context_leaves cpu ctx.Hv after (GLi rd value) shown before h = (λ i. record cpu { ctx = (h.0 ∙ sym before) i })
+context_leaves cpu ctx.Hv after (GLd rd gpa) shown before h = (λ i. record cpu { ctx = (h.0 ∙ sym before) i })
+context_leaves cpu ctx.Hv after (GSt rs gpa) shown before h = (λ i. record cpu { ctx = (h.0 ∙ sym before) i })
+context_leaves cpu (ctx.Guest run) after cmd shown before h = refl
+
+last_by_hypervisor : (old a : Answer) (after : Ctx) → last_after old a ≡ (if is_kept ctx.Hv a after then a else old)
+last_by_hypervisor old Context after = refl
+last_by_hypervisor old a after = refl
+
+last_by_guest : (cpu : CpuPart) (run : Run) (a : Answer) → (cpu_after_guest cpu a).last ≡ (if is_kept (ctx.Guest run) a (ctx_after_guest run a) then a else cpu.last)
+last_by_guest cpu run Gone = refl
+last_by_guest cpu run a = refl
+
+last_left : (cpu : CpuPart) (c after : Ctx) (cmd : Cmd) (a : Answer) (shown : List ℕ) → Outcome c cmd a after shown →
+    (cpu_by cpu c after cmd a).last ≡ (if is_kept c a after then a else cpu.last)
+last_left cpu ctx.Hv after cmd a shown h = last_by_hypervisor cpu.last a after
+last_left cpu (ctx.Guest run) after cmd a shown h =
+    last_by_guest cpu run a ∙ ap (λ (x : Ctx). if is_kept (ctx.Guest run) a x then a else cpu.last) (sym (after_guest run cmd a after shown h))
+
+at_three : (gpr rest : List ℕ) (v : ℕ) → 3 < length gpr → get_or (take 4 (slice_set gpr 3 v) ++ rest) 3 0 ≡ v
+at_three [] rest v h = absurd (omega arith)
+at_three (a ∷ []) rest v h = absurd (omega arith)
+at_three (a ∷ b ∷ []) rest v h = absurd (omega arith)
+at_three (a ∷ b ∷ c ∷ []) rest v h = absurd (omega arith)
+at_three (a ∷ b ∷ c ∷ d ∷ gpr) rest v h = refl
+
+-- each of the hypervisor's registers after it loaded UV_RETURN
+loaded_for_return : (own outs : List ℕ) (r0 r2 r : ℕ) → length own ≡ 32 → length outs ≡ 9 → r < 32 →
+    get_or (load_return own r0 r2 outs) r 0 ≡ unwrap_or (loaded_value r0 r2 outs UV_RETURN r) (get_or own r 0)
+loaded_for_return own outs r0 r2 r h k small =
+    let loaded : List ℕ = load_return own r0 r2 outs in
+    let long : 3 < length (slice_set (slice_set own 0 r0) 2 r2) = simp length-set (omega arith) in
+    let value : get_or loaded 3 0 ≡ UV_RETURN = at_three (slice_set (slice_set own 0 r0) 2 r2) (outs ++ drop 13 (slice_set (slice_set (slice_set own 0 r0) 2 r2) 3 UV_RETURN)) UV_RETURN long in
+    let same : slice_set loaded 3 UV_RETURN ≡ loaded = ap (slice_set loaded 3) (sym value) ∙ set-get_or loaded 3 0 in
+    ap (λ (xs : List ℕ). get_or xs r 0) (sym same) ∙ returned_value own outs r0 r2 UV_RETURN r h k small
+
+own_by_return : (cpu : CpuPart) (after : Ctx) (r0 r2 : ℕ) (outs : List ℕ) (a : Answer) (r : ℕ) → length outs ≡ 9 → length cpu.own ≡ 32 → r < 32 →
+    get_or (cpu_by cpu ctx.Hv after (UReturn r0 r2 outs) a).own r 0 ≡ unwrap_or (own_given_in ctx.Hv (UReturn r0 r2 outs) a r) (get_or cpu.own r 0)
+own_by_return cpu after r0 r2 outs (Ret code) r k full small = returned_value cpu.own outs r0 r2 (number_of code) r full k small
+own_by_return cpu after r0 r2 outs a r k full small = loaded_for_return cpu.own outs r0 r2 r full k small
+
+zero_at : (n i : ℕ) → get_or (replicate {A = ℕ} n 0) i 0 ≡ 0
+zero_at zero i = refl
+zero_at (suc n) zero = refl
+zero_at (suc n) (suc i) = zero_at n i
+
+own_left : (cpu : CpuPart) (c after : Ctx) (cmd : Cmd) (a : Answer) (r : ℕ) → IsCommand cmd → length cpu.own ≡ 32 → r < 32 →
+    get_or (cpu_by cpu c after cmd a).own r 0 ≡ unwrap_or (own_given_in c cmd a r) (get_or cpu.own r 0)
+own_left cpu ctx.Hv after (UReturn r0 r2 outs) a r k full small = own_by_return cpu after r0 r2 outs a r k full small
+own_left cpu ctx.Hv after (GLi rd value) a r k full small = refl
+own_left cpu ctx.Hv after (GLd rd gpa) a r k full small = refl
+own_left cpu ctx.Hv after (GSt rs gpa) a r k full small = refl
+own_left cpu (ctx.Guest run) after cmd Gone r k full small = zero_at 32 r
+own_left cpu (ctx.Guest run) after cmd a r k full small = refl
+
+-- the selection after an entry
+pub selection_left : (cpu : CpuPart) (c after : Ctx) (cmd : Cmd) (a : Answer) → ((cpu_by cpu c after cmd a).lpid ≡ cpu.lpid) × ((cpu_by cpu c after cmd a).vid ≡ cpu.vid)
+selection_left cpu ctx.Hv after cmd a = (refl, refl)
+selection_left cpu (ctx.Guest run) after cmd Gone = (refl, refl)
+selection_left cpu (ctx.Guest run) after cmd a = (refl, refl)
+
+shown_is : (c : Ctx) (cmd : Cmd) (a : Answer) (after : Ctx) (shown : List ℕ) → Outcome c cmd a after shown → shown ≡ let_out c cmd a
+shown_is ctx.Hv (UReturn r0 r2 outs) Enter after shown h = h
+shown_is ctx.Hv (UReturn r0 r2 outs) (Ret code) after shown h = h.1
+shown_is ctx.Hv (GLi rd value) Context after shown h = h.1
+shown_is ctx.Hv (GLd rd gpa) Context after shown h = h.1
+shown_is ctx.Hv (GSt rs gpa) Context after shown h = h.1
+shown_is (ctx.Guest run) (UReturn r0 r2 outs) Gone after shown h = h.1
+shown_is (ctx.Guest run) (UReturn r0 r2 outs) (Ret code) after shown h = h.1
+shown_is (ctx.Guest run) (GLi rd value) Gone after shown h = h.1
+shown_is (ctx.Guest run) (GLi rd value) Done after shown h = h.1
+shown_is (ctx.Guest run) (GLd rd gpa) Gone after shown h = h.1
+shown_is (ctx.Guest run) (GLd rd gpa) (Val value) after shown h = h.1
+shown_is (ctx.Guest run) (GLd rd gpa) Hole after shown h = h.1
+shown_is (ctx.Guest run) (GSt rs gpa) Gone after shown h = h.1
+shown_is (ctx.Guest run) (GSt rs gpa) Done after shown h = h.1
+shown_is (ctx.Guest run) (GSt rs gpa) Hole after shown h = h.1
+shown_is c cmd a after shown h = absurd h
+
+-- a CPU after an entry of its own, by the fields of the entry
+own_cpu : (plan : Plan) (past : List Event) (e : Event) →
+    cpu_after plan e.trace.cpu (e ∷ past) ≡ cpu_by (cpu_after plan e.trace.cpu past) e.saw.before e.saw.after e.trace.cmd e.trace.answer
+own_cpu plan past e =
+    counts (touches_cpu e.trace.cpu) next_cpu (start_cpu plan) e past (same_test e.trace.cpu) ∙ cpu_by_is (cpu_after plan e.trace.cpu past) e
+
+-- the context after an entry is the one that the entry tells
+pub ctx_after : (plan : Plan) (past : List Event) (e : Event) → Extends plan past e → (cpu_after plan e.trace.cpu (e ∷ past)).ctx ≡ e.saw.after
+ctx_after plan past e extends =
+    ap (λ (x : CpuPart). x.ctx) (own_cpu plan past e)
+    ∙ ctx_left (cpu_after plan e.trace.cpu past) e.saw.before e.saw.after e.trace.cmd e.trace.answer e.saw.shown (ap (λ (x : Event). x.saw.before) (sym extends.is)) (outcome plan past e extends)
+
+pub each_entry_leaves_cpu : EachEntryLeavesCpu
+each_entry_leaves_cpu plan past e command full extends =
+    let cpu : CpuPart = cpu_after plan e.trace.cpu past in
+    let before : cpu.ctx ≡ e.saw.before = ap (λ (x : Event). x.saw.before) (sym extends.is) in
+    let is : cpu_after plan e.trace.cpu (e ∷ past) ≡ cpu_by cpu e.saw.before e.saw.after e.trace.cmd e.trace.answer = own_cpu plan past e in
+    let h : Outcome e.saw.before e.trace.cmd e.trace.answer e.saw.after e.saw.shown = outcome plan past e extends in
+    let stays = selection_left cpu e.saw.before e.saw.after e.trace.cmd e.trace.answer in
+    record {
+      after = ctx_after plan past e extends;
+      context = λ (k : e.trace.answer ≡ Context).
+          is ∙ ap (cpu_by cpu e.saw.before e.saw.after e.trace.cmd) k
+          ∙ context_leaves cpu e.saw.before e.saw.after e.trace.cmd e.saw.shown before (subst (λ (a : Answer). Outcome e.saw.before e.trace.cmd a e.saw.after e.saw.shown) k h);
+      last = ap (λ (x : CpuPart). x.last) is ∙ last_left cpu e.saw.before e.saw.after e.trace.cmd e.trace.answer e.saw.shown h;
+      own = λ r small. ap (λ (x : CpuPart). get_or x.own r 0) is ∙ own_left cpu e.saw.before e.saw.after e.trace.cmd e.trace.answer r command full small;
+      lpid = ap (λ (x : CpuPart). x.lpid) is ∙ stays.0;
+      vid = ap (λ (x : CpuPart). x.vid) is ∙ stays.1;
+      shown = shown_is e.saw.before e.trace.cmd e.trace.answer e.saw.after e.saw.shown h;
+    }

@@ -1,0 +1,72 @@
+-- Laws of whole histories: each vCPU runs on one CPU, and the frames are counted.
+use Rattle.std.specs.Prelude.{◌≡◌, ◌≢◌, ℕ, zero, suc, ◌+◌, ◌<◌, ◌==◌, true, if◌then◌else◌, List, ◌∷◌, length, take}
+use Rattle.std.specs.List.{count_by}
+use Rattle.pef_model.specs.declared.state.Phase.TheVariants.{Secure}
+use Rattle.pef_model.specs.declared.state.VState.TheVariants.{Running}
+use Rattle.pef_model.specs.declared.state.Run.{Run}
+use Rattle.pef_model.specs.declared.state.Ctx.TheVariants as ctx
+use Rattle.pef_model.specs.Plan.{Plan}
+use Rattle.pef_model.specs.Event.{Event}
+use Rattle.pef_model.specs.Guest.{GuestPart, is_invalid}
+use Rattle.pef_model.specs.Private.{start_guest}
+use Rattle.pef_model.specs.Deed.{may_return_in}
+use Rattle.pef_model.specs.History.{cpu_after, guest_after, pool_after, IsLegal}
+
+-- a guest's public part after a history
+abbrev pub part_after : Plan → List Event → ℕ → GuestPart
+part_after plan past lpid = (guest_after plan lpid past).part
+
+-- a CPU runs the vCPU that its context names
+pub record RunsItsVcpu (plan : Plan) (past : List Event) (n : ℕ) (run : Run) : Type 0 where
+  -- the vCPU's state is that it runs on this CPU
+  pub state : ((part_after plan past run.lpid).vcpus run.vid).state ≡ Running n
+  -- it was taken up in the generation that the context names
+  pub taken : ((part_after plan past run.lpid).vcpus run.vid).generation ≡ run.generation
+  -- the guest is still in that generation
+  pub generation : (part_after plan past run.lpid).generation ≡ run.generation
+  -- the guest is in a phase in which UV_RETURN takes up a vCPU
+  pub returns : may_return_in (part_after plan past run.lpid).phase ≡ true
+  -- the guest is secure
+  pub secure : (part_after plan past run.lpid).phase ≡ Secure
+
+abbrev pub EachCpuRunsItsVcpu : Type 0
+EachCpuRunsItsVcpu = (plan : Plan) (past : List Event) (n : ℕ) (run : Run) → IsLegal plan past → (cpu_after plan n past).ctx ≡ ctx.Guest run → RunsItsVcpu plan past n run
+
+-- two CPUs that run the same vCPU are the same CPU
+abbrev pub NoVcpuRunsTwice : Type 0
+NoVcpuRunsTwice =
+    (plan : Plan) (past : List Event) (m n : ℕ) (left right : Run) → IsLegal plan past →
+    (cpu_after plan m past).ctx ≡ ctx.Guest left → (cpu_after plan n past).ctx ≡ ctx.Guest right → left.lpid ≡ right.lpid → left.vid ≡ right.vid → m ≡ n
+
+-- an order has each Secure page of its guest once, and no other page
+abbrev pub OrderHasSecurePages : Type 0
+OrderHasSecurePages =
+    (plan : Plan) (past : List Event) (lpid gfn : ℕ) →
+    count_by (λ p. p == gfn) (part_after plan past lpid).order ≡ (if is_invalid ((part_after plan past lpid).pages gfn) then 0 else 1)
+
+-- an order grows at its end alone
+abbrev pub OrderGrows : Type 0
+OrderGrows =
+    (plan : Plan) (past : List Event) (e : Event) (lpid : ℕ) →
+    take (length (part_after plan past lpid).order) (part_after plan (e ∷ past) lpid).order ≡ (part_after plan past lpid).order
+
+-- how many Secure pages a guest has
+abbrev pub secure_pages : Plan → List Event → ℕ → ℕ
+secure_pages plan past lpid = length (part_after plan past lpid).order
+
+-- the sum of f 1 to f n
+abbrev pub sum_to : ℕ → (ℕ → ℕ) → ℕ
+sum_to zero f = 0
+sum_to (suc n) f = sum_to n f + f (n + 1)
+
+-- each secure frame is free or holds a Secure page
+pub record CountsFrames (plan : Plan) (past : List Event) : Type 0 where
+  -- the free frames and the Secure pages of all guests are as many as the secure frames
+  pub all : 0 < plan.guests → pool_after plan past + sum_to plan.guests (secure_pages plan past) ≡ plan.secure
+  -- the free frames and the Secure pages of guest 1 are as many
+  pub first : pool_after plan past + secure_pages plan past 1 ≡ plan.secure
+  -- every other guest is as at the start
+  pub others : (lpid : ℕ) → lpid ≢ 1 → guest_after plan lpid past ≡ start_guest plan lpid
+
+abbrev pub FramesAreCounted : Type 0
+FramesAreCounted = (plan : Plan) (past : List Event) → IsLegal plan past → CountsFrames plan past

@@ -1,0 +1,131 @@
+-- Laws of one entry: what it makes of its CPU and lets out, and what it makes of a vCPU's registers.
+use Rattle.std.specs.Prelude.{◌≡◌, ℕ, ◌+◌, ◌%◌, ◌^◌, ◌==◌, ◌<◌, Bool, true, false, ◌||◌, if◌then◌else◌, List, [], ◌∷◌, length, Option, Some, None, unwrap_or, slice_index}
+use Rattle.pef_model.specs.declared.state.Run.{Run}
+use Rattle.pef_model.specs.declared.state.Regs.{Regs}
+use Rattle.pef_model.specs.declared.state.Ctx.{Ctx}
+use Rattle.pef_model.specs.declared.state.Ctx.TheVariants as ctx
+use Rattle.pef_model.specs.declared.command.TheConstants.{UV_RETURN}
+use Rattle.pef_model.specs.declared.command.Cmd.{Cmd}
+use Rattle.pef_model.specs.declared.command.Cmd.TheVariants.{UReturn}
+use Rattle.pef_model.specs.declared.entry.Answer.{Answer}
+use Rattle.pef_model.specs.declared.entry.Answer.TheVariants as answer
+use Rattle.pef_model.specs.Plan.{Plan}
+use Rattle.pef_model.specs.Event.{Event}
+use Rattle.pef_model.specs.Registers.{number_of}
+use Rattle.pef_model.specs.History.{cpu_after, guest_after, Extends}
+use Rattle.pef_model.specs.SearchLaw.{loaded_value, IsCommand}
+
+-- whether the hypervisor runs in a context
+abbrev pub is_hypervisor : Ctx → Bool
+is_hypervisor ctx.Hv = true
+is_hypervisor (ctx.Guest run) = false
+
+-- whether the hypervisor keeps an answer as its last: it isn't Context, and the hypervisor ran before the step or runs after it
+abbrev pub is_kept : Ctx → Answer → Ctx → Bool
+is_kept before answer.Context after = false
+is_kept before a after = is_hypervisor before || is_hypervisor after
+
+-- the value that UV_RETURN of the hypervisor gives one of its registers: R3 has the call's number, or the code where the call came back
+abbrev pub given_by_return : ℕ → ℕ → List ℕ → Answer → ℕ → Option ℕ
+given_by_return r0 r2 outs (answer.Ret code) r = loaded_value r0 r2 outs (number_of code) r
+given_by_return r0 r2 outs a r = loaded_value r0 r2 outs UV_RETURN r
+
+-- the value that a command of the hypervisor gives one of its registers
+abbrev pub given_by_command : Cmd → Answer → ℕ → Option ℕ
+given_by_command (UReturn r0 r2 outs) a r = given_by_return r0 r2 outs a r
+given_by_command cmd a r = None
+
+-- the end of a guest that ran gives the hypervisor zeros
+abbrev pub given_by_end : Answer → Option ℕ
+given_by_end answer.Gone = Some 0
+given_by_end a = None
+
+-- the value that a step gives one of the hypervisor's registers
+abbrev pub own_given_in : Ctx → Cmd → Answer → ℕ → Option ℕ
+own_given_in ctx.Hv cmd a r = given_by_command cmd a r
+own_given_in (ctx.Guest run) cmd a r = given_by_end a
+
+-- the value that an entry gives one of the hypervisor's registers on its CPU
+abbrev pub own_given : Event → ℕ → Option ℕ
+own_given e r = own_given_in e.saw.before e.trace.cmd e.trace.answer r
+
+-- what a step lets out: a guest's UV_RETURN that came back its operands, every other step nothing
+abbrev pub let_out : Ctx → Cmd → Answer → List ℕ
+let_out (ctx.Guest run) (UReturn r0 r2 outs) (answer.Ret code) = r0 ∷ r2 ∷ outs
+let_out before cmd a = []
+
+-- what an entry makes of its CPU, and what it lets out
+pub record LeavesCpu (plan : Plan) (past : List Event) (e : Event) : Type 0 where
+  -- the CPU's context is the one that the entry tells
+  pub after : (cpu_after plan e.trace.cpu (e ∷ past)).ctx ≡ e.saw.after
+  -- a command of another context leaves the CPU as it is
+  pub context : e.trace.answer ≡ answer.Context → cpu_after plan e.trace.cpu (e ∷ past) ≡ cpu_after plan e.trace.cpu past
+  -- the last answer is the entry's where the hypervisor keeps it, and else as it was
+  pub last : (cpu_after plan e.trace.cpu (e ∷ past)).last ≡ (if is_kept e.saw.before e.trace.answer e.saw.after then e.trace.answer else (cpu_after plan e.trace.cpu past).last)
+  -- each of the hypervisor's registers has what the entry gives it, and else is as it was
+  pub own : (r : ℕ) → r < 32 → slice_index (cpu_after plan e.trace.cpu (e ∷ past)).own r ≡ unwrap_or (own_given e r) (slice_index (cpu_after plan e.trace.cpu past).own r)
+  -- the selected guest stays
+  pub lpid : (cpu_after plan e.trace.cpu (e ∷ past)).lpid ≡ (cpu_after plan e.trace.cpu past).lpid
+  -- the selected vCPU stays
+  pub vid : (cpu_after plan e.trace.cpu (e ∷ past)).vid ≡ (cpu_after plan e.trace.cpu past).vid
+  -- the entry shows what the step lets out
+  pub shown : e.saw.shown ≡ let_out e.saw.before e.trace.cmd e.trace.answer
+
+abbrev pub EachEntryLeavesCpu : Type 0
+EachEntryLeavesCpu =
+    (plan : Plan) (past : List Event) (e : Event) → IsCommand e.trace.cmd → length (cpu_after plan e.trace.cpu past).own ≡ 32 → Extends plan past e → LeavesCpu plan past e
+
+-- an entry is a step of a vCPU
+pub record IsStepOf (lpid vid : ℕ) (run : Run) (e : Event) : Type 0 where
+  pub before : e.saw.before ≡ ctx.Guest run
+  pub guest_is : run.lpid ≡ lpid
+  pub vcpu_is : run.vid ≡ vid
+
+-- an entry is UV_RETURN of the hypervisor that took up a vCPU
+pub record TakesUp (lpid vid r0 r2 : ℕ) (outs : List ℕ) (e : Event) : Type 0 where
+  pub before : e.saw.before ≡ ctx.Hv
+  pub cmd_is : e.trace.cmd ≡ UReturn r0 r2 outs
+  pub answer_is : e.trace.answer ≡ answer.Enter
+  pub guest_is : e.saw.lpid ≡ lpid
+  pub vcpu_is : e.saw.vid ≡ vid
+
+-- whether a vCPU goes on to its next instruction after an answer
+abbrev pub goes_on : Answer → Bool
+goes_on answer.Done = true
+goes_on (answer.Val value) = true
+goes_on (answer.Ret code) = true
+goes_on a = false
+
+-- what a step of a vCPU makes of its registers beside R0 to R31
+pub record Steps (a : Answer) (old new : Regs) : Type 0 where
+  -- the next instruction is the one after where the step was done, and else the same
+  pub nip : new.nip ≡ (if goes_on a then (old.nip + 4) % 2 ^ 64 else old.nip)
+  -- SRR0 stays
+  pub srr0 : new.srr0 ≡ old.srr0
+
+-- what R2 of UV_RETURN makes of the registers of the vCPU that it takes up, beside R0 to R31
+pub record IsInterrupted (r2 : ℕ) (old new : Regs) : Type 0 where
+  -- the next instruction is at the address in R2 where that isn't 0, and else the same
+  pub nip : new.nip ≡ (if r2 == 0 then old.nip else r2)
+  -- SRR0 has the old next instruction where R2 isn't 0, and else stays
+  pub srr0 : new.srr0 ≡ (if r2 == 0 then old.srr0 else old.nip)
+
+-- the registers of a vCPU after a history
+abbrev pub registers_of : Plan → List Event → ℕ → ℕ → Regs
+registers_of plan past lpid vid = (guest_after plan lpid past).registers vid
+
+-- what an entry makes of a vCPU's registers
+pub record LeavesRegisters (plan : Plan) (past : List Event) (e : Event) (lpid vid : ℕ) : Type 0 where
+  -- its own step moves it on
+  pub own : (run : Run) → IsStepOf lpid vid run e → Steps e.trace.answer (registers_of plan past lpid vid) (registers_of plan (e ∷ past) lpid vid)
+  -- UV_RETURN that takes it up may interrupt it
+  pub taken : (r0 r2 : ℕ) (outs : List ℕ) → TakesUp lpid vid r0 r2 outs e → IsInterrupted r2 (registers_of plan past lpid vid) (registers_of plan (e ∷ past) lpid vid)
+  -- no other entry changes a register of it
+  pub others :
+      ((run : Run) → IsStepOf lpid vid run e → ⊥) → ((r0 r2 : ℕ) (outs : List ℕ) → TakesUp lpid vid r0 r2 outs e → ⊥) →
+      registers_of plan (e ∷ past) lpid vid ≡ registers_of plan past lpid vid
+  -- no entry that isn't its own step changes one of R0 to R31
+  pub gpr : ((run : Run) → IsStepOf lpid vid run e → ⊥) → (registers_of plan (e ∷ past) lpid vid).gpr ≡ (registers_of plan past lpid vid).gpr
+
+abbrev pub EachEntryLeavesRegisters : Type 0
+EachEntryLeavesRegisters = (plan : Plan) (past : List Event) (e : Event) (lpid vid : ℕ) → Extends plan past e → LeavesRegisters plan past e lpid vid

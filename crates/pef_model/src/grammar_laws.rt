@@ -1,0 +1,23 @@
+//! The laws of the grammar: each is the contract of a function that does nothing.
+
+ghost use Rattle.pef_model.specs.GrammarLaw.{ReadsOne, ReadsScripts, ReadsWhatIsWritten, ReadsWhatCanBeWritten};
+
+/// Each text reads as at most one script.
+pub fn reads_one()
+    ensures { ReadsOne }
+{}
+
+/// What is read is a script.
+pub fn reads_scripts()
+    ensures { ReadsScripts }
+{}
+
+/// The text that is written for commands reads as their script.
+pub fn reads_what_is_written()
+    ensures { ReadsWhatIsWritten }
+{}
+
+/// What is read is the script of commands that can be written.
+pub fn reads_what_can_be_written()
+    ensures { ReadsWhatCanBeWritten }
+{}
