@@ -1,0 +1,9 @@
+pub mod Doublewords
+pub mod Places
+pub mod PagesLemmas
+pub mod Accesses
+pub mod GuestRows
+pub mod Loading
+pub mod StepLemmas
+pub mod RefusedLemmas
+pub mod StartLemmas

@@ -1,0 +1,9 @@
+pub mod Doubleword
+pub mod Pages
+pub mod Loads
+pub mod Shows
+pub mod Rows
+pub mod State
+pub mod Refused
+pub mod Start
+pub mod Steps

@@ -1,0 +1,14 @@
+//! Each step of the machine is the one that the model gives after every history that fits it.
+#![tactic(auto)]
+
+pub mod cpu;
+pub mod doubleword;
+pub mod guest;
+pub mod hypervisor;
+pub mod machine;
+pub mod page;
+pub mod pages;
+pub mod registers;
+pub mod vcpu;
+
+pub use machine::Machine;

@@ -1,0 +1,5 @@
+//! The happy path of each public call, and one call for each refusal.
+#![tactic(auto)]
+
+#[cfg(test)]
+mod machine;
