@@ -1,0 +1,6 @@
+pub mod CutParts
+pub mod Numerals
+pub mod Lines
+pub mod OneWord
+pub mod LineText
+pub mod RunText

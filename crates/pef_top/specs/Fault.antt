@@ -1,0 +1,21 @@
+-- The faults of a run, and their outcomes.
+use Rattle.pef_top.specs.declared.fault.RunFault.{RunFault}
+use Rattle.pef_top.specs.declared.fault.RunFault.TheVariants as fault
+use Rattle.pef_top.specs.declared.input.InputFault.{InputFault}
+use Rattle.pef_top.specs.declared.input.InputFault.TheVariants as input
+use Rattle.pef_top.specs.declared.outcome.RunOutcome.{RunOutcome}
+use Rattle.pef_top.specs.Outcome.{plain, limit_passed}
+
+-- the outcome of a fault
+abbrev pub outcome_of : RunFault → RunOutcome
+outcome_of fault.Script = plain 1
+outcome_of fault.Read = plain 3
+outcome_of fault.Write = plain 4
+outcome_of fault.Memory = plain 5
+outcome_of fault.TooLong = limit_passed
+
+-- a fault of reading as one of the run
+abbrev pub fault_of_input : InputFault → RunFault
+fault_of_input input.Read = fault.Read
+fault_of_input input.TooLong = fault.TooLong
+fault_of_input input.Memory = fault.Memory

@@ -1,0 +1,5 @@
+pub mod Outcome
+pub mod Input
+pub mod Text
+pub mod Fault
+pub mod Top

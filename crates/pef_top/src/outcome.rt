@@ -1,0 +1,53 @@
+//! What a top call came to: a status, and what it says.
+
+ghost use Rattle.std.specs.Prelude.{◌≡◌};
+
+/// The most bytes that a script may have. This project's own.
+pub const SCRIPT_LIMIT: usize = 16_777_216;
+
+/// What a top call came to. A field that the status doesn't use is 0.
+///
+/// | status | comes |
+/// |---|---|
+/// | 0 | done; the input was read to its end |
+/// | 1 | the input is no script |
+/// | 2 | the words are none that the program knows |
+/// | 3 | a read failed |
+/// | 4 | a write failed; what was written is a first part of the text |
+/// | 5 | there was no memory |
+/// | 6 | a limit is passed: `line` is its number, `left` what stood, `right` the limit |
+#[derive(Clone, Copy, Debug, PartialEq, Eq)]
+pub struct RunOutcome {
+    pub status: u8,
+    pub line: u64,
+    pub left: u64,
+    pub right: u64,
+}
+
+impl RunOutcome {
+    ghost use Rattle.pef_top.specs.Outcome.{plain, limit_passed};
+
+    /// A status that says no more.
+    pub(crate) fn plain(status: u8) -> RunOutcome
+        ensures { result ≡ plain status }
+    {
+        RunOutcome {
+            status,
+            line: 0,
+            left: 0,
+            right: 0,
+        }
+    }
+
+    /// Limit 1 is passed: reading stopped one byte past it.
+    pub(crate) fn too_long() -> RunOutcome
+        ensures { result ≡ limit_passed }
+    {
+        RunOutcome {
+            status: 6,
+            line: 1,
+            left: SCRIPT_LIMIT as u64 + 1,
+            right: SCRIPT_LIMIT as u64,
+        }
+    }
+}
