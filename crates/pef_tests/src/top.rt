@@ -1,0 +1,194 @@
+//! A script goes in and its report comes out; what is none goes in, and nothing comes out.
+
+use pef_io::{Failed, MemSink, MemSource, Sink, Source};
+use pef_top::{RunOutcome, SCRIPT_LIMIT, pef_run};
+use std::alloc::{AllocError, Global};
+use std::marker::Model;
+use std::test::Fail;
+
+const STORE_AND_LOAD: &str =
+    "pef 1\nborn 1\nbegin\n0 u.return 0 0\n0 g.li r20 7\n0 g.st r20 0x0\n0 g.ld r6 0x0\n";
+
+const STORE_AND_LOAD_REPORT: &str =
+    "4 0 u.return enter\n5 0 g.li done\n6 0 g.st done\n7 0 g.ld val 0x7\nfree 15\nend\n";
+
+const REFUSED: &str =
+    "pef 1\nborn 1\nbegin\n0 g.ld r6 0x0\n0 u.return 0 0\n0 g.ld r6 0x4\n0 g.ld r6 0x100000\n0 g.st r6 0xffff8\n0 g.ld r6 0xffff8\n0 u.return 0 0\n0 g.li r7 18446744073709551615\n0 g.st r7 65536\n0 g.ld r8 0x10000\n";
+
+const REFUSED_REPORT: &str =
+    "4 0 g.ld context\n5 0 u.return enter\n6 0 g.ld hole\n7 0 g.ld hole\n8 0 g.st done\n9 0 g.ld val 0x0\n10 0 u.return ret U_INVALID\n11 0 g.li done\n12 0 g.st done\n13 0 g.ld val 0xffffffffffffffff\nfree 14\nend\n";
+
+/// A source that gives one byte a read, and doesn't tell its bytes.
+#[derive(Drop)]
+struct ByteSource {
+    source: MemSource,
+}
+
+impl Model for ByteSource {
+    ghost use Rattle.std.specs.Prelude.{ℕ};
+
+    ghost Value = { ℕ };
+
+    ghost view = { λ s. s.source.faults };
+}
+
+impl Source for ByteSource {
+    ghost use Rattle.std.specs.Prelude.{None};
+
+    ghost left = { λ s. None };
+
+    ghost faults = { λ s. s };
+
+    fn read(&mut self, buf: &mut [u8]) -> Result<usize, Failed> {
+        let count = buf.len().min(1);
+        self.source.read(&mut buf[..count])
+    }
+}
+
+/// The numbers of the calls that fail: one, or none.
+fn fails(alloc: Global, number: Option<u64>) -> Result<Vec<u64>, AllocError> {
+    let mut fails = Vec::new(alloc);
+    if let Some(number) = number {
+        fails.push(number)?;
+    }
+    Ok(fails)
+}
+
+/// A top call with the words that a space separates.
+fn call<S: Source, K: Sink>(
+    alloc: Global,
+    words: &str,
+    source: &mut S,
+    sink: &mut K,
+) -> Result<RunOutcome, Fail> {
+    let mut list = Vec::new(alloc);
+    for word in words.split_whitespace() {
+        list.push(String::from_str(alloc, word)?)?;
+    }
+    Ok(pef_run(alloc, &list, source, sink))
+}
+
+#[test]
+fn each_input_has_its_status_and_what_is_refused_writes_nothing(
+    rt: HostRuntime,
+) -> Result<(), Fail> {
+    let alloc = rt.alloc();
+    for (words, text, bad_read, bad_write, status) in [
+        ("run", STORE_AND_LOAD, None, None, 0u8),
+        ("run", "", None, None, 1),
+        ("run", "pef 1\nborn 1\n", None, None, 1),
+        ("run", "pef 1\nborn 1\n0 u.return 0 0\n", None, None, 1),
+        ("run", "pef 2\nborn 1\nbegin\n", None, None, 1),
+        ("run", "pef 1\nborn 1\nbegin\n0 g.add r1 2\n", None, None, 1),
+        ("run", "pef 1\nborn 1\nbegin\n0 g.li r32 7\n", None, None, 1),
+        (
+            "run",
+            "pef 1\nborn 1\nbegin\n0 g.li r2 18446744073709551616\n",
+            None,
+            None,
+            1,
+        ),
+        (
+            "run",
+            "pef 1\nborn 1\nbegin\n0 g.li r2 0x10000000000000000\n",
+            None,
+            None,
+            1,
+        ),
+        (
+            "run",
+            "pef 1\nborn 1\nbegin\n0\tg.li r20 7\n",
+            None,
+            None,
+            1,
+        ),
+        (
+            "run",
+            "pef 1\nborn 1\nbegin\n0 g.li  r20 7\n",
+            None,
+            None,
+            1,
+        ),
+        (
+            "run",
+            "pef 1\nborn 1\nbegin\n0 g.li r20 7 \n",
+            None,
+            None,
+            1,
+        ),
+        ("run", "pef 1\nborn 1\nbegin\n0 g.li r20 7", None, None, 1),
+        ("run", "pef 1\nborn 1\nbegin\n\n", None, None, 1),
+        ("run", "pef 1\nborn 1\nbegin\n1 g.li r20 7\n", None, None, 1),
+        ("", STORE_AND_LOAD, None, None, 2),
+        ("run run", STORE_AND_LOAD, None, None, 2),
+        ("--help", STORE_AND_LOAD, None, None, 2),
+        ("--help", "", Some(0), Some(0), 2),
+        ("run", STORE_AND_LOAD, Some(0), None, 3),
+        ("run", "", Some(0), Some(0), 3),
+        ("run", "", None, Some(0), 1),
+        ("run", STORE_AND_LOAD, None, Some(0), 4),
+    ] {
+        let mut source = MemSource::build(text.as_bytes().to_vec(alloc)?, fails(alloc, bad_read)?);
+        let mut sink = MemSink::build(alloc, 100, fails(alloc, bad_write)?)?;
+        let outcome = call(alloc, words, &mut source, &mut sink)?;
+        let want = RunOutcome {
+            status,
+            line: 0,
+            left: 0,
+            right: 0,
+        };
+        assert_eq!(rt; outcome, want, "{words:?} {text:?}");
+        let report = if status == 0 {
+            STORE_AND_LOAD_REPORT
+        } else {
+            ""
+        };
+        assert_eq!(rt; sink.bytes(), report.as_bytes(), "{words:?} {text:?}");
+    }
+    Ok(())
+}
+
+#[test]
+fn a_source_may_give_a_byte_a_read(rt: HostRuntime) -> Result<(), Fail> {
+    let alloc = rt.alloc();
+    for (text, report) in [
+        (STORE_AND_LOAD, STORE_AND_LOAD_REPORT),
+        (REFUSED, REFUSED_REPORT),
+    ] {
+        let mut source = ByteSource {
+            source: MemSource::build(text.as_bytes().to_vec(alloc)?, Vec::new(alloc)),
+        };
+        let mut sink = MemSink::build(alloc, 1000, Vec::new(alloc))?;
+        assert_eq!(rt; call(alloc, "run", &mut source, &mut sink)?.status, 0);
+        assert_eq!(rt; sink.bytes(), report.as_bytes());
+    }
+    Ok(())
+}
+
+#[test]
+fn a_report_that_does_not_fit_is_cut(rt: HostRuntime) -> Result<(), Fail> {
+    let alloc = rt.alloc();
+    let mut source = MemSource::build(STORE_AND_LOAD.as_bytes().to_vec(alloc)?, Vec::new(alloc));
+    let mut sink = MemSink::build(alloc, 10, Vec::new(alloc))?;
+    assert_eq!(rt; call(alloc, "run", &mut source, &mut sink)?.status, 4);
+    assert_eq!(rt; sink.bytes(), b"4 0 u.retu".as_slice());
+    Ok(())
+}
+
+#[test]
+fn a_script_past_the_limit_is_read_one_byte_past_it(rt: HostRuntime) -> Result<(), Fail> {
+    let alloc = rt.alloc();
+    let mut source = MemSource::build(vec![in alloc; b'\n'; SCRIPT_LIMIT + 10]?, Vec::new(alloc));
+    let mut sink = MemSink::build(alloc, 10, Vec::new(alloc))?;
+    let want = RunOutcome {
+        status: 6,
+        line: 1,
+        left: 16_777_217,
+        right: 16_777_216,
+    };
+    assert_eq!(rt; call(alloc, "run", &mut source, &mut sink)?, want);
+    assert!(rt; sink.bytes().is_empty());
+    let mut rest = [0; 20];
+    assert_eq!(rt; source.read(&mut rest), Ok(9));
+    Ok(())
+}
