@@ -7,8 +7,8 @@ use Rattle.pef_model.specs.declared.state.Kind.{Kind}
 use Rattle.pef_model.specs.declared.state.Kind.TheVariants as kind
 use Rattle.pef_model.specs.declared.state.Regs.{Regs}
 use Rattle.pef_model.specs.Plan.{Plan}
-use Rattle.pef_model.specs.Guest.{Page, page_of, is_invalid, secured}
-use Rattle.pef_model.specs.Private.{Guest}
+use Rattle.pef_model.specs.GuestPart.{Page, page_of, is_invalid, with_secure_page}
+use Rattle.pef_model.specs.Guest.{Guest}
 use Rattle.pef_model.specs.Deed.{Reach, NoPage, InFrame, Backs, NoFrame, reach_of, reach}
 use Rattle.pef_model.proofs.Folds.{same_test}
 use Rattle.pef_model.proofs.Rows.{with_access, with_store, private_doubleword-access, private_doubleword-store}
@@ -79,13 +79,13 @@ pub shows_in_frame : (plan : Plan) (pages : PagesState) (g : Guest) (at : ℕ) (
 shows_in_frame plan pages g at registers shows is_it = record {
   shift = shows.shift;
   count = shows.count;
-  kinds = λ gfn below. shows.kinds gfn below ∙ sym (ap (λ (b : Bool). ((if b then secured g.part (page_of plan at) else g.part).pages gfn).kind) is_it);
+  kinds = λ gfn below. shows.kinds gfn below ∙ sym (ap (λ (b : Bool). ((if b then with_secure_page g.part (page_of plan at) else g.part).pages gfn).kind) is_it);
   doublewords = λ gpa aligned below. shows.doublewords gpa aligned below ∙ sym (private_doubleword-access plan g at gpa registers);
 }
 
 -- the kind of a page after another one became Secure
 kind_with : (plan : Plan) (pages : PagesState) (g : Guest) (p gfn : ℕ) → ShowsPages plan pages g → p < length pages.pages → gfn < plan.pages → (gfn ≡ p) ⊎ (gfn ≢ p) →
-    (page_at (with_page pages p (zeroed (page_at pages p))) gfn).kind ≡ ((secured g.part p).pages gfn).kind
+    (page_at (with_page pages p (zeroed (page_at pages p))) gfn).kind ≡ ((with_secure_page g.part p).pages gfn).kind
 kind_with plan pages g p gfn shows below within (inl same) =
     let test : (gfn == p) ≡ true = ap (λ (n : ℕ). gfn == n) (sym same) ∙ same_test gfn in
     ap (λ (n : ℕ). (page_at (with_page pages p (zeroed (page_at pages p))) n).kind) same
@@ -104,8 +104,8 @@ shows_backed plan pages g at p registers shows page below is_it is_too = record 
   shift = shows.shift;
   count = length-set pages.pages p (zeroed (page_at pages p)) ∙ shows.count;
   kinds = λ gfn within. kind_with plan pages g p gfn shows below within (cases_eq gfn p)
-      ∙ ap (λ (n : ℕ). ((secured g.part n).pages gfn).kind) (sym page)
-      ∙ sym (ap (λ (b : Bool). ((if b then secured g.part (page_of plan at) else g.part).pages gfn).kind) is_too);
+      ∙ ap (λ (n : ℕ). ((with_secure_page g.part n).pages gfn).kind) (sym page)
+      ∙ sym (ap (λ (b : Bool). ((if b then with_secure_page g.part (page_of plan at) else g.part).pages gfn).kind) is_too);
   doublewords = λ gpa aligned within. shown_at-backed pages p gpa below is_it ∙ shows.doublewords gpa aligned within ∙ sym (private_doubleword-access plan g at gpa registers);
 }
 

@@ -7,8 +7,8 @@ use Rattle.pef_model.specs.declared.entry.Answer.TheVariants.{Done, Val}
 use Rattle.pef_model.specs.Plan.{Plan}
 use Rattle.pef_model.specs.Event.{Mark}
 use Rattle.pef_model.specs.Target.{Ask}
-use Rattle.pef_model.specs.Guest.{GuestPart, page_of, is_invalid, secured, accessed, put}
-use Rattle.pef_model.specs.Private.{Guest as GuestWhole, private_doubleword, stepped}
+use Rattle.pef_model.specs.GuestPart.{GuestPart, page_of, is_invalid, with_secure_page, with_page_backed, put}
+use Rattle.pef_model.specs.Guest.{Guest as GuestWhole, private_doubleword, at_next_instruction}
 use Rattle.pef_model.specs.Deed.{Reach, NoPage, InFrame, Backs, NoFrame, deed_access}
 use Rattle.pef_model.specs.History.{entry_of}
 use Rattle.pef_model.proofs.Rows.{with_access, with_store, private_doubleword-access}
@@ -22,7 +22,7 @@ use Rattle.pef_core.proofs.PagesLemmas.{with_stored, shown_by-in_frame}
 use Rattle.pef_core.proofs.Accesses.{reach_at-shown, Found, found, valid_after, shows_access, shows_stored}
 
 -- what a page that becomes Secure leaves, an access leaves
-kept : {X : Type 0} (f : GuestPart → X) (part : GuestPart) (gfn : ℕ) (b : Bool) → f (secured part gfn) ≡ f part → f (if b then secured part gfn else part) ≡ f part
+kept : {X : Type 0} (f : GuestPart → X) (part : GuestPart) (gfn : ℕ) (b : Bool) → f (with_secure_page part gfn) ≡ f part → f (if b then with_secure_page part gfn else part) ≡ f part
 kept f part gfn true e = e
 kept f part gfn false e = refl
 
@@ -32,8 +32,8 @@ with_both guest pages regs = record { phase = guest.phase; generation = guest.ge
 
 -- the guest after an access shows the one of the model, once its pages and registers do
 shows_both : (plan : Plan) (guest : Guest) (g : GuestWhole) (gpa : ℕ) (content : ℕ → ℕ) (registers : ℕ → Regs) (pages : PagesState) (regs : Regs) → Shows plan guest g → regs ≡ registers 0 →
-    ShowsPages plan pages (record { part = accessed g.part (page_of plan gpa); content = content; registers = registers }) →
-    Shows plan (with_both guest pages regs) (record { part = accessed g.part (page_of plan gpa); content = content; registers = registers })
+    ShowsPages plan pages (record { part = with_page_backed g.part (page_of plan gpa); content = content; registers = registers }) →
+    Shows plan (with_both guest pages regs) (record { part = with_page_backed g.part (page_of plan gpa); content = content; registers = registers })
 shows_both plan guest g gpa content registers pages regs shows same shows_pages =
     let p : ℕ = page_of plan gpa in
     let b : Bool = is_invalid (g.part.pages p) in
@@ -73,21 +73,21 @@ given_place false p q e = cc
 -- a load that is done
 module _ (old : Guest) (free rd gpa value free_new : ℕ) (pages_new : PagesState) (regs : Regs)
     (read : value ≡ doubleword (page_at pages_new (gfn_of old.pages gpa)).bytes (gpa % 2 ^ old.pages.shift))
-    (assigned : regs ≡ stepped old.vcpu.regs (slice_set old.vcpu.regs.gpr rd value)) where
+    (assigned : regs ≡ at_next_instruction old.vcpu.regs (slice_set old.vcpu.regs.gpr rd value)) where
   module _ (r : Reach) (e : is_in_frame r ≡ true) (f : Found old.pages gpa free r) (pages : pages_new ≡ pages_after old.pages (gfn_of old.pages gpa) r) (plan : Plan) (g : GuestWhole) (shows : Shows plan old g) where
     loaded : value ≡ private_doubleword plan g gpa
     loaded = loaded_value plan old.pages pages_new g gpa free value r g.registers e f shows.pages pages read
 
     after_load : ℕ → Regs
-    after_load = put g.registers 0 (stepped (g.registers 0) (slice_set (g.registers 0).gpr rd (private_doubleword plan g gpa)))
+    after_load = put g.registers 0 (at_next_instruction (g.registers 0) (slice_set (g.registers 0).gpr rd (private_doubleword plan g gpa)))
 
     loads : Shows plan (with_both old pages_new regs) (with_access plan g gpa after_load)
     unfolding after_load
     loads =
         let same : regs ≡ after_load 0 =
         assigned
-        ∙ ap (λ (x : Regs). stepped x (slice_set x.gpr rd value)) shows.vcpu.registers
-        ∙ ap (λ (v : ℕ). stepped (g.registers 0) (slice_set (g.registers 0).gpr rd v)) loaded in
+        ∙ ap (λ (x : Regs). at_next_instruction x (slice_set x.gpr rd value)) shows.vcpu.registers
+        ∙ ap (λ (v : ℕ). at_next_instruction (g.registers 0) (slice_set (g.registers 0).gpr rd v)) loaded in
         shows_both plan old g gpa (with_access plan g gpa after_load).content after_load pages_new regs shows same
         (subst (λ (x : PagesState). ShowsPages plan x (with_access plan g gpa after_load)) (sym pages) (shows_access plan old.pages g gpa free r after_load e f shows.pages))
 
@@ -121,18 +121,18 @@ module _ (old : Guest) (free rd gpa value free_new : ℕ) (pages_new : PagesStat
 module _ (old : Guest) (free rs gpa value free_new : ℕ) (pages_new pages_end : PagesState) (regs : Regs) (whole : AreWhole pages_new) (small : value < 2 ^ 64)
     (read : value ≡ slice_index old.vcpu.regs.gpr rs)
     (put_there : pages_end ≡ with_page pages_new (gfn_of old.pages gpa) (with_value (page_at pages_new (gfn_of old.pages gpa)) (gpa % 2 ^ old.pages.shift) value))
-    (moved : regs ≡ stepped old.vcpu.regs old.vcpu.regs.gpr) where
+    (moved : regs ≡ at_next_instruction old.vcpu.regs old.vcpu.regs.gpr) where
   module _ (r : Reach) (e : is_in_frame r ≡ true) (f : Found old.pages gpa free r) (pages : pages_new ≡ pages_after old.pages (gfn_of old.pages gpa) r) (plan : Plan) (g : GuestWhole) (shows : Shows plan old g) where
     stored : value ≡ slice_index (g.registers 0).gpr rs
     stored = read ∙ ap (λ (x : Regs). slice_index x.gpr rs) shows.vcpu.registers
 
     after_store : ℕ → Regs
-    after_store = put g.registers 0 (stepped (g.registers 0) (g.registers 0).gpr)
+    after_store = put g.registers 0 (at_next_instruction (g.registers 0) (g.registers 0).gpr)
 
     stores : Shows plan (with_both old pages_end regs) (with_store plan g gpa (slice_index (g.registers 0).gpr rs) after_store)
     unfolding after_store
     stores =
-        let same : regs ≡ after_store 0 = moved ∙ ap (λ (x : Regs). stepped x x.gpr) shows.vcpu.registers in
+        let same : regs ≡ after_store 0 = moved ∙ ap (λ (x : Regs). at_next_instruction x x.gpr) shows.vcpu.registers in
         let reached : ShowsPages plan pages_new (with_access plan g gpa after_store) =
         subst (λ (x : PagesState). ShowsPages plan x (with_access plan g gpa after_store)) (sym pages) (shows_access plan old.pages g gpa free r after_store e f shows.pages) in
         let shift : old.pages.shift ≡ pages_new.shift = shows.pages.shift ∙ sym reached.shift in

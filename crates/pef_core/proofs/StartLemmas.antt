@@ -6,8 +6,8 @@ use Rattle.pef_model.specs.declared.entry.Answer.TheVariants as answer
 use Rattle.pef_model.specs.declared.config.Config.{Config}
 use Rattle.pef_model.specs.Plan.{Plan, plan_of}
 use Rattle.pef_model.specs.Registers.{zero_registers, fresh_registers}
-use Rattle.pef_model.specs.Guest.{page_of, start_part_of}
-use Rattle.pef_model.specs.Private.{Guest as GuestWhole}
+use Rattle.pef_model.specs.GuestPart.{page_of, start_part_of}
+use Rattle.pef_model.specs.Guest.{Guest as GuestWhole}
 use Rattle.pef_core.specs.Pages.{PageState, page_at, invalid_page, invalid_pages, shown_by}
 use Rattle.pef_core.specs.Shows.{ShowsPages, Shows}
 use Rattle.pef_core.specs.Start.{start_of, HasOneOfEach}

@@ -15,9 +15,9 @@ use Rattle.pef_model.specs.Event.{Event, Mark}
 use Rattle.pef_model.specs.Registers.{zero_registers}
 use Rattle.pef_model.specs.Target.{Ask}
 use Rattle.pef_model.specs.Cpu.{CpuPart, cpu_after_guest}
-use Rattle.pef_model.specs.Guest.{GuestPart}
-use Rattle.pef_model.specs.Private.{Guest as GuestWhole, next_guest, private_doubleword}
-use Rattle.pef_model.specs.Memory.{pooled}
+use Rattle.pef_model.specs.GuestPart.{GuestPart}
+use Rattle.pef_model.specs.Guest.{Guest as GuestWhole, next_guest, private_doubleword}
+use Rattle.pef_model.specs.Memory.{pool_with}
 use Rattle.pef_model.specs.Deed.{Deed, Reach, NoPage, InFrame, Backs, NoFrame, reach, may_return_in, is_waiting, answering, deed_access, deed_running, deed_gone, deed_hypervisor}
 use Rattle.pef_model.specs.History.{cpu_after, guest_after, pool_after, ask_of, entry_of, next_entry_by, next_entry}
 use Rattle.pef_core.specs.declared.cpu.Cpu.{Cpu}
@@ -28,7 +28,7 @@ use Rattle.pef_core.specs.State.{State, RunsFirst, IsWhole}
 use Rattle.pef_core.specs.Steps.{Fits, Makes, Continues}
 
 -- the number of free frames after an entry, whether it touched the pool or not
-pool_after_entry : (free : ℕ) (saw : Option PoolSaw) → (if is_some saw then pooled free saw else free) ≡ pooled free saw
+pool_after_entry : (free : ℕ) (saw : Option PoolSaw) → (if is_some saw then pool_with free saw else free) ≡ pool_with free saw
 pool_after_entry free None = refl
 pool_after_entry free (Some saw) = refl
 
@@ -41,7 +41,7 @@ made : (plan : Plan) (old new : State) (past : List Event) (line place stamp : �
     next_entry plan past (mark_at line place stamp) cmd ≡ entry_of ask (mark_at line place stamp) cmd deed → answer ≡ deed.answer →
     ShowsCpu new.cpu (cpu_after plan 0 (entry_of ask (mark_at line place stamp) cmd deed ∷ past)) →
     Shows plan new.guest (guest_after plan 1 (entry_of ask (mark_at line place stamp) cmd deed ∷ past)) →
-    new.free ≡ pooled (pool_after plan past) deed.pool →
+    new.free ≡ pool_with (pool_after plan past) deed.pool →
     Makes plan new past (next_entry plan past (mark_at line place stamp) cmd) answer
 made plan old new past line place stamp cmd answer ask deed fits is answered cpu guest free =
     let e : Event = entry_of ask (mark_at line place stamp) cmd deed in
@@ -99,7 +99,7 @@ hypervisor_continues old new cmd answer is same does plan past line place stamp 
     ap (λ (ask : Ask). next_entry_by plan past ask mark cmd) (ask_is old.cpu (cpu_after plan 0 past) ctx.Hv fits.cpu is.ctx is.lpid is.vid)
     ∙ hypervisor_entry plan past old.cpu.last mark cmd in
     made plan old new past line place stamp cmd answer ask (deed_hypervisor g.part ask cmd) fits entry row.answered row.cpu row.guest
-    (same ∙ fits.free ∙ sym (ap (pooled (pool_after plan past)) (unasked g.part ask cmd)))
+    (same ∙ fits.free ∙ sym (ap (pool_with (pool_after plan past)) (unasked g.part ask cmd)))
 
 -- a guest that runs on stays on its CPU
 access_stays : (c : CpuPart) (ask : Ask) (success : Answer) (r : Reach) → cpu_after_guest c success ≡ c → cpu_after_guest c (deed_access ask success r).answer ≡ c
@@ -133,7 +133,7 @@ running_continues old new generation cmd answer is first_guest first_vcpu curren
     made plan old new past line place stamp cmd answer ask (deed_running plan g any ask cmd) fits entry row.answered
     (subst (λ (x : CpuPart). ShowsCpu new.cpu x) (sym (running_stays plan c g any ask cmd)) (subst (λ (x : Cpu). ShowsCpu x c) (sym same) fits.cpu))
     row.guest
-    (row.free ∙ ap (λ (n : ℕ). pooled n (deed_running plan g any ask cmd).pool) fits.free)
+    (row.free ∙ ap (λ (n : ℕ). pool_with n (deed_running plan g any ask cmd).pool) fits.free)
 
 -- a guest that has ended stays as it is
 gone_leaves : (plan : Plan) (guest : Guest) (g : GuestWhole) (generation : ℕ) (last : Answer) (mark : Mark) (cmd : Cmd) → Shows plan guest g →

@@ -3,7 +3,7 @@ use Rattle.std.specs.Prelude.{◌≡◌, ℕ, ◌+◌, ◌-◌, ◌/◌, ◌%◌
 use Rattle.pef_model.specs.declared.state.Kind.{Kind}
 use Rattle.pef_model.specs.declared.state.Kind.TheVariants as kind
 use Rattle.pef_model.specs.Plan.{IsWithin}
-use Rattle.pef_model.specs.Guest.{is_invalid}
+use Rattle.pef_model.specs.GuestPart.{is_invalid}
 use Rattle.pef_model.specs.Deed.{Reach, NoPage, InFrame, Backs, NoFrame, reach_of}
 use Rattle.pef_core.specs.declared.pages.Place.{Place}
 use Rattle.pef_core.specs.Doubleword.{doubleword, with_doubleword}

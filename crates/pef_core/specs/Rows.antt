@@ -7,9 +7,9 @@ use Rattle.pef_model.specs.Plan.{Plan}
 use Rattle.pef_model.specs.Event.{Event, Mark}
 use Rattle.pef_model.specs.Target.{Ask, touches_guest}
 use Rattle.pef_model.specs.Cpu.{CpuPart, next_cpu}
-use Rattle.pef_model.specs.Guest.{GuestPart}
-use Rattle.pef_model.specs.Private.{Guest as GuestWhole, next_guest}
-use Rattle.pef_model.specs.Memory.{pooled}
+use Rattle.pef_model.specs.GuestPart.{GuestPart}
+use Rattle.pef_model.specs.Guest.{Guest as GuestWhole, next_guest}
+use Rattle.pef_model.specs.Memory.{pool_with}
 use Rattle.pef_model.specs.Deed.{deed_running, deed_hypervisor}
 use Rattle.pef_model.specs.History.{entry_of}
 use Rattle.pef_core.specs.declared.cpu.Cpu.{Cpu}
@@ -40,7 +40,7 @@ guest_after_entry plan g e = if touches_guest 1 e then next_guest plan g e else 
 pub record RowRunning (plan : Plan) (g : GuestWhole) (e : Event) (new : Guest) (free_old free_new : ℕ) (answer : Answer) : Type 0 where
   pub answered : answer ≡ e.trace.answer
   pub guest : Shows plan new (next_guest plan g e)
-  pub free : free_new ≡ pooled free_old e.saw.pool
+  pub free : free_new ≡ pool_with free_old e.saw.pool
 
 -- a guest does a command of its own, whatever guest of the model it shows
 abbrev pub DoesCommand : Cmd → Guest → Guest → ℕ → ℕ → Answer → Type 0

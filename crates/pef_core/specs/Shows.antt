@@ -3,8 +3,8 @@ use Rattle.std.specs.Prelude.{◌≡◌, ℕ, ◌%◌, ◌<◌, length}
 use Rattle.pef_model.specs.declared.state.Regs.{Regs}
 use Rattle.pef_model.specs.Plan.{Plan}
 use Rattle.pef_model.specs.Cpu.{CpuPart}
-use Rattle.pef_model.specs.Guest.{VcpuPart, page_of}
-use Rattle.pef_model.specs.Private.{Guest as GuestWhole, private_doubleword}
+use Rattle.pef_model.specs.GuestPart.{VcpuPart, page_of}
+use Rattle.pef_model.specs.Guest.{Guest as GuestWhole, private_doubleword}
 use Rattle.pef_core.specs.declared.cpu.Cpu.{Cpu}
 use Rattle.pef_core.specs.declared.vcpu.Vcpu.{Vcpu}
 use Rattle.pef_core.specs.declared.guest.Guest.{Guest}

@@ -2,7 +2,7 @@
 
 ghost use Rattle.std.specs.Prelude.{◌≡◌, ◌≢◌, ℕ, slice_index, slice_set};
 ghost use Rattle.pef_model.specs.Registers.{load_return, with_code, number_of};
-ghost use Rattle.pef_model.specs.Private.{stepped, interrupted};
+ghost use Rattle.pef_model.specs.Guest.{at_next_instruction, entered_at};
 ghost use Rattle.pef_core.specs.Loads.{LoadsCall};
 
 use pef_model::{Code, Reg, Regs, UV_RETURN};
@@ -37,14 +37,14 @@ pub fn give_code(gpr: &mut [u64; 32], code: Code)
 
 /// Moves on to the next instruction.
 pub fn move_on(regs: &mut Regs)
-    ensures { regs.new ≡ stepped regs.old regs.old.gpr }
+    ensures { regs.new ≡ at_next_instruction regs.old regs.old.gpr }
 {
     regs.nip = regs.nip.wrapping_add(4);
 }
 
 /// Puts a value into a register, and moves on to the next instruction.
 pub fn assign(regs: &mut Regs, rd: Reg, value: u64)
-    ensures { regs.new ≡ stepped regs.old (slice_set regs.old.gpr rd value) }
+    ensures { regs.new ≡ at_next_instruction regs.old (slice_set regs.old.gpr rd value) }
 {
     regs.gpr[rd.number() as usize] = value;
     move_on(regs);
@@ -52,7 +52,7 @@ pub fn assign(regs: &mut Regs, rd: Reg, value: u64)
 
 /// Goes on at the address of a synthesized interrupt, and keeps in SRR0 where the vCPU was; at 0 there is none.
 pub fn interrupt(regs: &mut Regs, r2: u64)
-    ensures { regs.new ≡ interrupted regs.old r2 }
+    ensures { regs.new ≡ entered_at regs.old r2 }
 {
     if r2 != 0 {
         regs.srr0 = regs.nip;

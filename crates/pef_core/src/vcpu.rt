@@ -2,7 +2,7 @@
 
 ghost use Rattle.std.specs.Prelude.{◌≡◌};
 ghost use Rattle.pef_model.specs.Registers.{fresh_registers};
-ghost use Rattle.pef_model.specs.Private.{interrupted};
+ghost use Rattle.pef_model.specs.Guest.{entered_at};
 ghost use Rattle.pef_model.specs.Deed.{is_waiting};
 
 use crate::registers;
@@ -45,7 +45,7 @@ impl Vcpu {
 
     /// Runs from now on, on this CPU and in this generation of its guest; at R2's address, where that isn't 0.
     pub fn take_up(&mut self, cpu: u8, generation: u64, r2: u64)
-        ensures { self.new ≡ record { state = VState.Running cpu; generation = generation; regs = interrupted self.old.regs r2 } }
+        ensures { self.new ≡ record { state = VState.Running cpu; generation = generation; regs = entered_at self.old.regs r2 } }
     {
         self.state = VState::Running(cpu);
         self.generation = generation;

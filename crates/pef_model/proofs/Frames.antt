@@ -14,9 +14,9 @@ use Rattle.pef_model.specs.Plan.{Plan}
 use Rattle.pef_model.specs.Event.{Event}
 use Rattle.pef_model.specs.Target.{Ask, AtGuest, target_in, is_guest, touches_cpu, touches_guest}
 use Rattle.pef_model.specs.Cpu.{CpuPart, start_cpu, next_cpu}
-use Rattle.pef_model.specs.Guest.{GuestPart, start_part_of, page_of, has_place, is_invalid, secured, accessed, part_after_access, part_after_guest, part_after_return}
-use Rattle.pef_model.specs.Private.{Guest, start_guest, next_guest, private_doubleword}
-use Rattle.pef_model.specs.Memory.{pooled}
+use Rattle.pef_model.specs.GuestPart.{GuestPart, start_part_of, page_of, has_place, is_invalid, with_secure_page, with_page_backed, part_after_access, part_after_guest, part_after_return}
+use Rattle.pef_model.specs.Guest.{Guest, start_guest, next_guest, private_doubleword}
+use Rattle.pef_model.specs.Memory.{pool_with}
 use Rattle.pef_model.specs.Deed.{Deed, Reach, NoPage, answering, deed_return, deed_access, deed_running, deed_gone, reach, reach_of, may_return_in, is_waiting}
 use Rattle.pef_model.specs.History.{cpu_after, guest_after, pool_after, deed_after, IsLegal}
 use Rattle.pef_model.specs.CountLaw.{part_after, secure_pages, sum_to, FramesAreCounted}
@@ -95,9 +95,9 @@ other_guests plan (e ∷ past) lpid legal other = by_test (other_guests plan pas
 
 -- a step takes as many frames as it makes pages Secure
 abbrev Balances : ℕ → Option PoolSaw → GuestPart → GuestPart → Type 0
-Balances free pool old new = pooled free pool + length new.order ≡ free + length old.order
+Balances free pool old new = pool_with free pool + length new.order ≡ free + length old.order
 
-access_balances : (plan : Plan) (g : GuestPart) (free : ℕ) (ask : Ask) (success : Answer) (gpa : ℕ) → part_after_access g (page_of plan gpa) success ≡ accessed g (page_of plan gpa) →
+access_balances : (plan : Plan) (g : GuestPart) (free : ℕ) (ask : Ask) (success : Answer) (gpa : ℕ) → part_after_access g (page_of plan gpa) success ≡ with_page_backed g (page_of plan gpa) →
     let deed : Deed = deed_access ask success (reach plan g (nat_lt 0 free) gpa) in
     Balances free deed.pool g (part_after_access g (page_of plan gpa) deed.answer)
 access_balances plan g free ask success gpa access = by_place (has_place plan gpa) where
@@ -110,7 +110,7 @@ access_balances plan g free ask success gpa access = by_place (has_place plan gp
   by_any : is_invalid (g.pages gfn) ≡ true → (any : Bool) → nat_lt 0 free ≡ any → At (reach_of true any)
   by_any k true t =
       let some : 0 < free = grind (arith, nat_tests) in
-      let more : (part_after_access g gfn success).order ≡ g.order ++ gfn ∷ [] = ap (λ (x : GuestPart). x.order) access ∙ ap (λ (b : Bool). (if b then secured g gfn else g).order) k in
+      let more : (part_after_access g gfn success).order ≡ g.order ++ gfn ∷ [] = ap (λ (x : GuestPart). x.order) access ∙ ap (λ (b : Bool). (if b then with_secure_page g gfn else g).order) k in
       let longer : length (part_after_access g gfn success).order ≡ length g.order + 1 = ap length more ∙ length-append g.order (gfn ∷ []) in
       omega arith
   by_any k false t = omega arith
@@ -118,7 +118,7 @@ access_balances plan g free ask success gpa access = by_place (has_place plan gp
   by_kind : (b : Bool) → is_invalid (g.pages gfn) ≡ b → At (reach_of b (nat_lt 0 free))
   by_kind true k = by_any k (nat_lt 0 free) refl
   by_kind false k =
-      let same : (part_after_access g gfn success).order ≡ g.order = ap (λ (x : GuestPart). x.order) access ∙ ap (λ (b : Bool). (if b then secured g gfn else g).order) k in
+      let same : (part_after_access g gfn success).order ≡ g.order = ap (λ (x : GuestPart). x.order) access ∙ ap (λ (b : Bool). (if b then with_secure_page g gfn else g).order) k in
       ap (λ (xs : List ℕ). free + length xs) same
 
   by_place : (b : Bool) → At (if b then reach_of (is_invalid (g.pages gfn)) (nat_lt 0 free) else NoPage)
@@ -202,7 +202,7 @@ entry_balances plan past e legal =
     (sym (selects_first plan past e.trace.cpu))
     (deed_balances plan past cpu.ctx cpu.vid e.trace.cpu cpu.last e.trace.cmd (first_runs plan past e.trace.cpu legal.1))))
 
-pool_is : (free : ℕ) (pool : Option PoolSaw) → (if is_some pool then pooled free pool else free) ≡ pooled free pool
+pool_is : (free : ℕ) (pool : Option PoolSaw) → (if is_some pool then pool_with free pool else free) ≡ pool_with free pool
 pool_is free None = refl
 pool_is free (Some saw) = refl
 

@@ -11,7 +11,7 @@ use Rattle.pef_model.specs.declared.entry.Answer.TheVariants.{Done, Val, Ret, En
 use Rattle.pef_model.specs.Plan.{Plan}
 use Rattle.pef_model.specs.Event.{Event}
 use Rattle.pef_model.specs.Target.{target_in, is_guest, touches_guest}
-use Rattle.pef_model.specs.Private.{Guest, next_guest, registers_after_command, registers_after_in, interrupted}
+use Rattle.pef_model.specs.Guest.{Guest, next_guest, registers_after_command, registers_after_in, entered_at}
 use Rattle.pef_model.specs.History.{guest_after}
 use Rattle.pef_model.specs.StepLaw.{Steps, IsInterrupted, IsStepOf, TakesUp, registers_of, EachEntryLeavesRegisters}
 use Rattle.pef_model.proofs.Folds.{same_test, test_same}
@@ -55,10 +55,10 @@ own_registers run l v cmd a registers lpid vid here this =
     (rw (same_test run.lpid, same_test run.vid) refl))
 
 taken_registers : (r0 r2 : ℕ) (outs : List ℕ) (registers : ℕ → Regs) (lpid vid : ℕ) →
-    registers_by ctx.Hv lpid vid (UReturn r0 r2 outs) Enter registers lpid vid ≡ interrupted (registers vid) r2
+    registers_by ctx.Hv lpid vid (UReturn r0 r2 outs) Enter registers lpid vid ≡ entered_at (registers vid) r2
 taken_registers r0 r2 outs registers lpid vid = rw (same_test lpid, same_test vid) refl
 
-is_interrupted : (regs : Regs) (r2 : ℕ) → IsInterrupted r2 regs (interrupted regs r2)
+is_interrupted : (regs : Regs) (r2 : ℕ) → IsInterrupted r2 regs (entered_at regs r2)
 is_interrupted regs r2 = record { nip = nip (r2 == 0); srr0 = srr0 (r2 == 0) } where
   nip : (b : Bool) → (if b then regs else record regs { nip = r2; srr0 = regs.nip }).nip ≡ (if b then regs.nip else r2)
   nip true = refl
@@ -82,7 +82,7 @@ others_stay : (c : Ctx) (l v : ℕ) (cmd : Cmd) (a : Answer) (registers : ℕ �
     ((r0 r2 : ℕ) (outs : List ℕ) → c ≡ ctx.Hv → cmd ≡ UReturn r0 r2 outs → a ≡ Enter → l ≡ lpid → v ≡ vid → ⊥) →
     registers_by c l v cmd a registers lpid vid ≡ registers vid
 others_stay ctx.Hv l v (UReturn r0 r2 outs) Enter registers lpid vid own taken =
-    put_elsewhere (l == lpid) registers (interrupted (registers v) r2) lpid vid v
+    put_elsewhere (l == lpid) registers (entered_at (registers v) r2) lpid vid v
     (λ t u. absurd (taken r0 r2 outs refl refl refl (test_same l lpid u) (sym (test_same vid v t))))
 others_stay ctx.Hv l v (UReturn r0 r2 outs) a registers lpid vid own taken =
     put_elsewhere (l == lpid) registers (registers v) lpid vid v (λ t u. ap registers (sym (test_same vid v t)))

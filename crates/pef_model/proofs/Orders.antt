@@ -13,20 +13,20 @@ use Rattle.pef_model.specs.declared.entry.Answer.TheVariants.{Done, Val, Enter}
 use Rattle.pef_model.specs.Plan.{Plan}
 use Rattle.pef_model.specs.Event.{Event}
 use Rattle.pef_model.specs.Target.{touches_guest}
-use Rattle.pef_model.specs.Guest.{GuestPart, start_part_of, page_of, is_invalid, secured, accessed, part_after_access}
+use Rattle.pef_model.specs.GuestPart.{GuestPart, start_part_of, page_of, is_invalid, with_secure_page, with_page_backed, part_after_access}
 use Rattle.pef_model.specs.CountLaw.{part_after, OrderHasSecurePages, OrderGrows}
 use Rattle.pef_model.proofs.Folds.{same_test, test_same}
 use Rattle.pef_model.proofs.NextValues.{part_by}
 use Rattle.pef_model.proofs.Running.{next_by_is}
 
 -- What holds of the guest, after an access too, holds after each entry.
-after_access : (P : GuestPart → Type 0) (g : GuestPart) (gfn : ℕ) (a : Answer) → P g → P (accessed g gfn) → P (part_after_access g gfn a)
+after_access : (P : GuestPart → Type 0) (g : GuestPart) (gfn : ℕ) (a : Answer) → P g → P (with_page_backed g gfn) → P (part_after_access g gfn a)
 after_access P g gfn Done h k = k
 after_access P g gfn (Val value) h k = k
 after_access P g gfn a h k = h
 
 after_entry : (P : GuestPart → Type 0) (plan : Plan) (g : GuestPart) (c : Ctx) (cmd : Cmd) (a : Answer) (v cpu : ℕ) → P g →
-    ((new : GuestPart) → new.pages ≡ g.pages → new.order ≡ g.order → P new) → ((gfn : ℕ) → P (accessed g gfn)) → P (part_by plan g c cmd a v cpu)
+    ((new : GuestPart) → new.pages ≡ g.pages → new.order ≡ g.order → P new) → ((gfn : ℕ) → P (with_page_backed g gfn)) → P (part_by plan g c cmd a v cpu)
 after_entry P plan g ctx.Hv (UReturn r0 r2 outs) Enter v cpu h taken access = taken (part_by plan g ctx.Hv (UReturn r0 r2 outs) Enter v cpu) refl refl
 after_entry P plan g ctx.Hv (UReturn r0 r2 outs) a v cpu h taken access = h
 after_entry P plan g ctx.Hv (GLi rd value) a v cpu h taken access = h
@@ -39,7 +39,7 @@ after_entry P plan g (ctx.Guest run) (GSt rs gpa) a v cpu h taken access = after
 
 holds_after : (P : GuestPart → Type 0) (plan : Plan) (past : List Event) (e : Event) (lpid : ℕ) → P (part_after plan past lpid) →
     ((new : GuestPart) → new.pages ≡ (part_after plan past lpid).pages → new.order ≡ (part_after plan past lpid).order → P new) →
-    ((gfn : ℕ) → P (accessed (part_after plan past lpid) gfn)) → P (part_after plan (e ∷ past) lpid)
+    ((gfn : ℕ) → P (with_page_backed (part_after plan past lpid) gfn)) → P (part_after plan (e ∷ past) lpid)
 holds_after P plan past e lpid h taken access = subst P (sym (next_by_is plan past e lpid)) (by_test (touches_guest lpid e)) where
   g : GuestPart
   g = part_after plan past lpid
@@ -52,7 +52,7 @@ holds_after P plan past e lpid h taken access = subst P (sym (next_by_is plan pa
 abbrev CountsPage : ℕ → GuestPart → Type 0
 CountsPage gfn g = count_by (λ p. p == gfn) g.order ≡ (if is_invalid (g.pages gfn) then 0 else 1)
 
-counts_accessed : (g : GuestPart) (gfn at : ℕ) → CountsPage gfn g → CountsPage gfn (accessed g at)
+counts_accessed : (g : GuestPart) (gfn at : ℕ) → CountsPage gfn g → CountsPage gfn (with_page_backed g at)
 counts_accessed g gfn at h = by_kind (is_invalid (g.pages at)) refl where
   one_more : count_by (λ p. p == gfn) (g.order ++ at ∷ []) ≡ count_by (λ p. p == gfn) g.order + (0 + cond (at == gfn) 1 0)
   one_more = sum_by-append (λ (p : ℕ). cond (p == gfn) 1 0) g.order (at ∷ [])
@@ -70,7 +70,7 @@ counts_accessed g gfn at h = by_kind (is_invalid (g.pages at)) refl where
       let plain : count_by (λ p. p == gfn) g.order + 0 ≡ count_by (λ p. p == gfn) g.order = omega arith in
       plain ∙ h
 
-  by_kind : (b : Bool) → is_invalid (g.pages at) ≡ b → CountsPage gfn (if b then secured g at else g)
+  by_kind : (b : Bool) → is_invalid (g.pages at) ≡ b → CountsPage gfn (if b then with_secure_page g at else g)
   by_kind true k = one_more ∙ by_place k (at == gfn) (gfn == at) refl refl
   by_kind false k = h
 
@@ -86,9 +86,9 @@ order_has_secure_pages plan (e ∷ past) lpid gfn =
     (λ new pages order. ap (count_by (λ p. p == gfn)) order ∙ h ∙ ap (λ (f : ℕ → _). if is_invalid (f gfn) then 0 else 1) (sym pages))
     (λ at. counts_accessed g gfn at h)
 
-grows_accessed : (g : GuestPart) (gfn : ℕ) → take (length g.order) (accessed g gfn).order ≡ g.order
+grows_accessed : (g : GuestPart) (gfn : ℕ) → take (length g.order) (with_page_backed g gfn).order ≡ g.order
 grows_accessed g gfn = by_kind (is_invalid (g.pages gfn)) where
-  by_kind : (b : Bool) → take (length g.order) (if b then secured g gfn else g).order ≡ g.order
+  by_kind : (b : Bool) → take (length g.order) (if b then with_secure_page g gfn else g).order ≡ g.order
   by_kind true = take-append_seam g.order (gfn ∷ [])
   by_kind false = take-length g.order
 

@@ -11,8 +11,8 @@ use Rattle.pef_model.specs.declared.entry.Answer.TheVariants.{Done, Val, Ret, En
 use Rattle.pef_model.specs.Plan.{Plan}
 use Rattle.pef_model.specs.Event.{Event}
 use Rattle.pef_model.specs.Target.{Ask, target_in}
-use Rattle.pef_model.specs.Guest.{GuestPart}
-use Rattle.pef_model.specs.Private.{Guest, private_doubleword}
+use Rattle.pef_model.specs.GuestPart.{GuestPart}
+use Rattle.pef_model.specs.Guest.{Guest, private_doubleword}
 use Rattle.pef_model.specs.Deed.{Deed, Reach, NoPage, InFrame, Backs, NoFrame, answering, may_return_in, is_waiting, deed_return, reach, deed_access, deed_running, deed_gone}
 use Rattle.pef_model.specs.History.{cpu_after, guest_after, pool_after, deed_after, Extends}
 

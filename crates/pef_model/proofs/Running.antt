@@ -14,8 +14,8 @@ use Rattle.pef_model.specs.Plan.{Plan}
 use Rattle.pef_model.specs.Event.{Event}
 use Rattle.pef_model.specs.Target.{Ask, target_in, is_guest, touches_cpu, touches_guest}
 use Rattle.pef_model.specs.Cpu.{start_cpu, next_cpu}
-use Rattle.pef_model.specs.Guest.{GuestPart, VcpuPart, start_part, start_part_of, page_of, is_invalid, secured, accessed, taken_up, part_after_access, part_after_guest}
-use Rattle.pef_model.specs.Private.{Guest, next_guest}
+use Rattle.pef_model.specs.GuestPart.{GuestPart, VcpuPart, start_part, start_part_of, page_of, is_invalid, with_secure_page, with_page_backed, with_running_vcpu, part_after_access, part_after_guest}
+use Rattle.pef_model.specs.Guest.{Guest, next_guest}
 use Rattle.pef_model.specs.Deed.{Deed, answering, may_return_in, is_waiting, deed_return}
 use Rattle.pef_model.specs.History.{cpu_after, guest_after, deed_after, Extends}
 use Rattle.pef_model.specs.CountLaw.{part_after, RunsItsVcpu, EachCpuRunsItsVcpu, NoVcpuRunsTwice}
@@ -91,9 +91,9 @@ record KeepsRest (old new : GuestPart) : Type 0 where
   generation : new.generation ≡ old.generation
   vcpus : new.vcpus ≡ old.vcpus
 
-keeps_accessed : (g : GuestPart) (gfn : ℕ) → KeepsRest g (accessed g gfn)
+keeps_accessed : (g : GuestPart) (gfn : ℕ) → KeepsRest g (with_page_backed g gfn)
 keeps_accessed g gfn = by_kind (is_invalid (g.pages gfn)) where
-  by_kind : (b : Bool) → KeepsRest g (if b then secured g gfn else g)
+  by_kind : (b : Bool) → KeepsRest g (if b then with_secure_page g gfn else g)
   by_kind true = record { phase = refl; generation = refl; vcpus = refl }
   by_kind false = record { phase = refl; generation = refl; vcpus = refl }
 
@@ -159,7 +159,7 @@ vcpu_stays_by plan guests ctx.Hv l v cpu (UReturn r0 r2 outs) Enter after lpid v
       cc
   by_vcpu here false t = refl
 
-  by_guest : (b : Bool) → (l == lpid) ≡ b → (if b then taken_up g v cpu else g).vcpus vid ≡ g.vcpus vid
+  by_guest : (b : Bool) → (l == lpid) ≡ b → (if b then with_running_vcpu g v cpu else g).vcpus vid ≡ g.vcpus vid
   by_guest true t = by_vcpu (test_same l lpid t) (vid == v) refl
   by_guest false t = refl
 vcpu_stays_by plan guests ctx.Hv l v cpu (UReturn r0 r2 outs) a after lpid vid m taking runs = if_same (l == lpid) (guests lpid) vid
@@ -199,12 +199,12 @@ begins : (plan : Plan) (past : List Event) (e : Event) (r0 r2 : ℕ) (outs : Lis
     RunsItsVcpu plan (e ∷ past) e.trace.cpu (record { lpid = e.saw.lpid; vid = e.saw.vid; generation = (part_after plan past e.saw.lpid).generation })
 begins plan past e r0 r2 outs before cmd_is answer_is taken =
     let g : GuestPart = part_after plan past e.saw.lpid in
-    let is : part_after plan (e ∷ past) e.saw.lpid ≡ taken_up g e.saw.vid e.trace.cpu =
+    let is : part_after plan (e ∷ past) e.saw.lpid ≡ with_running_vcpu g e.saw.vid e.trace.cpu =
     next_by_is plan past e e.saw.lpid
     ∙ ap (λ (c : Ctx). next_by plan c e.saw.lpid e.saw.vid e.trace.cpu e.trace.cmd e.trace.answer g e.saw.lpid) before
     ∙ ap (λ (cmd : Cmd). next_by plan ctx.Hv e.saw.lpid e.saw.vid e.trace.cpu cmd e.trace.answer g e.saw.lpid) cmd_is
     ∙ ap (λ (a : Answer). next_by plan ctx.Hv e.saw.lpid e.saw.vid e.trace.cpu (UReturn r0 r2 outs) a g e.saw.lpid) answer_is
-    ∙ ap (λ (b : Bool). if b then taken_up g e.saw.vid e.trace.cpu else g) (same_test e.saw.lpid) in
+    ∙ ap (λ (b : Bool). if b then with_running_vcpu g e.saw.vid e.trace.cpu else g) (same_test e.saw.lpid) in
     let life = life_stays plan past e e.saw.lpid in
     let vcpu : (part_after plan (e ∷ past) e.saw.lpid).vcpus e.saw.vid ≡ record { state = Running e.trace.cpu; generation = g.generation } =
     ap (λ (x : GuestPart). x.vcpus e.saw.vid) is

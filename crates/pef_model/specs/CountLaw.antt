@@ -7,8 +7,8 @@ use Rattle.pef_model.specs.declared.state.Run.{Run}
 use Rattle.pef_model.specs.declared.state.Ctx.TheVariants as ctx
 use Rattle.pef_model.specs.Plan.{Plan}
 use Rattle.pef_model.specs.Event.{Event}
-use Rattle.pef_model.specs.Guest.{GuestPart, is_invalid}
-use Rattle.pef_model.specs.Private.{start_guest}
+use Rattle.pef_model.specs.GuestPart.{GuestPart, is_invalid}
+use Rattle.pef_model.specs.Guest.{start_guest}
 use Rattle.pef_model.specs.Deed.{may_return_in}
 use Rattle.pef_model.specs.History.{cpu_after, guest_after, pool_after, IsLegal}
 

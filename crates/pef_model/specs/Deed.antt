@@ -14,8 +14,8 @@ use Rattle.pef_model.specs.declared.entry.Answer.TheVariants as answer
 use Rattle.pef_model.specs.declared.entry.PoolSaw.{PoolSaw}
 use Rattle.pef_model.specs.Plan.{Plan}
 use Rattle.pef_model.specs.Target.{Ask}
-use Rattle.pef_model.specs.Guest.{GuestPart, page_of, has_place, is_invalid}
-use Rattle.pef_model.specs.Private.{Guest, private_doubleword}
+use Rattle.pef_model.specs.GuestPart.{GuestPart, page_of, has_place, is_invalid}
+use Rattle.pef_model.specs.Guest.{Guest, private_doubleword}
 
 -- what a step does at its target: the answer, the context after it, the values that the guest lets out, the pool, the frame, the bytes
 pub record Deed : Type 0 where
@@ -98,9 +98,9 @@ deed_gone ask = record (answering ask answer.Gone) { after = ctx.Hv }
 -- a command of the hypervisor at a guest
 abbrev pub deed_hypervisor : GuestPart → Ask → Cmd → Deed
 deed_hypervisor g ask (UReturn r0 r2 outs) = deed_return g ask
-deed_hypervisor g ask (GLi rd value) = answering ask answer.Context
-deed_hypervisor g ask (GLd rd gpa) = answering ask answer.Context
-deed_hypervisor g ask (GSt rs gpa) = answering ask answer.Context
+deed_hypervisor g ask (GLi rd value) = deed_alone ask (GLi rd value)
+deed_hypervisor g ask (GLd rd gpa) = deed_alone ask (GLd rd gpa)
+deed_hypervisor g ask (GSt rs gpa) = deed_alone ask (GSt rs gpa)
 
 -- a command at a guest, by the CPU's context
 abbrev pub deed_guest_in : Ctx → Plan → Guest → Bool → Ask → Cmd → Deed

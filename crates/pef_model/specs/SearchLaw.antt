@@ -12,7 +12,7 @@ use Rattle.pef_model.specs.Plan.{Plan}
 use Rattle.pef_model.specs.Event.{Event}
 use Rattle.pef_model.specs.Registers.{number_of}
 use Rattle.pef_model.specs.Target.{touches_guest}
-use Rattle.pef_model.specs.Guest.{is_invalid, page_of}
+use Rattle.pef_model.specs.GuestPart.{is_invalid, page_of}
 use Rattle.pef_model.specs.History.{guest_after, last_store, reg, Extends}
 
 -- what the newest entry says that decides; the start where none does
