@@ -1,9 +1,9 @@
 -- What an object's value reads.
-use Rattle.std.proofs.Common.{◌≡◌, ℕ, refl, ap, ◌∙◌, slice_index}
+use Rattle.std.proofs.Common.{◌≡◌, ℕ, List, refl, ap, ◌∙◌, slice_index}
 use Rattle.pef_model.specs.declared.state.Ctx.{Ctx}
 use Rattle.pef_model.specs.declared.state.Ctx.TheVariants as ctx
 use Rattle.pef_model.specs.declared.command.Cmd.{Cmd}
-use Rattle.pef_model.specs.declared.command.Cmd.TheVariants.{UReturn, GLi, GLd, GSt}
+use Rattle.pef_model.specs.declared.command.Cmd.TheVariants.{HLd, HSt, UReturn, GLi, GLd, GSt}
 use Rattle.pef_model.specs.declared.entry.Answer.{Answer}
 use Rattle.pef_model.specs.declared.entry.Answer.TheVariants.{Done, Val, Ret, Enter, Gone, Hole, Context, Nothing}
 use Rattle.pef_model.specs.Plan.{Plan}
@@ -13,17 +13,17 @@ use Rattle.pef_model.specs.Cpu.{CpuPart, start_cpu, next_cpu, cpu_after_in, cpu_
 use Rattle.pef_model.specs.Guest.{GuestPart, next_part, part_after_in, part_after_hypervisor, part_after_guest, part_after_return, taken_up}
 use Rattle.pef_model.specs.Private.{Guest, start_guest, next_guest, private_doubleword}
 use Rattle.pef_model.specs.Memory.{start_pool, next_pool, pooled, start_frame, next_frame}
-use Rattle.pef_model.specs.ReadLaw.{EachOwnEntriesDecide, AgreeForCpu, AgreeForGuest, IsReturn, TheseFieldsDecide}
+use Rattle.pef_model.specs.ReadLaw.{EachOwnEntriesDecide, AgreeForCpu, AgreeForGuest, AgreeForFrame, IsReturn, TheseFieldsDecide}
 use Rattle.pef_model.proofs.Folds.{value_after-filter}
 
 pub own_entries_decide : EachOwnEntriesDecide
 own_entries_decide plan past =
-    let guest = λ (lpid : ℕ). value_after-filter (touches_guest lpid) (next_guest plan) (start_guest plan lpid) past in
+    let guest = λ (lpid : ℕ). value_after-filter (touches_guest plan lpid) (next_guest plan) (start_guest plan lpid) past in
     record {
       cpu = λ n. value_after-filter (touches_cpu n) next_cpu (start_cpu plan) past;
       guest = guest;
       pool = value_after-filter touches_pool next_pool (start_pool plan) past;
-      frame = λ n. value_after-filter (touches_frame n) next_frame (start_frame plan) past;
+      frame = λ n. value_after-filter (touches_frame n) (next_frame plan) (start_frame plan) past;
       store = λ lpid gpa. ap (λ (g : Guest). private_doubleword plan g gpa) (guest lpid);
       register = λ lpid vid r. ap (λ (g : Guest). slice_index (g.registers vid).gpr r) (guest lpid);
     }
@@ -58,6 +58,8 @@ part_by plan g (ctx.Guest run) cmd a vid cpu = part_after_guest plan g cmd a
 part_by_is : (plan : Plan) (g : GuestPart) (e : Event) → next_part plan g e ≡ part_by plan g e.saw.before e.trace.cmd e.trace.answer e.saw.vid e.trace.cpu
 part_by_is plan g e = by_ctx e.saw.before where
   by_cmd : (cmd : Cmd) → part_after_hypervisor g cmd e ≡ part_by plan g ctx.Hv cmd e.trace.answer e.saw.vid e.trace.cpu
+  by_cmd (HLd ra) = refl
+  by_cmd (HSt ra value) = refl
   by_cmd (UReturn r0 r2 outs) = refl
   by_cmd (GLi rd value) = refl
   by_cmd (GLd rd gpa) = refl
@@ -79,6 +81,8 @@ part_by_reads plan g ctx.Hv (UReturn r0 r2 outs) Gone v w m n h k = refl
 part_by_reads plan g ctx.Hv (UReturn r0 r2 outs) Hole v w m n h k = refl
 part_by_reads plan g ctx.Hv (UReturn r0 r2 outs) Context v w m n h k = refl
 part_by_reads plan g ctx.Hv (UReturn r0 r2 outs) Nothing v w m n h k = refl
+part_by_reads plan g ctx.Hv (HLd ra) a v w m n h k = refl
+part_by_reads plan g ctx.Hv (HSt ra value) a v w m n h k = refl
 part_by_reads plan g ctx.Hv (GLi rd value) a v w m n h k = refl
 part_by_reads plan g ctx.Hv (GLd rd gpa) a v w m n h k = refl
 part_by_reads plan g ctx.Hv (GSt rs gpa) a v w m n h k = refl
@@ -94,10 +98,17 @@ guest_agrees plan e f g h =
     let c = h.before in
     cc
 
+frame_agrees : (plan : Plan) (e f : Event) (bytes : List ℕ) → AgreeForFrame e f → next_frame plan bytes e ≡ next_frame plan bytes f
+frame_agrees plan e f bytes h =
+    let a = h.cmd in
+    let b = h.answer in
+    let c = h.before in
+    cc
+
 pub these_fields_decide : TheseFieldsDecide
 these_fields_decide plan e f = record {
   cpu = λ cpu h. cpu_agrees e f cpu h;
   guest = λ g h. guest_agrees plan e f g h;
   pool = λ free h. ap (pooled free) h;
-  frame = λ bytes. refl;
+  frame = λ bytes h. frame_agrees plan e f bytes h;
 }

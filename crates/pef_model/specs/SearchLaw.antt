@@ -5,29 +5,24 @@ use Rattle.pef_model.specs.declared.state.Run.{Run}
 use Rattle.pef_model.specs.declared.state.Ctx.{Ctx}
 use Rattle.pef_model.specs.declared.state.Ctx.TheVariants as ctx
 use Rattle.pef_model.specs.declared.command.Cmd.{Cmd}
-use Rattle.pef_model.specs.declared.command.Cmd.TheVariants.{UReturn, GLi, GLd, GSt}
+use Rattle.pef_model.specs.declared.command.Cmd.TheVariants.{HLd, HSt, UReturn, GLi, GLd, GSt}
 use Rattle.pef_model.specs.declared.entry.Answer.{Answer}
 use Rattle.pef_model.specs.declared.entry.Answer.TheVariants as answer
 use Rattle.pef_model.specs.Plan.{Plan}
-use Rattle.pef_model.specs.Event.{Event}
+use Rattle.pef_model.specs.Event.{Event, newest}
 use Rattle.pef_model.specs.Registers.{number_of}
 use Rattle.pef_model.specs.Target.{touches_guest}
 use Rattle.pef_model.specs.Guest.{is_invalid, page_of}
 use Rattle.pef_model.specs.Private.{stored_by}
 use Rattle.pef_model.specs.History.{guest_after, last_store, reg, Extends}
 
--- what the newest entry says that decides; the start where none does
-abbrev pub newest : (List Event → Event → Option ℕ) → ℕ → List Event → ℕ
-newest decides start [] = start
-newest decides start (e ∷ past) = unwrap_or (decides past e) (newest decides start past)
-
 -- an entry that touches a guest decides what it says
-abbrev pub if_touching : ℕ → Event → Option ℕ → Option ℕ
-if_touching lpid e decision = if touches_guest lpid e then decision else None
+abbrev pub if_touching : Plan → ℕ → Event → Option ℕ → Option ℕ
+if_touching plan lpid e decision = if touches_guest plan lpid e then decision else None
 
 -- the value that an entry gives the doubleword at an address of a guest
 abbrev pub decides_doubleword : Plan → ℕ → ℕ → List Event → Event → Option ℕ
-decides_doubleword plan lpid gpa past e = if_touching lpid e (stored_by plan (guest_after plan lpid past) e gpa)
+decides_doubleword plan lpid gpa past e = if_touching plan lpid e (stored_by plan (guest_after plan lpid past) e gpa)
 
 -- last_store is what the newest entry says that stored there or backed the page, and 0 where the page is Invalid now
 abbrev pub LastStoreIsNewest : Type 0
@@ -57,11 +52,13 @@ abbrev pub assigned_in : Ctx → ℕ → Cmd → Answer → ℕ → Option ℕ
 assigned_in ctx.Hv vid cmd a r = None
 assigned_in (ctx.Guest run) vid cmd a r = if vid == run.vid then assigned_by_command cmd a r else None
 
-abbrev pub decides_register : ℕ → ℕ → ℕ → List Event → Event → Option ℕ
-decides_register lpid vid r past e = if_touching lpid e (assigned_in e.saw.before vid e.trace.cmd e.trace.answer r)
+abbrev pub decides_register : Plan → ℕ → ℕ → ℕ → List Event → Event → Option ℕ
+decides_register plan lpid vid r past e = if_touching plan lpid e (assigned_in e.saw.before vid e.trace.cmd e.trace.answer r)
 
 -- a command that a script can have: its registers are R0 to R31, and UV_RETURN has nine outputs
 abbrev pub IsCommand : Cmd → Type 0
+IsCommand (HLd ra) = Unit {0}
+IsCommand (HSt ra value) = Unit {0}
 IsCommand (UReturn r0 r2 outs) = length outs ≡ 9
 IsCommand (GLi rd value) = rd < 32
 IsCommand (GLd rd gpa) = rd < 32
@@ -71,7 +68,7 @@ IsCommand (GSt rs gpa) = rs < 32
 abbrev pub RegIsNewest : Type 0
 RegIsNewest =
     (plan : Plan) (past : List Event) (lpid vid r : ℕ) → r < 32 → AllByRecursion (λ (e : Event). IsCommand e.trace.cmd) past →
-    reg plan past lpid vid r ≡ newest (decides_register lpid vid r) 0 past
+    reg plan past lpid vid r ≡ newest (decides_register plan lpid vid r) 0 past
 
 -- whether an entry is a store to an address of a guest that was done
 abbrev pub is_store_by : ℕ → ℕ → Ctx → Cmd → Answer → Bool
