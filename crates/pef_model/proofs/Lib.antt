@@ -5,3 +5,6 @@ pub mod Secrets
 pub mod Stores
 pub mod Loads
 pub mod Assigned
+pub mod Doublewords
+pub mod Places
+pub mod Normal

@@ -16,7 +16,8 @@ use Rattle.pef_model.specs.Plan.{Plan}
 use Rattle.pef_model.specs.Target.{Ask, frame_of}
 use Rattle.pef_model.specs.Guest.{GuestPart, page_of, has_place, is_invalid}
 use Rattle.pef_model.specs.Private.{Guest, private_doubleword}
-use Rattle.pef_model.specs.Memory.{doubleword, offset_of}
+use Rattle.pef_model.specs.Memory.{offset_of}
+use Rattle.pef_model.specs.Doubleword.{doubleword}
 
 -- what a step does at its target: the answer, the context after it, the values that the guest lets out, the pool, the frame, the bytes
 pub record Deed : Type 0 where

@@ -1,8 +1,13 @@
 -- The objects after a history, the one entry that a step adds, and legal histories.
-use Rattle.std.specs.Prelude.{◌≡◌, ℕ, ◌<◌, nat_lt, List, [], ◌∷◌, slice_index}
+use Rattle.std.specs.Prelude.{◌≡◌, ℕ, ◌<◌, ◌==◌, nat_lt, if◌then◌else◌, List, [], ◌∷◌, Option, Some, None, slice_index}
+use Rattle.pef_model.specs.declared.state.Ctx.{Ctx}
+use Rattle.pef_model.specs.declared.state.Ctx.TheVariants as ctx
+use Rattle.pef_model.specs.declared.entry.Answer.{Answer}
+use Rattle.pef_model.specs.declared.entry.Answer.TheVariants as answer
 use Rattle.pef_model.specs.declared.command.Cmd.{Cmd}
+use Rattle.pef_model.specs.declared.command.Cmd.TheVariants.{HSt}
 use Rattle.pef_model.specs.Plan.{Plan}
-use Rattle.pef_model.specs.Event.{Event, Mark, mark_of, value_after}
+use Rattle.pef_model.specs.Event.{Event, Mark, mark_of, newest, value_after}
 use Rattle.pef_model.specs.Target.{Ask, Target, Alone, AtGuest, AtFrame, target_in, touches_cpu, touches_guest, touches_pool, touches_frame}
 use Rattle.pef_model.specs.Cpu.{CpuPart, start_cpu, next_cpu}
 use Rattle.pef_model.specs.Guest.{GuestPart}
@@ -45,6 +50,18 @@ public_state plan past = record {
 -- the value last stored at an address of a guest's private page; 0 where the page is Invalid
 abbrev pub last_store : Plan → List Event → ℕ → ℕ → ℕ
 last_store plan past lpid gpa = private_doubleword plan (guest_after plan lpid past) gpa
+
+-- the value that an entry stores at a real address
+abbrev pub norm_by : ℕ → Ctx → Cmd → Answer → Option ℕ
+norm_by ra ctx.Hv (HSt at value) answer.Done = if at == ra then Some value else None
+norm_by ra before cmd a = None
+
+abbrev pub decides_norm : ℕ → List Event → Event → Option ℕ
+decides_norm ra past e = norm_by ra e.saw.before e.trace.cmd e.trace.answer
+
+-- the value last stored at a real address
+abbrev pub last_norm : List Event → ℕ → ℕ
+last_norm past ra = newest (decides_norm ra) 0 past
 
 -- the value last assigned to one of R0 to R31 of a vCPU
 abbrev pub reg : Plan → List Event → ℕ → ℕ → ℕ → ℕ

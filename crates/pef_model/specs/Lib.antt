@@ -1,5 +1,6 @@
 pub mod Plan
 pub mod Event
+pub mod Doubleword
 pub mod Registers
 pub mod Target
 pub mod Cpu
@@ -15,3 +16,4 @@ pub mod RunLaw
 pub mod ReadLaw
 pub mod SecretLaw
 pub mod SearchLaw
+pub mod NormalLaw

@@ -1,6 +1,5 @@
 -- The pool of secure frames, and the normal frames.
-use Rattle.std.specs.Prelude.{ℕ, ◌+◌, ◌-◌, ◌%◌, ◌^◌, List, ◌++◌, take, drop, Option, Some, None, replicate}
-use Rattle.byteorder.specs.Endian.{big_number, big_bytes}
+use Rattle.std.specs.Prelude.{ℕ, ◌+◌, ◌-◌, ◌%◌, ◌^◌, List, Option, Some, None, replicate}
 use Rattle.pef_model.specs.declared.state.Ctx.{Ctx}
 use Rattle.pef_model.specs.declared.state.Ctx.TheVariants as ctx
 use Rattle.pef_model.specs.declared.command.Cmd.{Cmd}
@@ -10,6 +9,7 @@ use Rattle.pef_model.specs.declared.entry.Answer.TheVariants as answer
 use Rattle.pef_model.specs.declared.entry.PoolSaw.{PoolSaw}
 use Rattle.pef_model.specs.Plan.{Plan}
 use Rattle.pef_model.specs.Event.{Event}
+use Rattle.pef_model.specs.Doubleword.{with_doubleword}
 
 -- the number of free frames after what a step took and gave back
 abbrev pub pooled : ℕ → Option PoolSaw → ℕ
@@ -23,14 +23,6 @@ next_pool free e = pooled free e.saw.pool
 -- at the start each secure frame is free
 abbrev pub start_pool : Plan → ℕ
 start_pool plan = plan.secure
-
--- the big-endian doubleword at an offset of a frame
-abbrev pub doubleword : List ℕ → ℕ → ℕ
-doubleword bytes off = big_number 8 (drop off bytes)
-
--- the frame with another doubleword there
-abbrev pub with_doubleword : List ℕ → ℕ → ℕ → List ℕ
-with_doubleword bytes off value = take off bytes ++ (big_bytes 8 value ++ drop 8 (drop off bytes))
 
 -- the offset of an address in its page or frame
 abbrev pub offset_of : Plan → ℕ → ℕ

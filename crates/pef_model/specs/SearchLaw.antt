@@ -1,5 +1,5 @@
 -- Laws of what a guest loads: the last store, as a search from the newest entry on.
-use Rattle.std.specs.Prelude.{◌≡◌, ℕ, ◌-◌, ◌<◌, ◌==◌, nat_lt, nat_le, Bool, false, ◌&&◌, if◌then◌else◌, List, [], ◌∷◌, ◌++◌, length, Option, Some, None, unwrap_or, slice_index}
+use Rattle.std.specs.Prelude.{◌≡◌, ℕ, ◌-◌, ◌^◌, ◌<◌, ◌==◌, nat_lt, nat_le, Bool, false, ◌&&◌, if◌then◌else◌, List, [], ◌∷◌, ◌++◌, length, Option, Some, None, unwrap_or, slice_index}
 use Rattle.std.specs.List.{AllByRecursion}
 use Rattle.pef_model.specs.declared.state.Run.{Run}
 use Rattle.pef_model.specs.declared.state.Ctx.{Ctx}
@@ -55,10 +55,10 @@ assigned_in (ctx.Guest run) vid cmd a r = if vid == run.vid then assigned_by_com
 abbrev pub decides_register : Plan → ℕ → ℕ → ℕ → List Event → Event → Option ℕ
 decides_register plan lpid vid r past e = if_touching plan lpid e (assigned_in e.saw.before vid e.trace.cmd e.trace.answer r)
 
--- a command that a script can have: its registers are R0 to R31, and UV_RETURN has nine outputs
+-- a command that a script can have: its registers are R0 to R31, UV_RETURN has nine outputs, and what is stored has 64 bits
 abbrev pub IsCommand : Cmd → Type 0
 IsCommand (HLd ra) = Unit {0}
-IsCommand (HSt ra value) = Unit {0}
+IsCommand (HSt ra value) = value < 2 ^ 64
 IsCommand (UReturn r0 r2 outs) = length outs ≡ 9
 IsCommand (GLi rd value) = rd < 32
 IsCommand (GLd rd gpa) = rd < 32

@@ -4,6 +4,7 @@ ghost use Rattle.pef_model.specs.RunLaw.{OneRun, StoreAndLoad};
 ghost use Rattle.pef_model.specs.ReadLaw.{EachOwnEntriesDecide, TheseFieldsDecide};
 ghost use Rattle.pef_model.specs.SecretLaw.{NoSecretInPublicState};
 ghost use Rattle.pef_model.specs.SearchLaw.{LastStoreIsNewest, RegIsNewest, LoadGivesLastStore, LastStoreIsStored, LastStoreIsZero};
+ghost use Rattle.pef_model.specs.NormalLaw.{FramesHoldLastNorm, GuestLeavesFrames, StoreLeavesGuests};
 
 /// A secure guest that stores 7 loads 7, and the report says so.
 pub fn store_and_load()
@@ -56,3 +57,21 @@ pub fn last_store_is_stored()
 pub fn last_store_is_zero()
     ensures { LastStoreIsZero }
 {}
+
+/// The frames of the public state hold what was last stored at each real address.
+pub fn frames_hold_last_norm()
+    ensures { FramesHoldLastNorm }
+{
+}
+
+/// A guest's step changes no normal frame.
+pub fn guest_leaves_frames()
+    ensures { GuestLeavesFrames }
+{
+}
+
+/// The hypervisor's store changes no guest.
+pub fn store_leaves_guests()
+    ensures { StoreLeavesGuests }
+{
+}
