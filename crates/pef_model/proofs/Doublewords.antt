@@ -59,5 +59,4 @@ pub doubleword-zeros : (n offset : ℕ) → doubleword (replicate n 0) offset �
 unfolding doubleword
 doubleword-zeros n offset = simp (drop-replicate, zero_at)
 
-
 pub ruleset lengths = length-with_doubleword

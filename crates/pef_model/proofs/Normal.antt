@@ -1,25 +1,23 @@
 -- Normal memory holds what was last stored there.
-use Rattle.std.proofs.Common.{◌≡◌, ◌≢◌, ℕ, ◌+◌, ◌*◌, ◌/◌, ◌%◌, ◌^◌, ◌<◌, ◌≤◌, List, [], ◌∷◌, length, Bool, true, false, refl, ap, sym, subst, ◌∙◌, ◌==◌, ◌&&◌, nat_lt, if◌then◌else◌, Option, Some, None, replicate, arith, ◌⊎◌, inl, inr}
+use Rattle.std.proofs.Common.{◌≡◌, ◌≢◌, ℕ, ◌+◌, ◌%◌, ◌^◌, ◌<◌, ◌≤◌, List, [], ◌∷◌, length, Bool, true, false, refl, ap, sym, subst, ◌∙◌, ◌==◌, ◌&&◌, if◌then◌else◌, Option, Some, None, arith}
 use Rattle.std.specs.Prelude.{unwrap_or}
 use Rattle.std.specs.List.{AllByRecursion}
 use Rattle.std.proofs.lemmas.Bool.Decides.{nat_tests}
 use Rattle.std.proofs.lemmas.List.{length-replicate}
-use Rattle.pef_model.specs.declared.config.Config.{Config}
-use Rattle.pef_model.specs.declared.state.Run.{Run}
 use Rattle.pef_model.specs.declared.state.Ctx.{Ctx}
 use Rattle.pef_model.specs.declared.state.Ctx.TheVariants as ctx
 use Rattle.pef_model.specs.declared.command.Cmd.{Cmd}
 use Rattle.pef_model.specs.declared.command.Cmd.TheVariants.{HLd, HSt, UReturn, GLi, GLd, GSt}
 use Rattle.pef_model.specs.declared.entry.Answer.{Answer}
 use Rattle.pef_model.specs.declared.entry.Answer.TheVariants.{Done, Val, Ret, Enter, Gone, Hole, Context, Nothing}
-use Rattle.pef_model.specs.Plan.{Plan, plan_of, IsInRange}
-use Rattle.pef_model.specs.Event.{Event, mark_of, newest}
+use Rattle.pef_model.specs.Plan.{Plan, plan_of}
+use Rattle.pef_model.specs.Event.{Event}
 use Rattle.pef_model.specs.Doubleword.{doubleword, with_doubleword}
-use Rattle.pef_model.specs.Target.{Ask, Target, Alone, AtGuest, AtFrame, frame_of, has_real_place, target_in, target_of_hypervisor, target_of_running, is_guest, is_number, touches_guest, touches_frame}
-use Rattle.pef_model.specs.Memory.{offset_of, written, written_in, next_frame, start_frame}
-use Rattle.pef_model.specs.Private.{Guest, start_guest, next_guest}
+use Rattle.pef_model.specs.Target.{Ask, Alone, AtFrame, frame_of, has_real_place, target_in, is_guest, is_number, touches_guest, touches_frame}
+use Rattle.pef_model.specs.Memory.{offset_of, written_in, next_frame, start_frame}
+use Rattle.pef_model.specs.Private.{start_guest, next_guest}
 use Rattle.pef_model.specs.Deed.{Deed, answer_alone}
-use Rattle.pef_model.specs.History.{cpu_after, guest_after, frame_after, ask_of, deed_after, next_entry, norm_by, decides_norm, last_norm, Extends, IsLegal}
+use Rattle.pef_model.specs.History.{cpu_after, frame_after, ask_of, deed_after, norm_by, last_norm, Extends, IsLegal}
 use Rattle.pef_model.specs.SearchLaw.{IsCommand}
 use Rattle.pef_model.specs.NormalLaw.{FramesHoldLastNorm, GuestLeavesFrames, StoreLeavesGuests}
 use Rattle.pef_model.proofs.Folds.{same_test, test_same, counts, skips}
@@ -187,13 +185,13 @@ frame_holds plan (e ∷ past) ra least legal commands here = by_test (frame_hold
   by_test ih true t =
       subst (λ (bytes : List ℕ). Holds plan bytes ra (last_norm (e ∷ past) ra)) (sym (counts (touches_frame n) (next_frame plan) (start_frame plan) e past t))
       (step_holds plan (frame_after plan n past) e.saw.before e.trace.cmd e.trace.answer ra (last_norm past ra) least here commands.0 ih (λ at value before cmd done_is.
-          let placed = store_is_placed plan past e at value legal.0 before cmd done_is in
-          (placed.place, test_same (frame_of plan at) n (ap (is_number n) (sym placed.frame) ∙ t))))
+      let placed = store_is_placed plan past e at value legal.0 before cmd done_is in
+      (placed.place, test_same (frame_of plan at) n (ap (is_number n) (sym placed.frame) ∙ t))))
   by_test ih false t =
       let nothing : decision ≡ None = decides_nothing ra e.saw.before e.trace.cmd e.trace.answer (λ at value before cmd done_is.
-          let placed = store_is_placed plan past e at value legal.0 before cmd done_is in
-          let elsewhere : (frame_of plan at == n) ≡ false = ap (is_number n) (sym placed.frame) ∙ t in
-          differs plan at ra elsewhere) in
+      let placed = store_is_placed plan past e at value legal.0 before cmd done_is in
+      let elsewhere : (frame_of plan at == n) ≡ false = ap (is_number n) (sym placed.frame) ∙ t in
+      differs plan at ra elsewhere) in
       record {
         size = ap length (skips (touches_frame n) (next_frame plan) (start_frame plan) e past t) ∙ ih.size;
         value_is = ap (λ (bytes : List ℕ). doubleword bytes (offset_of plan ra)) (skips (touches_frame n) (next_frame plan) (start_frame plan) e past t) ∙ ih.value_is ∙ ap (λ (o : Option ℕ). unwrap_or o (last_norm past ra)) (sym nothing);

@@ -61,17 +61,14 @@ pub fn last_store_is_zero()
 /// The frames of the public state hold what was last stored at each real address.
 pub fn frames_hold_last_norm()
     ensures { FramesHoldLastNorm }
-{
-}
+{}
 
 /// A guest's step changes no normal frame.
 pub fn guest_leaves_frames()
     ensures { GuestLeavesFrames }
-{
-}
+{}
 
 /// The hypervisor's store changes no guest.
 pub fn store_leaves_guests()
     ensures { StoreLeavesGuests }
-{
-}
+{}
