@@ -5,6 +5,7 @@ pub mod Secrets
 pub mod Stores
 pub mod Loads
 pub mod Assigned
+pub mod Touched
 pub mod Doublewords
 pub mod Places
 pub mod Normal

@@ -1,5 +1,5 @@
 -- What an object's value reads.
-use Rattle.std.proofs.Common.{◌≡◌, ℕ, List, refl, ap, ◌∙◌, slice_index}
+use Rattle.std.proofs.Common.{◌≡◌, ℕ, List, Bool, true, false, ◌==◌, if◌then◌else◌, refl, ap, sym, ◌∙◌, slice_index}
 use Rattle.pef_model.specs.declared.state.Ctx.{Ctx}
 use Rattle.pef_model.specs.declared.state.Ctx.TheVariants as ctx
 use Rattle.pef_model.specs.declared.command.Cmd.{Cmd}
@@ -10,11 +10,13 @@ use Rattle.pef_model.specs.Plan.{Plan}
 use Rattle.pef_model.specs.Event.{Event}
 use Rattle.pef_model.specs.Target.{touches_cpu, touches_guest, touches_pool, touches_frame}
 use Rattle.pef_model.specs.Cpu.{CpuPart, start_cpu, next_cpu, cpu_after_in, cpu_after_guest, own_after, last_after}
-use Rattle.pef_model.specs.Guest.{GuestPart, next_part, part_after_in, part_after_hypervisor, part_after_guest, part_after_return, taken_up}
-use Rattle.pef_model.specs.Private.{Guest, start_guest, next_guest, private_doubleword}
+use Rattle.pef_model.specs.Guest.{GuestPart, put, next_part, part_after_in, part_after_hypervisor, part_after_guest, part_after_return, taken_up}
+use Rattle.pef_model.specs.Private.{Guest, start_guest, next_guest, next_registers, registers_after_in, stored_by, stored_in, private_doubleword}
 use Rattle.pef_model.specs.Memory.{start_pool, next_pool, pooled, start_frame, next_frame}
 use Rattle.pef_model.specs.ReadLaw.{EachOwnEntriesDecide, AgreeForCpu, AgreeForGuest, AgreeForFrame, IsReturn, TheseFieldsDecide}
-use Rattle.pef_model.proofs.Folds.{value_after-filter}
+use Rattle.pef_model.proofs.Folds.{value_after-filter, test_same}
+use Rattle.std.specs.Prelude.{unwrap_or}
+use Rattle.pef_model.specs.declared.state.Regs.{Regs}
 
 pub own_entries_decide : EachOwnEntriesDecide
 own_entries_decide plan past =
@@ -88,8 +90,8 @@ part_by_reads plan g ctx.Hv (GLd rd gpa) a v w m n h k = refl
 part_by_reads plan g ctx.Hv (GSt rs gpa) a v w m n h k = refl
 part_by_reads plan g (ctx.Guest run) cmd a v w m n h k = refl
 
-guest_agrees : (plan : Plan) (e f : Event) (g : GuestPart) → AgreeForGuest e f → next_part plan g e ≡ next_part plan g f
-guest_agrees plan e f g h =
+part_agrees : (plan : Plan) (e f : Event) (g : GuestPart) → AgreeForGuest e f → next_part plan g e ≡ next_part plan g f
+part_agrees plan e f g h =
     let x = part_by_is plan g e in
     let y = part_by_is plan g f in
     let z = part_by_reads plan g e.saw.before e.trace.cmd e.trace.answer e.saw.vid f.saw.vid e.trace.cpu f.trace.cpu h.vid h.cpu in
@@ -97,6 +99,36 @@ guest_agrees plan e f g h =
     let b = h.answer in
     let c = h.before in
     cc
+
+put_same : (f : ℕ → Regs) (v n : ℕ) → put f v (f v) n ≡ f n
+put_same f v n = by_test (n == v) refl where
+  by_test : (b : Bool) → (n == v) ≡ b → (if b then f v else f n) ≡ f n
+  by_test true t = ap f (sym (test_same n v t))
+  by_test false t = refl
+
+-- a vCPU's registers change at UV_RETURN of the selected one, and of no other
+registers_read : (c : Ctx) (registers : ℕ → Regs) (cmd : Cmd) (a : Answer) (v w : ℕ) → (IsReturn cmd → v ≡ w) → registers_after_in c registers v cmd a ≡ registers_after_in c registers w cmd a
+registers_read (ctx.Guest run) registers cmd a v w h = refl
+registers_read ctx.Hv registers (UReturn r0 r2 outs) a v w h = ap (λ (x : ℕ). registers_after_in ctx.Hv registers x (UReturn r0 r2 outs) a) (h tt)
+registers_read ctx.Hv registers (HLd ra) a v w h = (λ i n. (put_same registers v n ∙ sym (put_same registers w n)) i)
+registers_read ctx.Hv registers (HSt ra value) a v w h = (λ i n. (put_same registers v n ∙ sym (put_same registers w n)) i)
+registers_read ctx.Hv registers (GLi rd value) a v w h = (λ i n. (put_same registers v n ∙ sym (put_same registers w n)) i)
+registers_read ctx.Hv registers (GLd rd gpa) a v w h = (λ i n. (put_same registers v n ∙ sym (put_same registers w n)) i)
+registers_read ctx.Hv registers (GSt rs gpa) a v w h = (λ i n. (put_same registers v n ∙ sym (put_same registers w n)) i)
+
+guest_agrees : (plan : Plan) (e f : Event) (g : Guest) → AgreeForGuest e f → next_guest plan g e ≡ next_guest plan g f
+guest_agrees plan e f g h =
+    let part = part_agrees plan e f g.part h in
+    let registers : next_registers g.registers e ≡ next_registers g.registers f =
+    registers_read e.saw.before g.registers e.trace.cmd e.trace.answer e.saw.vid f.saw.vid h.vid
+    ∙ ap (λ (c : Ctx). registers_after_in c g.registers f.saw.vid e.trace.cmd e.trace.answer) h.before
+    ∙ ap (λ (cmd : Cmd). registers_after_in f.saw.before g.registers f.saw.vid cmd e.trace.answer) h.cmd
+    ∙ ap (registers_after_in f.saw.before g.registers f.saw.vid f.trace.cmd) h.answer in
+    let stored : (gpa : ℕ) → stored_by plan g e gpa ≡ stored_by plan g f gpa =
+    (λ gpa. ap (λ (c : Ctx). stored_in c plan g e.trace.cmd e.trace.answer gpa) h.before
+    ∙ ap (λ (cmd : Cmd). stored_in f.saw.before plan g cmd e.trace.answer gpa) h.cmd
+    ∙ ap (λ (a : Answer). stored_in f.saw.before plan g f.trace.cmd a gpa) h.answer) in
+    (λ i. record { part = part i; content = λ gpa. unwrap_or (stored gpa i) (g.content gpa); registers = registers i })
 
 frame_agrees : (plan : Plan) (e f : Event) (bytes : List ℕ) → AgreeForFrame e f → next_frame plan bytes e ≡ next_frame plan bytes f
 frame_agrees plan e f bytes h =
@@ -108,6 +140,7 @@ frame_agrees plan e f bytes h =
 pub these_fields_decide : TheseFieldsDecide
 these_fields_decide plan e f = record {
   cpu = λ cpu h. cpu_agrees e f cpu h;
+  part = λ g h. part_agrees plan e f g h;
   guest = λ g h. guest_agrees plan e f g h;
   pool = λ free h. ap (pooled free) h;
   frame = λ bytes h. frame_agrees plan e f bytes h;

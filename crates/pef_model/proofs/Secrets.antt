@@ -1,5 +1,5 @@
 -- What an entry makes of the public state doesn't depend on what a guest alone knows.
-use Rattle.std.proofs.Common.{◌≡◌, ℕ, List, refl, ap, sym, ◌∙◌}
+use Rattle.std.proofs.Common.{◌≡◌, ℕ, Bool, true, false, ◌==◌, if◌then◌else◌, List, [], ◌∷◌, map, refl, ap, sym, subst, ◌∙◌}
 use Rattle.pef_model.specs.declared.state.Ctx.{Ctx}
 use Rattle.pef_model.specs.declared.state.Ctx.TheVariants as ctx
 use Rattle.pef_model.specs.declared.command.Cmd.{Cmd}
@@ -7,12 +7,18 @@ use Rattle.pef_model.specs.declared.command.Cmd.TheVariants.{HLd, HSt, UReturn, 
 use Rattle.pef_model.specs.declared.entry.Answer.{Answer}
 use Rattle.pef_model.specs.declared.entry.Answer.TheVariants.{Done, Val, Ret, Enter, Gone, Hole, Context, Nothing}
 use Rattle.pef_model.specs.Plan.{Plan}
-use Rattle.pef_model.specs.Event.{Event}
-use Rattle.pef_model.specs.Target.{target_in, is_guest, touches_cpu, touches_guest, touches_pool, touches_frame}
-use Rattle.pef_model.specs.Cpu.{CpuPart, next_cpu, cpu_after_in, cpu_after_guest, own_after, last_after}
-use Rattle.pef_model.specs.Guest.{GuestPart, page_of, next_part, part_after_in, part_after_guest, part_after_hypervisor, part_after_access}
-use Rattle.pef_model.specs.Memory.{next_pool, next_frame, written, written_in}
-use Rattle.pef_model.specs.SecretLaw.{open_cmd, open_answer, open_answer_of_guest, open_entry, NoSecretInPublicState}
+use Rattle.pef_model.specs.Event.{Event, value_after}
+use Rattle.pef_model.specs.Target.{Ask, target_in, is_guest, touches_cpu, touches_guest, touches_pool, touches_frame}
+use Rattle.pef_model.specs.Cpu.{start_cpu, CpuPart, next_cpu, cpu_after_in, cpu_after_guest, own_after, last_after}
+use Rattle.pef_model.specs.Guest.{start_part, GuestPart, page_of, next_part, part_after_in, part_after_guest, part_after_hypervisor, part_after_access}
+use Rattle.pef_model.specs.Memory.{start_pool, next_pool, start_frame, next_frame, written, written_in}
+use Rattle.pef_model.specs.Private.{Guest, start_guest, next_guest, private_doubleword}
+use Rattle.pef_model.specs.Registers.{fresh_registers}
+use Rattle.pef_model.specs.declared.state.Run.{Run}
+use Rattle.pef_model.specs.Deed.{Deed, Reach, NoPage, InFrame, Backs, NoFrame, deed_access, deed_running, deed_gone, deed_hypervisor, deed_guest_in, deed_guest, reach}
+use Rattle.pef_model.specs.History.{cpu_after, guest_after, pool_after, frame_after}
+use Rattle.pef_model.proofs.Folds.{counts, skips}
+use Rattle.pef_model.specs.SecretLaw.{AgreeButValue, SecretsStayIn, NoSecretInOneEntry, NoSecretInDeeds, open_cmd, open_answer, open_answer_of_guest, open_entry, NoSecretInPublicState}
 
 target_open : (plan : Plan) (c : Ctx) (lpid : ℕ) (cmd : Cmd) → target_in plan c lpid cmd ≡ target_in plan c lpid (open_cmd cmd)
 target_open plan ctx.Hv lpid (HLd ra) = refl
@@ -103,8 +109,8 @@ frame_open plan bytes e = by_ctx e.saw.before where
   by_ctx ctx.Hv = written_open plan bytes e.trace.cmd e.trace.answer
   by_ctx (ctx.Guest run) = refl
 
-pub no_secret_in_public_state : NoSecretInPublicState
-no_secret_in_public_state plan e f same = record {
+pub no_secret_in_one_entry : NoSecretInOneEntry
+no_secret_in_one_entry plan e f same = record {
   touches_cpu = λ n. ap (touches_cpu n) same;
   touches_guest = λ lpid.
       ap (is_guest lpid) (target_open plan e.saw.before e.saw.lpid e.trace.cmd) ∙ ap (touches_guest plan lpid) same
@@ -116,3 +122,116 @@ no_secret_in_public_state plan e f same = record {
   pool = λ free. ap (next_pool free) same;
   frame = λ bytes. frame_open plan bytes e ∙ ap (next_frame plan bytes) same ∙ sym (frame_open plan bytes f);
 }
+
+-- a fold over two histories that agree goes on to agree
+agree_more : {S : Type 0} (touches : Event → Bool) (next : S → Event → S) (start : S) (e f : Event) (past other : List Event) → touches e ≡ touches f →
+    ((value : S) → next value e ≡ next value f) → value_after touches next start past ≡ value_after touches next start other →
+    value_after touches next start (e ∷ past) ≡ value_after touches next start (f ∷ other)
+agree_more {S = S} touches next start e f past other t step before = by_test (touches e) refl where
+  by_test : (b : Bool) → touches e ≡ b → value_after touches next start (e ∷ past) ≡ value_after touches next start (f ∷ other)
+  by_test true h =
+      counts touches next start e past h ∙ step (value_after touches next start past) ∙ ap (λ (x : S). next x f) before ∙ sym (counts touches next start f other (sym t ∙ h))
+  by_test false h = skips touches next start e past h ∙ before ∙ sym (skips touches next start f other (sym t ∙ h))
+
+-- a guest's public part is a fold of its own
+part_after : (plan : Plan) (lpid : ℕ) (past : List Event) → (guest_after plan lpid past).part ≡ value_after (touches_guest plan lpid) (next_part plan) (start_part plan lpid) past
+part_after plan lpid [] = refl
+part_after plan lpid (e ∷ past) = by_test (part_after plan lpid past) (touches_guest plan lpid e) refl where
+  by_test : (guest_after plan lpid past).part ≡ value_after (touches_guest plan lpid) (next_part plan) (start_part plan lpid) past → (b : Bool) → touches_guest plan lpid e ≡ b →
+      (guest_after plan lpid (e ∷ past)).part ≡ value_after (touches_guest plan lpid) (next_part plan) (start_part plan lpid) (e ∷ past)
+  by_test ih true t =
+      ap (λ (g : Guest). g.part) (counts (touches_guest plan lpid) (next_guest plan) (start_guest plan lpid) e past t)
+      ∙ ap (λ (g : GuestPart). next_part plan g e) ih ∙ sym (counts (touches_guest plan lpid) (next_part plan) (start_part plan lpid) e past t)
+  by_test ih false t =
+      ap (λ (g : Guest). g.part) (skips (touches_guest plan lpid) (next_guest plan) (start_guest plan lpid) e past t) ∙ ih
+      ∙ sym (skips (touches_guest plan lpid) (next_part plan) (start_part plan lpid) e past t)
+
+-- the objects of the public state agree
+record PartsAgree (plan : Plan) (past other : List Event) : Type 0 where
+  cpu : (n : ℕ) → cpu_after plan n past ≡ cpu_after plan n other
+  part : (lpid : ℕ) → value_after (touches_guest plan lpid) (next_part plan) (start_part plan lpid) past ≡ value_after (touches_guest plan lpid) (next_part plan) (start_part plan lpid) other
+  pool : pool_after plan past ≡ pool_after plan other
+  frame : (n : ℕ) → frame_after plan n past ≡ frame_after plan n other
+
+parts_agree : (plan : Plan) (past other : List Event) → map open_entry past ≡ map open_entry other → PartsAgree plan past other
+parts_agree plan [] [] same = record { cpu = λ n. refl; part = λ lpid. refl; pool = refl; frame = λ n. refl }
+parts_agree plan [] (f ∷ other) same = cc
+parts_agree plan (e ∷ past) [] same = cc
+parts_agree plan (e ∷ past) (f ∷ other) same =
+    let first : open_entry e ≡ open_entry f = cc in
+    let rest : map open_entry past ≡ map open_entry other = cc in
+    let law : SecretsStayIn plan e f = no_secret_in_one_entry plan e f first in
+    let before : PartsAgree plan past other = parts_agree plan past other rest in
+    record {
+      cpu = λ n. agree_more (touches_cpu n) next_cpu (start_cpu plan) e f past other (law.touches_cpu n) law.cpu (before.cpu n);
+      part = λ lpid. agree_more (touches_guest plan lpid) (next_part plan) (start_part plan lpid) e f past other (law.touches_guest lpid) law.guest (before.part lpid);
+      pool = agree_more touches_pool next_pool (start_pool plan) e f past other law.touches_pool law.pool before.pool;
+      frame = λ n. agree_more (touches_frame n) (next_frame plan) (start_frame plan) e f past other (law.touches_frame n) law.frame (before.frame n);
+    }
+
+pub no_secret_in_public_state : NoSecretInPublicState
+no_secret_in_public_state plan past other same =
+    let agree : PartsAgree plan past other = parts_agree plan past other same in
+    let part : (lpid : ℕ) → (guest_after plan lpid past).part ≡ (guest_after plan lpid other).part =
+    (λ lpid. part_after plan lpid past ∙ agree.part lpid ∙ sym (part_after plan lpid other)) in
+    (λ i. record { cpus = λ n. agree.cpu n i; guests = λ lpid. part lpid i; pool = agree.pool i; frames = λ n. agree.frame n i })
+
+-- a guest of this public part, with nothing in its memory and registers
+abbrev bare : GuestPart → Guest
+bare part = record { part = part; content = λ gpa. 0; registers = λ vid. fresh_registers }
+
+agree_sym : (c : Ctx) (x y : Deed) → AgreeButValue c x y → AgreeButValue c y x
+agree_sym c x y h = record { answer = sym h.answer; after = sym h.after; shown = sym h.shown; pool = sym h.pool; frame = sym h.frame; bytes = sym h.bytes }
+
+agree_trans : (c : Ctx) (x y z : Deed) → AgreeButValue c x y → AgreeButValue c y z → AgreeButValue c x z
+agree_trans c x y z h k = record {
+  answer = h.answer ∙ k.answer;
+  after = h.after ∙ k.after;
+  shown = h.shown ∙ k.shown;
+  pool = h.pool ∙ k.pool;
+  frame = h.frame ∙ k.frame;
+  bytes = h.bytes ∙ k.bytes;
+}
+
+same_deed : (c : Ctx) (x : Deed) → AgreeButValue c x x
+same_deed c x = record { answer = refl; after = refl; shown = refl; pool = refl; frame = refl; bytes = refl }
+
+access_agrees : (run : Run) (ask : Ask) (v w : ℕ) (r : Reach) → AgreeButValue (ctx.Guest run) (deed_access ask (Val v) r) (deed_access ask (Val w) r)
+access_agrees run ask v w NoPage = same_deed (ctx.Guest run) (deed_access ask (Val v) NoPage)
+access_agrees run ask v w InFrame = record { answer = refl; after = refl; shown = refl; pool = refl; frame = refl; bytes = refl }
+access_agrees run ask v w Backs = record { answer = refl; after = refl; shown = refl; pool = refl; frame = refl; bytes = refl }
+access_agrees run ask v w NoFrame = same_deed (ctx.Guest run) (deed_access ask (Val v) NoFrame)
+
+running_agrees : (plan : Plan) (g : Guest) (any : Bool) (run : Run) (ask : Ask) (cmd : Cmd) →
+    AgreeButValue (ctx.Guest run) (deed_running plan g any ask cmd) (deed_running plan (bare g.part) any ask (open_cmd cmd))
+running_agrees plan g any run ask (HLd ra) = same_deed (ctx.Guest run) (deed_running plan g any ask (HLd ra))
+running_agrees plan g any run ask (HSt ra value) = same_deed (ctx.Guest run) (deed_running plan g any ask (HSt ra value))
+running_agrees plan g any run ask (UReturn r0 r2 outs) = same_deed (ctx.Guest run) (deed_running plan g any ask (UReturn r0 r2 outs))
+running_agrees plan g any run ask (GLi rd value) = same_deed (ctx.Guest run) (deed_running plan g any ask (GLi rd value))
+running_agrees plan g any run ask (GLd rd gpa) = access_agrees run ask (private_doubleword plan g gpa) (private_doubleword plan (bare g.part) gpa) (reach plan g.part any gpa)
+running_agrees plan g any run ask (GSt rs gpa) = same_deed (ctx.Guest run) (deed_running plan g any ask (GSt rs gpa))
+
+hypervisor_agrees : (g : GuestPart) (ask : Ask) (cmd : Cmd) → AgreeButValue ctx.Hv (deed_hypervisor g ask cmd) (deed_hypervisor g ask (open_cmd cmd))
+hypervisor_agrees g ask (HLd ra) = same_deed ctx.Hv (deed_hypervisor g ask (HLd ra))
+hypervisor_agrees g ask (HSt ra value) = same_deed ctx.Hv (deed_hypervisor g ask (HSt ra value))
+hypervisor_agrees g ask (UReturn r0 r2 outs) = same_deed ctx.Hv (deed_hypervisor g ask (UReturn r0 r2 outs))
+hypervisor_agrees g ask (GLi rd value) = same_deed ctx.Hv (deed_hypervisor g ask (GLi rd value))
+hypervisor_agrees g ask (GLd rd gpa) = same_deed ctx.Hv (deed_hypervisor g ask (GLd rd gpa))
+hypervisor_agrees g ask (GSt rs gpa) = same_deed ctx.Hv (deed_hypervisor g ask (GSt rs gpa))
+
+deed_agrees : (plan : Plan) (g : Guest) (any : Bool) (ask : Ask) (cmd : Cmd) (c : Ctx) →
+    AgreeButValue c (deed_guest_in c plan g any ask cmd) (deed_guest_in c plan (bare g.part) any ask (open_cmd cmd))
+deed_agrees plan g any ask cmd ctx.Hv = hypervisor_agrees g.part ask cmd
+deed_agrees plan g any ask cmd (ctx.Guest run) = by_test (run.generation == g.part.generation) where
+  by_test : (b : Bool) → AgreeButValue (ctx.Guest run) (if b then deed_running plan g any ask cmd else deed_gone ask) (if b then deed_running plan (bare g.part) any ask (open_cmd cmd) else deed_gone ask)
+  by_test true = running_agrees plan g any run ask cmd
+  by_test false = same_deed (ctx.Guest run) (deed_gone ask)
+
+pub no_secret_in_deeds : NoSecretInDeeds
+no_secret_in_deeds plan one other any ask cmd with_ parts cmds =
+    let left : AgreeButValue ask.before (deed_guest plan one any ask cmd) (deed_guest plan (bare one.part) any ask (open_cmd cmd)) = deed_agrees plan one any ask cmd ask.before in
+    let right : AgreeButValue ask.before (deed_guest plan other any ask with_) (deed_guest plan (bare other.part) any ask (open_cmd with_)) = deed_agrees plan other any ask with_ ask.before in
+    let same : deed_guest plan (bare one.part) any ask (open_cmd cmd) ≡ deed_guest plan (bare other.part) any ask (open_cmd with_) =
+    ap (λ (g : GuestPart). deed_guest plan (bare g) any ask (open_cmd cmd)) parts ∙ ap (deed_guest plan (bare other.part) any ask) cmds in
+    agree_trans ask.before _ _ _ left
+    (subst (λ (d : Deed). AgreeButValue ask.before d (deed_guest plan other any ask with_)) (sym same) (agree_sym ask.before _ _ right))

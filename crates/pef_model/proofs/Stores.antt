@@ -11,29 +11,101 @@ use Rattle.pef_model.specs.declared.entry.Answer.{Answer}
 use Rattle.pef_model.specs.declared.entry.Answer.TheVariants.{Done, Val, Ret, Enter, Gone, Hole, Context, Nothing}
 use Rattle.pef_model.specs.Plan.{Plan}
 use Rattle.pef_model.specs.Event.{Event, newest}
-use Rattle.pef_model.specs.Target.{touches_guest, target_in, target_of_running, is_guest}
+use Rattle.pef_model.specs.Target.{is_guest, target_in, target_of_running, touches_guest}
 use Rattle.pef_model.specs.Guest.{GuestPart, is_invalid, page_of, secured, accessed, next_part, part_after_in, part_after_hypervisor, part_after_return, part_after_guest, part_after_access}
 use Rattle.pef_model.specs.Private.{Guest, start_guest, next_guest, stored_by, stored_in, stored_by_command, backed_by}
 use Rattle.pef_model.specs.History.{guest_after, reg}
-use Rattle.pef_model.specs.SearchLaw.{decides_doubleword, LastStoreIsNewest, is_store, is_store_by, HasNoStore, IsStep, LastStoreIsStored, LastStoreIsZero}
+use Rattle.pef_model.specs.SearchLaw.{zero_where_backed, access_decides, step_decides, decides_doubleword, LastStoreIsNewest, is_store, is_store_by, HasNoStore, IsStep, LastStoreIsStored, LastStoreIsZero}
 use Rattle.pef_model.proofs.Folds.{same_test, test_same, counts, skips}
+
+-- Both ways to say that an access backs the page of an address.
+backs_alike : (plan : Plan) (past : List Event) (lpid at gpa : ℕ) → backed_by plan (guest_after plan lpid past) at gpa ≡ zero_where_backed plan lpid gpa past at
+backs_alike plan past lpid at gpa = by_test (page_of plan at == page_of plan gpa) refl where
+  invalid : ℕ → Bool
+  invalid gfn = is_invalid ((guest_after plan lpid past).part.pages gfn)
+
+  choice : Bool → Bool → Option ℕ
+  choice a b = if a && b then Some 0 else None
+
+  swapped : (a b : Bool) → choice a b ≡ choice b a
+  swapped true true = refl
+  swapped true false = refl
+  swapped false true = refl
+  swapped false false = refl
+
+  elsewhere : (a : Bool) → choice a false ≡ None
+  elsewhere true = refl
+  elsewhere false = refl
+
+  by_test : (b : Bool) → (page_of plan at == page_of plan gpa) ≡ b → backed_by plan (guest_after plan lpid past) at gpa ≡ zero_where_backed plan lpid gpa past at
+  by_test true t =
+      ap (λ (gfn : ℕ). choice (invalid gfn) (page_of plan at == page_of plan gpa)) (test_same _ _ t)
+      ∙ swapped (invalid (page_of plan gpa)) (page_of plan at == page_of plan gpa)
+  by_test false t = ap (choice (invalid (page_of plan at))) t ∙ elsewhere (invalid (page_of plan at)) ∙ sym (ap (λ (b : Bool). choice b (invalid (page_of plan gpa))) t)
+
+decided_alike : (plan : Plan) (past : List Event) (lpid gpa l : ℕ) (c : Ctx) (cmd : Cmd) (a : Answer) →
+    (if is_guest lpid (target_in plan c l cmd) then stored_in c plan (guest_after plan lpid past) cmd a gpa else None) ≡ step_decides plan lpid gpa past c cmd a
+decided_alike plan past lpid gpa l ctx.Hv cmd a = by_test (is_guest lpid (target_in plan ctx.Hv l cmd)) where
+  by_test : (b : Bool) → (if b then None else None) ≡ (let nothing : Option ℕ = None in nothing)
+  by_test true = refl
+  by_test false = refl
+decided_alike plan past lpid gpa l (ctx.Guest run) cmd a = by_command cmd a where
+  g : Guest
+  g = guest_after plan lpid past
+
+  here : Bool
+  here = run.lpid == lpid
+
+  nothing : (b : Bool) → (let none : Option ℕ = None in none) ≡ (if b then None else None)
+  nothing true = refl
+  nothing false = refl
+
+  by_command : (cmd : Cmd) (a : Answer) →
+      (if is_guest lpid (target_of_running run.lpid cmd) then stored_by_command plan g run.vid cmd a gpa else None) ≡ (if here then access_decides plan lpid gpa past run.vid cmd a else None)
+  by_command (HLd ra) a = nothing here
+  by_command (HSt ra value) a = nothing here
+  by_command (UReturn r0 r2 outs) a = refl
+  by_command (GLi rd value) a = refl
+  by_command (GLd rd at) (Val value) = ap (λ (o : Option ℕ). if here then o else None) (backs_alike plan past lpid at gpa)
+  by_command (GLd rd at) Done = refl
+  by_command (GLd rd at) (Ret code) = refl
+  by_command (GLd rd at) Enter = refl
+  by_command (GLd rd at) Gone = refl
+  by_command (GLd rd at) Hole = refl
+  by_command (GLd rd at) Context = refl
+  by_command (GLd rd at) Nothing = refl
+  by_command (GSt rs at) Done =
+      ap (λ (o : Option ℕ). if here then (if at == gpa then Some (reg plan past lpid run.vid rs) else o) else None) (backs_alike plan past lpid at gpa)
+  by_command (GSt rs at) (Val value) = refl
+  by_command (GSt rs at) (Ret code) = refl
+  by_command (GSt rs at) Enter = refl
+  by_command (GSt rs at) Gone = refl
+  by_command (GSt rs at) Hole = refl
+  by_command (GSt rs at) Context = refl
+  by_command (GSt rs at) Nothing = refl
 
 content_newest : (plan : Plan) (lpid gpa : ℕ) (past : List Event) → (guest_after plan lpid past).content gpa ≡ newest (decides_doubleword plan lpid gpa) 0 past
 content_newest plan lpid gpa [] = refl
 content_newest plan lpid gpa (e ∷ past) = by_test (content_newest plan lpid gpa past) (touches_guest plan lpid e) refl where
-  decision : Bool → Option ℕ
-  decision b = if b then stored_by plan (guest_after plan lpid past) e gpa else None
+  before : ℕ
+  before = newest (decides_doubleword plan lpid gpa) 0 past
 
-  by_test : (guest_after plan lpid past).content gpa ≡ newest (decides_doubleword plan lpid gpa) 0 past → (b : Bool) → touches_guest plan lpid e ≡ b →
+  stored : Option ℕ
+  stored = stored_by plan (guest_after plan lpid past) e gpa
+
+  alike : (if touches_guest plan lpid e then stored else None) ≡ decides_doubleword plan lpid gpa past e
+  alike = decided_alike plan past lpid gpa e.saw.lpid e.saw.before e.trace.cmd e.trace.answer
+
+  by_test : (guest_after plan lpid past).content gpa ≡ before → (b : Bool) → touches_guest plan lpid e ≡ b →
       (guest_after plan lpid (e ∷ past)).content gpa ≡ newest (decides_doubleword plan lpid gpa) 0 (e ∷ past)
   by_test ih true t =
       ap (λ (g : Guest). g.content gpa) (counts (touches_guest plan lpid) (next_guest plan) (start_guest plan lpid) e past t)
-      ∙ ap (λ (x : ℕ). unwrap_or (decision true) x) ih
-      ∙ ap (λ (b : Bool). unwrap_or (decision b) (newest (decides_doubleword plan lpid gpa) 0 past)) (sym t)
+      ∙ ap (unwrap_or stored) ih
+      ∙ ap (λ (o : Option ℕ). unwrap_or o before) (ap (λ (b : Bool). if b then stored else None) (sym t) ∙ alike)
   by_test ih false t =
       ap (λ (g : Guest). g.content gpa) (skips (touches_guest plan lpid) (next_guest plan) (start_guest plan lpid) e past t)
       ∙ ih
-      ∙ ap (λ (b : Bool). unwrap_or (decision b) (newest (decides_doubleword plan lpid gpa) 0 past)) (sym t)
+      ∙ ap (λ (o : Option ℕ). unwrap_or o before) (ap (λ (b : Bool). if b then stored else None) (sym t) ∙ alike)
 
 pub last_store_is_newest : LastStoreIsNewest
 last_store_is_newest plan past lpid gpa =

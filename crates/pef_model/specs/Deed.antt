@@ -1,4 +1,4 @@
--- What a step does, by the tables: its answer, and what it shows.
+-- What a step does, row by row: its answer, and what it shows.
 use Rattle.std.specs.Prelude.{ℕ, ◌==◌, Bool, true, false, ◌&&◌, if◌then◌else◌, List, [], ◌∷◌, Option, Some, None}
 use Rattle.pef_model.specs.declared.state.Phase.{Phase}
 use Rattle.pef_model.specs.declared.state.Phase.TheVariants as phase
@@ -13,7 +13,7 @@ use Rattle.pef_model.specs.declared.entry.Answer.{Answer}
 use Rattle.pef_model.specs.declared.entry.Answer.TheVariants as answer
 use Rattle.pef_model.specs.declared.entry.PoolSaw.{PoolSaw}
 use Rattle.pef_model.specs.Plan.{Plan}
-use Rattle.pef_model.specs.Target.{Ask, frame_of}
+use Rattle.pef_model.specs.Target.{Ask}
 use Rattle.pef_model.specs.Guest.{GuestPart, page_of, has_place, is_invalid}
 use Rattle.pef_model.specs.Private.{Guest, private_doubleword}
 use Rattle.pef_model.specs.Memory.{offset_of}
@@ -47,11 +47,15 @@ answer_alone before cmd = answer.Context
 abbrev pub deed_alone : Ask → Cmd → Deed
 deed_alone ask cmd = answering ask (answer_alone ask.before cmd)
 
--- the hypervisor's load or store in a normal frame with these bytes
-abbrev pub deed_frame : Plan → List ℕ → Ask → Cmd → Deed
-deed_frame plan bytes ask (HLd ra) = record (answering ask (answer.Val (doubleword bytes (offset_of plan ra)))) { frame = Some (frame_of plan ra) }
-deed_frame plan bytes ask (HSt ra value) = record (answering ask answer.Done) { frame = Some (frame_of plan ra) }
-deed_frame plan bytes ask cmd = answering ask answer.Context
+-- the answer of the hypervisor's load or store in a normal frame with these bytes
+abbrev pub answer_frame : Plan → List ℕ → Cmd → Answer
+answer_frame plan bytes (HLd ra) = answer.Val (doubleword bytes (offset_of plan ra))
+answer_frame plan bytes (HSt ra value) = answer.Done
+answer_frame plan bytes cmd = answer.Context
+
+-- a command at a normal frame with these bytes
+abbrev pub deed_frame : Plan → ℕ → List ℕ → Ask → Cmd → Deed
+deed_frame plan n bytes ask cmd = record (answering ask (answer_frame plan bytes cmd)) { frame = Some n }
 
 -- whether UV_RETURN may take up a vCPU in this phase
 abbrev pub may_return_in : Phase → Bool

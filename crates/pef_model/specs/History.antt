@@ -83,7 +83,7 @@ entry_of ask mark cmd deed = record {
 abbrev pub deed_after : Plan → List Event → Ask → Cmd → Target → Deed
 deed_after plan past ask cmd Alone = deed_alone ask cmd
 deed_after plan past ask cmd (AtGuest lpid) = deed_guest plan (guest_after plan lpid past) (nat_lt 0 (pool_after plan past)) ask cmd
-deed_after plan past ask cmd (AtFrame n) = deed_frame plan (frame_after plan n past) ask cmd
+deed_after plan past ask cmd (AtFrame n) = deed_frame plan n (frame_after plan n past) ask cmd
 
 -- the entry that a step adds to a history, once it is known what the step learns of its CPU
 abbrev pub next_entry_by : Plan → List Event → Ask → Mark → Cmd → Event
@@ -93,7 +93,7 @@ next_entry_by plan past ask mark cmd = entry_of ask mark cmd (deed_after plan pa
 abbrev pub next_entry : Plan → List Event → Mark → Cmd → Event
 next_entry plan past mark cmd = next_entry_by plan past (ask_of (cpu_after plan mark.cpu past)) mark cmd
 
--- an entry extends a history: its CPU is one of the machine's, and it is what the tables give
+-- an entry extends a history: its CPU is one of the machine's, and it is the one that its step adds
 pub record Extends (plan : Plan) (past : List Event) (e : Event) : Type 0 where
   pub cpu : e.trace.cpu < plan.cpus
   pub is : e ≡ next_entry plan past (mark_of e) e.trace.cmd

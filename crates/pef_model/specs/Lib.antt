@@ -13,7 +13,10 @@ pub mod Script
 pub mod Run
 pub mod Report
 pub mod RunLaw
+pub mod WordLaw
 pub mod ReadLaw
 pub mod SecretLaw
 pub mod SearchLaw
 pub mod NormalLaw
+pub mod View
+pub mod Alike

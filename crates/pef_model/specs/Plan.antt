@@ -1,6 +1,6 @@
 -- A configuration, and what of it is public.
-use Rattle.std.specs.Prelude.{ℕ, ◌≤◌, ◌==◌, Bool, false, [], replicate, All}
-use Rattle.std.specs.List.Sorted.{IsStrictlyIncreasing}
+use Rattle.std.specs.Prelude.{ℕ, ◌≤◌, ◌==◌, Bool, false, [], replicate, map, All}
+use Rattle.std.specs.List.Sorted.{IsNonDecreasing, IsStrictlyIncreasing}
 use Rattle.std.specs.List.{list_any, count_by}
 use Rattle.pef_model.specs.declared.config.Config.{Config}
 use Rattle.pef_model.specs.declared.config.EntropyWord.{EntropyWord}
@@ -37,7 +37,7 @@ plan_of config = record {
 abbrev pub IsWithin : ℕ → ℕ → ℕ → Type 0
 IsWithin least greatest n = (least ≤ n) × (n ≤ greatest)
 
--- each number of a configuration is in its range
+-- each number of a configuration is in its range; born guests and the guests of the entropy words rise, and a guest has at most 64 words
 pub record IsInRange (config : Config) : Type 0 where
   pub shift : IsWithin 8 16 config.shift
   pub normal : IsWithin 1 1024 config.normal
@@ -49,6 +49,8 @@ pub record IsInRange (config : Config) : Type 0 where
   pub born : All (IsWithin 1 config.guests) config.born
   pub rises : IsStrictlyIncreasing config.born
   pub entropy : All (λ (word : EntropyWord). IsWithin 1 config.guests word.lpid) config.entropy
+  pub words_rise : IsNonDecreasing (map (λ (word : EntropyWord). word.lpid) config.entropy)
+  pub words : (lpid : ℕ) → count_by (λ (word : EntropyWord). word.lpid == lpid) config.entropy ≤ 64
 
 -- the configuration where a script names no other, with no guest that is born secure
 abbrev pub default_config : Config

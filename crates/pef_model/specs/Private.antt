@@ -49,7 +49,7 @@ stored_by plan g e gpa = stored_in e.saw.before plan g e.trace.cmd e.trace.answe
 abbrev pub stepped : Regs → List ℕ → Regs
 stepped regs gpr = record regs { gpr = gpr; nip = (regs.nip + 4) % 2 ^ 64 }
 
--- a vCPU's registers after a command of its own, by its answer: a refused one leaves them
+-- a vCPU's registers after a command of its own, by its answer: one that answers Hole or Gone keeps them
 abbrev pub registers_after_command : Regs → Cmd → Answer → Regs
 registers_after_command regs (UReturn r0 r2 outs) (answer.Ret code) = stepped regs (with_code (load_return regs.gpr r0 r2 outs) code)
 registers_after_command regs (GLi rd value) answer.Done = stepped regs (slice_set regs.gpr rd value)

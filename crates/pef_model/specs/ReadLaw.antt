@@ -1,16 +1,19 @@
 -- Laws of what an object's next value reads of an entry, and which entries it reads at all.
-use Rattle.std.specs.Prelude.{◌≡◌, ℕ, List}
+use Rattle.std.specs.Prelude.{◌≡◌, ℕ, Bool, true, List, Some}
 use Rattle.std.specs.List.{filter}
 use Rattle.pef_model.specs.declared.command.Cmd.{Cmd}
 use Rattle.pef_model.specs.declared.command.Cmd.TheVariants.{HLd, HSt, UReturn, GLi, GLd, GSt}
 use Rattle.pef_model.specs.declared.entry.Answer.TheVariants.{Enter}
+use Rattle.pef_model.specs.declared.entry.PoolSaw.{PoolSaw}
 use Rattle.pef_model.specs.Plan.{Plan}
 use Rattle.pef_model.specs.Event.{Event}
-use Rattle.pef_model.specs.Target.{touches_cpu, touches_guest, touches_pool, touches_frame}
+use Rattle.pef_model.specs.Target.{Ask, touches_cpu, touches_guest, touches_pool, touches_frame}
 use Rattle.pef_model.specs.Cpu.{CpuPart, next_cpu}
 use Rattle.pef_model.specs.Guest.{GuestPart, next_part}
+use Rattle.pef_model.specs.Private.{Guest, next_guest}
 use Rattle.pef_model.specs.Memory.{next_pool, next_frame}
-use Rattle.pef_model.specs.History.{cpu_after, guest_after, pool_after, frame_after, last_store, reg}
+use Rattle.pef_model.specs.Deed.{deed_guest}
+use Rattle.pef_model.specs.History.{cpu_after, guest_after, pool_after, frame_after, last_store, reg, Extends}
 
 -- the entries of a history that touch an object decide its value; so last_store and reg read only their guest's entries
 pub record OwnEntriesDecide (plan : Plan) (past : List Event) : Type 0 where
@@ -21,6 +24,7 @@ pub record OwnEntriesDecide (plan : Plan) (past : List Event) : Type 0 where
   pub store : (lpid gpa : ℕ) → last_store plan (filter (touches_guest plan lpid) past) lpid gpa ≡ last_store plan past lpid gpa
   pub register : (lpid vid r : ℕ) → reg plan (filter (touches_guest plan lpid) past) lpid vid r ≡ reg plan past lpid vid r
 
+-- the entries that touch an object decide its value, for every history
 abbrev pub EachOwnEntriesDecide : Type 0
 EachOwnEntriesDecide = (plan : Plan) (past : List Event) → OwnEntriesDecide plan past
 
@@ -40,7 +44,7 @@ pub record AgreeForCpu (e f : Event) : Type 0 where
   pub before : e.saw.before ≡ f.saw.before
   pub after : e.saw.after ≡ f.saw.after
 
--- two entries agree in what a guest's public part reads of them: the vCPU at UV_RETURN alone, the CPU where the vCPU runs from then on
+-- two entries agree in what a guest reads of them: the vCPU at UV_RETURN alone, the CPU where the vCPU runs from then on
 pub record AgreeForGuest (e f : Event) : Type 0 where
   pub cmd : e.trace.cmd ≡ f.trace.cmd
   pub answer : e.trace.answer ≡ f.trace.answer
@@ -57,9 +61,26 @@ pub record AgreeForFrame (e f : Event) : Type 0 where
 -- entries that agree in these fields give equal next values
 pub record NextValuesAgree (plan : Plan) (e f : Event) : Type 0 where
   pub cpu : (cpu : CpuPart) → AgreeForCpu e f → next_cpu cpu e ≡ next_cpu cpu f
-  pub guest : (g : GuestPart) → AgreeForGuest e f → next_part plan g e ≡ next_part plan g f
+  pub part : (g : GuestPart) → AgreeForGuest e f → next_part plan g e ≡ next_part plan g f
+  pub guest : (g : Guest) → AgreeForGuest e f → next_guest plan g e ≡ next_guest plan g f
   pub pool : (free : ℕ) → e.saw.pool ≡ f.saw.pool → next_pool free e ≡ next_pool free f
   pub frame : (bytes : List ℕ) → AgreeForFrame e f → next_frame plan bytes e ≡ next_frame plan bytes f
 
+-- no other field of an entry counts
 abbrev pub TheseFieldsDecide : Type 0
 TheseFieldsDecide = (plan : Plan) (e f : Event) → NextValuesAgree plan e f
+
+-- two histories agree in the objects that an entry touches
+pub record AgreeWhereTouched (plan : Plan) (past other : List Event) (e : Event) : Type 0 where
+  pub cpu : cpu_after plan e.trace.cpu past ≡ cpu_after plan e.trace.cpu other
+  pub guest : (lpid : ℕ) → touches_guest plan lpid e ≡ true → guest_after plan lpid past ≡ guest_after plan lpid other
+  pub pool : touches_pool e ≡ true → pool_after plan past ≡ pool_after plan other
+  pub frame : (n : ℕ) → touches_frame n e ≡ true → frame_after plan n past ≡ frame_after plan n other
+
+-- the objects that an entry touches decide whether it extends a history
+abbrev pub TouchedObjectsDecide : Type 0
+TouchedObjectsDecide = (plan : Plan) (past other : List Event) (e : Event) → AgreeWhereTouched plan past other e → Extends plan past e → Extends plan other e
+
+-- a step that reads or changes the number of free frames tells whether one was free
+abbrev pub AskedIsTold : Type 0
+AskedIsTold = (plan : Plan) (g : Guest) (any : Bool) (ask : Ask) (cmd : Cmd) (saw : PoolSaw) → (deed_guest plan g any ask cmd).pool ≡ Some saw → saw.any ≡ any

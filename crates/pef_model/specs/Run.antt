@@ -40,7 +40,7 @@ pub record IsSerial (script : Script) (past : List Event) : Type 0 where
   pub lines : map line_of past ≡ reverse script.lines
   pub stamped : IsStamped past
 
--- a history is a run of a script: each entry is what the tables give, and the lines are done in their order
+-- a history is a run of a script: each entry extends those before it, and the lines are done in their order
 pub record IsRun (script : Script) (past : List Event) : Type 0 where
   pub legal : IsLegal (plan_of script.config) past
   pub serial : IsSerial script past

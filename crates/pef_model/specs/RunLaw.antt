@@ -1,7 +1,11 @@
 -- Laws of runs and reports.
-use Rattle.std.specs.Prelude.{◌≡◌, ℕ, List, codes, Option, Some, None}
-use Rattle.pef_model.specs.Plan.{plan_of}
-use Rattle.pef_model.specs.Script.{Script, IsScript, script_of}
+use Rattle.std.specs.Prelude.{◌≡◌, ℕ, List, [], ◌∷◌, replicate, map, codes, Option, Some, None}
+use Rattle.pef_model.specs.declared.config.Config.{Config}
+use Rattle.pef_model.specs.declared.command.Cmd.{Cmd}
+use Rattle.pef_model.specs.declared.command.Cmd.TheVariants.{HLd, HSt, UReturn, GLi, GLd, GSt}
+use Rattle.pef_model.specs.Plan.{plan_of, default_config}
+use Rattle.pef_model.specs.Event.{Event}
+use Rattle.pef_model.specs.Script.{Line, Script, IsScript, script_of}
 use Rattle.pef_model.specs.Run.{IsRun, run_of}
 use Rattle.pef_model.specs.Report.{report}
 
@@ -24,3 +28,39 @@ abbrev pub StoreAndLoad : Type 0
 StoreAndLoad =
     report_of (script_of (codes "pef 1\nborn 1\nbegin\n0 u.return 0 0\n0 g.li r20 7\n0 g.st r20 0x0\n0 g.ld r6 0x0\n"))
     ≡ Some (codes "4 0 u.return enter\n5 0 g.li done\n6 0 g.st done\n7 0 g.ld val 0x7\nfree 15\nend\n")
+
+-- sizes that all differ: two CPUs, four pages, one secure frame
+abbrev pub small_config : Config
+small_config = record default_config { shift = 8; normal = 5; secure = 1; cpus = 2; guests = 3; vcpus = 2; pages = 4; born = 1 ∷ [] }
+
+abbrev pub line_at : ℕ → ℕ → Cmd → Line
+line_at number cpu cmd = record { number = number; cpu = cpu; cmd = cmd }
+
+abbrev pub return_with : ℕ → Cmd
+return_with r0 = UReturn r0 0 (replicate 9 0)
+
+-- CPU 0 takes the one vCPU, CPU 1 finds it running; accesses unaligned, past the last page, to the one page with a frame, and to one for which none is free
+abbrev pub small_script : Script
+small_script = record {
+  config = small_config;
+  lines =
+      line_at 1 1 (GLi 0 0) ∷ line_at 2 0 (return_with 5) ∷ line_at 3 1 (return_with 0) ∷ line_at 4 0 (return_with 6) ∷ line_at 5 0 (GLd 1 0x400)
+      ∷ line_at 6 0 (GLd 1 0x3fc) ∷ line_at 7 0 (GSt 0 0x3f8) ∷ line_at 8 0 (GLd 1 0x3f8) ∷ line_at 9 0 (GLd 1 0x0) ∷ line_at 10 0 (GSt 3 0x300)
+      ∷ line_at 11 0 (GLd 31 0x300) ∷ [];
+}
+
+-- each answer but Gone, on a machine with one secure frame
+abbrev pub OneFrame : Type 0
+OneFrame =
+    report (plan_of small_config) (run_of small_script)
+    ≡ codes "1 1 g.li context\n2 0 u.return enter\n3 1 u.return ret U_INVALID\n4 0 u.return ret U_INVALID\n5 0 g.ld hole\n6 0 g.ld hole\n7 0 g.st done\n8 0 g.ld val 0x6\n9 0 g.ld hole\n10 0 g.st done\n11 0 g.ld val 0x9\nfree 0\nend\n"
+
+-- a machine in which no guest is born secure has no vCPU to return to
+abbrev pub NoneIsBorn : Type 0
+NoneIsBorn =
+    report (plan_of default_config) (run_of (record { config = default_config; lines = line_at 1 0 (return_with 0) ∷ [] }))
+    ≡ codes "1 0 u.return ret U_INVALID\nfree 16\nend\n"
+
+-- places count each CPU's entries from 0, stamps all entries from 1
+abbrev pub MarksOfOneFrame : Type 0
+MarksOfOneFrame = map (λ (e : Event). e.trace.place) (run_of small_script) ≡ 8 ∷ 7 ∷ 6 ∷ 5 ∷ 4 ∷ 3 ∷ 2 ∷ 1 ∷ 1 ∷ 0 ∷ 0 ∷ []

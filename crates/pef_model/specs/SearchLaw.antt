@@ -1,5 +1,5 @@
 -- Laws of what a guest loads: the last store, as a search from the newest entry on.
-use Rattle.std.specs.Prelude.{◌≡◌, ℕ, ◌-◌, ◌^◌, ◌<◌, ◌==◌, nat_lt, nat_le, Bool, false, ◌&&◌, if◌then◌else◌, List, ◌∷◌, ◌++◌, length, Option, Some, None, slice_index}
+use Rattle.std.specs.Prelude.{◌≡◌, ℕ, ◌-◌, ◌^◌, ◌<◌, ◌==◌, nat_lt, nat_le, Bool, false, ◌&&◌, if◌then◌else◌, List, [], ◌∷◌, ◌++◌, length, Option, Some, None, unwrap_or, slice_index}
 use Rattle.std.specs.List.{AllByRecursion}
 use Rattle.pef_model.specs.declared.state.Run.{Run}
 use Rattle.pef_model.specs.declared.state.Ctx.{Ctx}
@@ -13,16 +13,27 @@ use Rattle.pef_model.specs.Event.{Event, newest}
 use Rattle.pef_model.specs.Registers.{number_of}
 use Rattle.pef_model.specs.Target.{touches_guest}
 use Rattle.pef_model.specs.Guest.{is_invalid, page_of}
-use Rattle.pef_model.specs.Private.{stored_by}
 use Rattle.pef_model.specs.History.{guest_after, last_store, reg, Extends}
 
--- an entry that touches a guest decides what it says
-abbrev pub if_touching : Plan → ℕ → Event → Option ℕ → Option ℕ
-if_touching plan lpid e decision = if touches_guest plan lpid e then decision else None
+-- an access of a guest backs the page of an address where that page was Invalid, and its doublewords are 0 then
+abbrev pub zero_where_backed : Plan → ℕ → ℕ → List Event → ℕ → Option ℕ
+zero_where_backed plan lpid gpa past at =
+    if (page_of plan at == page_of plan gpa) && is_invalid ((guest_after plan lpid past).part.pages (page_of plan gpa)) then Some 0 else None
+
+-- what a step of a guest's vCPU decides: a store to the address what was in its register, another access a backing
+abbrev pub access_decides : Plan → ℕ → ℕ → List Event → ℕ → Cmd → Answer → Option ℕ
+access_decides plan lpid gpa past vid (GSt rs at) answer.Done = if at == gpa then Some (reg plan past lpid vid rs) else zero_where_backed plan lpid gpa past at
+access_decides plan lpid gpa past vid (GLd rd at) (answer.Val value) = zero_where_backed plan lpid gpa past at
+access_decides plan lpid gpa past vid cmd a = None
+
+-- only the guest's own steps decide its doublewords
+abbrev pub step_decides : Plan → ℕ → ℕ → List Event → Ctx → Cmd → Answer → Option ℕ
+step_decides plan lpid gpa past ctx.Hv cmd a = None
+step_decides plan lpid gpa past (ctx.Guest run) cmd a = if run.lpid == lpid then access_decides plan lpid gpa past run.vid cmd a else None
 
 -- the value that an entry gives the doubleword at an address of a guest
 abbrev pub decides_doubleword : Plan → ℕ → ℕ → List Event → Event → Option ℕ
-decides_doubleword plan lpid gpa past e = if_touching plan lpid e (stored_by plan (guest_after plan lpid past) e gpa)
+decides_doubleword plan lpid gpa past e = step_decides plan lpid gpa past e.saw.before e.trace.cmd e.trace.answer
 
 -- last_store is what the newest entry says that stored there or backed the page, and 0 where the page is Invalid now
 abbrev pub LastStoreIsNewest : Type 0
@@ -52,8 +63,9 @@ abbrev pub assigned_in : Ctx → ℕ → Cmd → Answer → ℕ → Option ℕ
 assigned_in ctx.Hv vid cmd a r = None
 assigned_in (ctx.Guest run) vid cmd a r = if vid == run.vid then assigned_by_command cmd a r else None
 
+-- the value that an entry of a guest gives a register of its vCPU
 abbrev pub decides_register : Plan → ℕ → ℕ → ℕ → List Event → Event → Option ℕ
-decides_register plan lpid vid r past e = if_touching plan lpid e (assigned_in e.saw.before vid e.trace.cmd e.trace.answer r)
+decides_register plan lpid vid r past e = if touches_guest plan lpid e then assigned_in e.saw.before vid e.trace.cmd e.trace.answer r else None
 
 -- a command that a script can have: its registers are R0 to R31, UV_RETURN has nine outputs, and what is stored has 64 bits
 abbrev pub IsCommand : Cmd → Type 0
@@ -70,11 +82,12 @@ RegIsNewest =
     (plan : Plan) (past : List Event) (lpid vid r : ℕ) → r < 32 → AllByRecursion (λ (e : Event). IsCommand e.trace.cmd) past →
     reg plan past lpid vid r ≡ newest (decides_register plan lpid vid r) 0 past
 
--- whether an entry is a store to an address of a guest that was done
+-- whether a step is a store to an address of a guest that was done
 abbrev pub is_store_by : ℕ → ℕ → Ctx → Cmd → Answer → Bool
 is_store_by lpid gpa (ctx.Guest run) (GSt rs at) answer.Done = (run.lpid == lpid) && (at == gpa)
 is_store_by lpid gpa before cmd a = false
 
+-- whether an entry is such a store
 abbrev pub is_store : ℕ → ℕ → Event → Bool
 is_store lpid gpa e = is_store_by lpid gpa e.saw.before e.trace.cmd e.trace.answer
 

@@ -1,5 +1,5 @@
--- The law that the public state has no secret, for one entry.
-use Rattle.std.specs.Prelude.{◌≡◌, ℕ, List}
+-- The law that the public state has no secret.
+use Rattle.std.specs.Prelude.{◌≡◌, ℕ, Bool, List, map}
 use Rattle.pef_model.specs.declared.state.Ctx.{Ctx}
 use Rattle.pef_model.specs.declared.state.Ctx.TheVariants as ctx
 use Rattle.pef_model.specs.declared.command.Cmd.{Cmd}
@@ -8,9 +8,12 @@ use Rattle.pef_model.specs.declared.entry.Answer.{Answer}
 use Rattle.pef_model.specs.declared.entry.Answer.TheVariants.{Val}
 use Rattle.pef_model.specs.Plan.{Plan}
 use Rattle.pef_model.specs.Event.{Event}
-use Rattle.pef_model.specs.Target.{touches_cpu, touches_guest, touches_pool, touches_frame}
+use Rattle.pef_model.specs.Target.{Ask, touches_cpu, touches_guest, touches_pool, touches_frame}
 use Rattle.pef_model.specs.Cpu.{CpuPart, next_cpu}
 use Rattle.pef_model.specs.Guest.{GuestPart, next_part}
+use Rattle.pef_model.specs.Private.{Guest}
+use Rattle.pef_model.specs.Deed.{Deed, deed_guest}
+use Rattle.pef_model.specs.History.{public_state}
 use Rattle.pef_model.specs.Memory.{next_pool, next_frame}
 
 -- a command without the value that a guest alone knows
@@ -36,7 +39,7 @@ open_answer (ctx.Guest run) a = open_answer_of_guest a
 abbrev pub open_entry : Event → Event
 open_entry e = record e { trace = record e.trace { cmd = open_cmd e.trace.cmd; answer = open_answer e.saw.before e.trace.answer } }
 
--- two entries that agree but there touch the same objects, and give equal next public values
+-- two such entries that agree touch the same objects, and give equal next public values
 pub record SecretsStayIn (plan : Plan) (e f : Event) : Type 0 where
   pub touches_cpu : (n : ℕ) → touches_cpu n e ≡ touches_cpu n f
   pub touches_guest : (lpid : ℕ) → touches_guest plan lpid e ≡ touches_guest plan lpid f
@@ -47,5 +50,25 @@ pub record SecretsStayIn (plan : Plan) (e f : Event) : Type 0 where
   pub pool : (free : ℕ) → next_pool free e ≡ next_pool free f
   pub frame : (bytes : List ℕ) → next_frame plan bytes e ≡ next_frame plan bytes f
 
+-- one entry lets no secret into the public state
+abbrev pub NoSecretInOneEntry : Type 0
+NoSecretInOneEntry = (plan : Plan) (e f : Event) → open_entry e ≡ open_entry f → SecretsStayIn plan e f
+
+-- the public state has no secret: two histories whose entries agree but there have one public state
 abbrev pub NoSecretInPublicState : Type 0
-NoSecretInPublicState = (plan : Plan) (e f : Event) → open_entry e ≡ open_entry f → SecretsStayIn plan e f
+NoSecretInPublicState = (plan : Plan) (past other : List Event) → map open_entry past ≡ map open_entry other → public_state plan past ≡ public_state plan other
+
+-- two deeds agree but for the value that a guest alone knows
+pub record AgreeButValue (before : Ctx) (one other : Deed) : Type 0 where
+  pub answer : open_answer before one.answer ≡ open_answer before other.answer
+  pub after : one.after ≡ other.after
+  pub shown : one.shown ≡ other.shown
+  pub pool : one.pool ≡ other.pool
+  pub frame : one.frame ≡ other.frame
+  pub bytes : one.bytes ≡ other.bytes
+
+-- what a step does at a guest is decided by the guest's public part and the command without the value of a g.li, but for the value of a load
+abbrev pub NoSecretInDeeds : Type 0
+NoSecretInDeeds =
+    (plan : Plan) (one other : Guest) (any : Bool) (ask : Ask) (cmd with_ : Cmd) → one.part ≡ other.part → open_cmd cmd ≡ open_cmd with_ →
+    AgreeButValue ask.before (deed_guest plan one any ask cmd) (deed_guest plan other any ask with_)

@@ -20,7 +20,8 @@ pub enum Answer {
     Enter,
     /// The guest that the CPU ran has ended; the hypervisor runs from now on.
     Gone,
-    /// There is no memory at the address.
+    /// The address is none that can be accessed: it is no multiple of 8, lies in no page or frame, or no secure frame is
+    /// free to back its page.
     Hole,
     /// The command is none of the CPU's context.
     Context,

@@ -1,8 +1,9 @@
 //! The laws of the definitions: each is the contract of a function that does nothing.
 
-ghost use Rattle.pef_model.specs.RunLaw.{OneRun, StoreAndLoad};
-ghost use Rattle.pef_model.specs.ReadLaw.{EachOwnEntriesDecide, TheseFieldsDecide};
-ghost use Rattle.pef_model.specs.SecretLaw.{NoSecretInPublicState};
+ghost use Rattle.pef_model.specs.RunLaw.{OneRun, StoreAndLoad, OneFrame, MarksOfOneFrame, NoneIsBorn};
+ghost use Rattle.pef_model.specs.WordLaw.{WordsAtTheEdge};
+ghost use Rattle.pef_model.specs.ReadLaw.{EachOwnEntriesDecide, TheseFieldsDecide, TouchedObjectsDecide, AskedIsTold};
+ghost use Rattle.pef_model.specs.SecretLaw.{NoSecretInPublicState, NoSecretInOneEntry, NoSecretInDeeds};
 ghost use Rattle.pef_model.specs.SearchLaw.{LastStoreIsNewest, RegIsNewest, LoadGivesLastStore, LastStoreIsStored, LastStoreIsZero};
 ghost use Rattle.pef_model.specs.NormalLaw.{FramesHoldLastNorm, GuestLeavesFrames, StoreLeavesGuests};
 
@@ -22,13 +23,13 @@ pub fn own_entries_decide()
     ensures { EachOwnEntriesDecide }
 {}
 
-/// An object's next value reads of an entry these fields and no others.
+/// An object's next value, a guest's memory and registers included, reads of an entry these fields and no others.
 pub fn these_fields_decide()
     ensures { TheseFieldsDecide }
 {}
 
-/// Two entries that differ in the value of a `g.li` and in the value that a guest's load gave touch the same objects and
-/// give equal next public values.
+/// Two histories whose entries differ at most in the value of a `g.li` and in the value that a guest's load gave have one
+/// public state.
 pub fn no_secret_in_public_state()
     ensures { NoSecretInPublicState }
 {}
@@ -58,17 +59,61 @@ pub fn last_store_is_zero()
     ensures { LastStoreIsZero }
 {}
 
+/// Each answer but Gone, on a machine with two CPUs and one secure frame: the report, computed from the definitions.
+pub fn one_frame()
+    ensures { OneFrame }
+{}
+
+/// The places of that run's entries.
+pub fn marks_of_one_frame()
+    ensures { MarksOfOneFrame }
+{}
+
+/// A machine in which no guest is born secure has no vCPU to return to.
+pub fn none_is_born()
+    ensures { NoneIsBorn }
+{}
+
+/// Numbers, registers and lines at the edge of the grammar.
+pub fn words_at_the_edge()
+    ensures { WordsAtTheEdge }
+{}
+
+/// What a step does at a guest is decided by the guest's public part, but for the value of a load.
+pub fn no_secret_in_deeds()
+    ensures { NoSecretInDeeds }
+{}
+
+/// Two entries that differ at most in the value of a `g.li` and in the value that a guest's load gave touch the same
+/// objects and give equal next public values.
+pub fn no_secret_in_one_entry()
+    ensures { NoSecretInOneEntry }
+{}
+
+/// The objects that an entry touches decide whether it extends a history.
+pub fn touched_objects_decide()
+    ensures { TouchedObjectsDecide }
+{}
+
+/// A step that reads or changes the number of free frames tells whether one was free.
+pub fn asked_is_told()
+    ensures { AskedIsTold }
+{}
+
 /// The frames of the public state hold what was last stored at each real address.
 pub fn frames_hold_last_norm()
     ensures { FramesHoldLastNorm }
-{}
+{
+}
 
 /// A guest's step changes no normal frame.
 pub fn guest_leaves_frames()
     ensures { GuestLeavesFrames }
-{}
+{
+}
 
 /// The hypervisor's store changes no guest.
 pub fn store_leaves_guests()
     ensures { StoreLeavesGuests }
-{}
+{
+}

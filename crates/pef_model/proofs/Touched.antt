@@ -1,0 +1,122 @@
+-- The objects that an entry touches decide whether it extends a history.
+use Rattle.std.proofs.Common.{◌≡◌, ℕ, Bool, true, false, ◌==◌, ◌&&◌, nat_lt, if◌then◌else◌, List, refl, ap, sym, ◌∙◌, Some}
+use Rattle.std.specs.Prelude.{is_some}
+use Rattle.pef_model.specs.declared.state.Ctx.{Ctx}
+use Rattle.pef_model.specs.declared.state.Ctx.TheVariants as ctx
+use Rattle.pef_model.specs.declared.command.Cmd.{Cmd}
+use Rattle.pef_model.specs.declared.command.Cmd.TheVariants.{HLd, HSt, UReturn, GLi, GLd, GSt}
+use Rattle.pef_model.specs.declared.command.Code.TheVariants.{UInvalid}
+use Rattle.pef_model.specs.declared.entry.Answer.{Answer}
+use Rattle.pef_model.specs.declared.entry.Answer.TheVariants.{Enter, Ret}
+use Rattle.pef_model.specs.declared.entry.PoolSaw.{PoolSaw}
+use Rattle.pef_model.specs.Plan.{Plan}
+use Rattle.pef_model.specs.Event.{Event, mark_of}
+use Rattle.pef_model.specs.Target.{Ask, Target, Alone, AtGuest, AtFrame, target_in, is_guest, is_number, touches_frame, touches_guest, touches_pool}
+use Rattle.pef_model.specs.Cpu.{CpuPart}
+use Rattle.pef_model.specs.Guest.{GuestPart, is_invalid, has_place, page_of}
+use Rattle.pef_model.specs.Private.{Guest}
+use Rattle.pef_model.specs.Deed.{answering, may_return_in, is_waiting, NoPage, reach_of, deed_access, deed_running, deed_gone, deed_hypervisor, deed_guest_in, deed_guest, deed_frame}
+use Rattle.pef_model.specs.History.{cpu_after, guest_after, pool_after, frame_after, ask_of, entry_of, deed_after, next_entry, next_entry_by}
+use Rattle.pef_model.specs.ReadLaw.{TouchedObjectsDecide, AskedIsTold}
+use Rattle.pef_model.proofs.Folds.{same_test}
+
+-- an access that didn't ask for a frame is the same whether one is free or not
+access_asks : (ask : Ask) (success : Answer) (invalid any free : Bool) → (is_some (deed_access ask success (reach_of invalid any)).pool ≡ true → any ≡ free) →
+    deed_access ask success (reach_of invalid any) ≡ deed_access ask success (reach_of invalid free)
+access_asks ask success false any free h = refl
+access_asks ask success true true free h = ap (λ (b : Bool). deed_access ask success (reach_of true b)) (h refl)
+access_asks ask success true false free h = ap (λ (b : Bool). deed_access ask success (reach_of true b)) (h refl)
+
+placed_asks : (ask : Ask) (success : Answer) (placed invalid any free : Bool) →
+    (is_some (deed_access ask success (if placed then reach_of invalid any else NoPage)).pool ≡ true → any ≡ free) →
+    deed_access ask success (if placed then reach_of invalid any else NoPage) ≡ deed_access ask success (if placed then reach_of invalid free else NoPage)
+placed_asks ask success true invalid any free h = access_asks ask success invalid any free h
+placed_asks ask success false invalid any free h = refl
+
+running_asks : (plan : Plan) (g : Guest) (any free : Bool) (ask : Ask) (cmd : Cmd) → (is_some (deed_running plan g any ask cmd).pool ≡ true → any ≡ free) →
+    deed_running plan g any ask cmd ≡ deed_running plan g free ask cmd
+running_asks plan g any free ask (HLd ra) h = refl
+running_asks plan g any free ask (HSt ra value) h = refl
+running_asks plan g any free ask (UReturn r0 r2 outs) h = refl
+running_asks plan g any free ask (GLi rd value) h = refl
+running_asks plan g any free ask (GLd rd gpa) h = placed_asks ask _ (has_place plan gpa) (is_invalid (g.part.pages (page_of plan gpa))) any free h
+running_asks plan g any free ask (GSt rs gpa) h = placed_asks ask _ (has_place plan gpa) (is_invalid (g.part.pages (page_of plan gpa))) any free h
+
+-- what was not asked of the pool makes no difference
+deed_asks : (plan : Plan) (g : Guest) (any free : Bool) (ask : Ask) (cmd : Cmd) (c : Ctx) → (is_some (deed_guest_in c plan g any ask cmd).pool ≡ true → any ≡ free) →
+    deed_guest_in c plan g any ask cmd ≡ deed_guest_in c plan g free ask cmd
+deed_asks plan g any free ask cmd ctx.Hv h = refl
+deed_asks plan g any free ask cmd (ctx.Guest run) h = by_test (run.generation == g.part.generation) h where
+  by_test : (b : Bool) → (is_some (if b then deed_running plan g any ask cmd else deed_gone ask).pool ≡ true → any ≡ free) →
+      (if b then deed_running plan g any ask cmd else deed_gone ask) ≡ (if b then deed_running plan g free ask cmd else deed_gone ask)
+  by_test true k = running_asks plan g any free ask cmd k
+  by_test false k = refl
+
+pub touched_objects_decide : TouchedObjectsDecide
+touched_objects_decide plan past other e agree extends = record { cpu = extends.cpu; is = extends.is ∙ by_target (target_in plan ask.before ask.lpid e.trace.cmd) refl ∙ asked } where
+  ask : Ask
+  ask = ask_of (cpu_after plan e.trace.cpu past)
+
+  asked : next_entry_by plan other ask (mark_of e) e.trace.cmd ≡ next_entry plan other (mark_of e) e.trace.cmd
+  asked = ap (λ (cpu : CpuPart). next_entry_by plan other (ask_of cpu) (mark_of e) e.trace.cmd) agree.cpu
+
+  free : List Event → Bool
+  free history = nat_lt 0 (pool_after plan history)
+
+  at : List Event → Target → Event
+  at history t = entry_of ask (mark_of e) e.trace.cmd (deed_after plan history ask e.trace.cmd t)
+
+  deeds : (lpid : ℕ) → target_in plan ask.before ask.lpid e.trace.cmd ≡ AtGuest lpid →
+      deed_guest plan (guest_after plan lpid past) (free past) ask e.trace.cmd ≡ deed_guest plan (guest_after plan lpid other) (free other) ask e.trace.cmd
+  deeds lpid is =
+      let touched : touches_guest plan lpid e ≡ true = ap (touches_guest plan lpid) extends.is ∙ ap (is_guest lpid) is ∙ same_test lpid in
+      let asks : is_some (deed_guest plan (guest_after plan lpid past) (free past) ask e.trace.cmd).pool ≡ true → free past ≡ free other =
+      (λ h. ap (nat_lt 0) (agree.pool (ap touches_pool extends.is ∙ ap (λ (t : Target). is_some (deed_after plan past ask e.trace.cmd t).pool) is ∙ h))) in
+      deed_asks plan (guest_after plan lpid past) (free past) (free other) ask e.trace.cmd ask.before asks
+      ∙ ap (λ (g : Guest). deed_guest plan g (free other) ask e.trace.cmd) (agree.guest lpid touched)
+
+  frames : (n : ℕ) → target_in plan ask.before ask.lpid e.trace.cmd ≡ AtFrame n → frame_after plan n past ≡ frame_after plan n other
+  frames n is = agree.frame n (ap (touches_frame n) extends.is ∙ ap (λ (t : Target). is_number n (deed_after plan past ask e.trace.cmd t).frame) is ∙ same_test n)
+
+  by_target : (t : Target) → target_in plan ask.before ask.lpid e.trace.cmd ≡ t → next_entry_by plan past ask (mark_of e) e.trace.cmd ≡ next_entry_by plan other ask (mark_of e) e.trace.cmd
+  by_target Alone is = ap (at past) is ∙ sym (ap (at other) is)
+  by_target (AtFrame n) is = ap (at past) is ∙ ap (λ (bytes : List ℕ). entry_of ask (mark_of e) e.trace.cmd (deed_frame plan n bytes ask e.trace.cmd)) (frames n is) ∙ sym (ap (at other) is)
+  by_target (AtGuest lpid) is = ap (at past) is ∙ ap (entry_of ask (mark_of e) e.trace.cmd) (deeds lpid is) ∙ sym (ap (at other) is)
+
+access_tells : (ask : Ask) (success : Answer) (invalid any : Bool) (saw : PoolSaw) → (deed_access ask success (reach_of invalid any)).pool ≡ Some saw → saw.any ≡ any
+access_tells ask success false any saw h = cc
+access_tells ask success true true saw h = cc
+access_tells ask success true false saw h = cc
+
+placed_tells : (ask : Ask) (success : Answer) (placed invalid any : Bool) (saw : PoolSaw) →
+    (deed_access ask success (if placed then reach_of invalid any else NoPage)).pool ≡ Some saw → saw.any ≡ any
+placed_tells ask success true invalid any saw h = access_tells ask success invalid any saw h
+placed_tells ask success false invalid any saw h = cc
+
+running_tells : (plan : Plan) (g : Guest) (any : Bool) (ask : Ask) (cmd : Cmd) (saw : PoolSaw) → (deed_running plan g any ask cmd).pool ≡ Some saw → saw.any ≡ any
+running_tells plan g any ask (HLd ra) saw h = cc
+running_tells plan g any ask (HSt ra value) saw h = cc
+running_tells plan g any ask (UReturn r0 r2 outs) saw h = cc
+running_tells plan g any ask (GLi rd value) saw h = cc
+running_tells plan g any ask (GLd rd gpa) saw h = placed_tells ask _ (has_place plan gpa) (is_invalid (g.part.pages (page_of plan gpa))) any saw h
+running_tells plan g any ask (GSt rs gpa) saw h = placed_tells ask _ (has_place plan gpa) (is_invalid (g.part.pages (page_of plan gpa))) any saw h
+
+hypervisor_tells : (g : GuestPart) (any : Bool) (ask : Ask) (cmd : Cmd) (saw : PoolSaw) → (deed_hypervisor g ask cmd).pool ≡ Some saw → saw.any ≡ any
+hypervisor_tells g any ask (UReturn r0 r2 outs) saw h = by_test (may_return_in g.phase && is_waiting (g.vcpus ask.vid).state) h where
+  by_test : (b : Bool) → (if b then record (answering ask Enter) { after = ctx.Guest (record { lpid = ask.lpid; vid = ask.vid; generation = g.generation }) } else answering ask (Ret UInvalid)).pool ≡ Some saw → saw.any ≡ any
+  by_test true k = cc
+  by_test false k = cc
+hypervisor_tells g any ask (HLd ra) saw h = cc
+hypervisor_tells g any ask (HSt ra value) saw h = cc
+hypervisor_tells g any ask (GLi rd value) saw h = cc
+hypervisor_tells g any ask (GLd rd gpa) saw h = cc
+hypervisor_tells g any ask (GSt rs gpa) saw h = cc
+
+pub asked_is_told : AskedIsTold
+asked_is_told plan g any ask cmd saw is = by_ctx ask.before is where
+  by_ctx : (c : Ctx) → (deed_guest_in c plan g any ask cmd).pool ≡ Some saw → saw.any ≡ any
+  by_ctx ctx.Hv h = hypervisor_tells g.part any ask cmd saw h
+  by_ctx (ctx.Guest run) h = by_test (run.generation == g.part.generation) h where
+    by_test : (b : Bool) → (if b then deed_running plan g any ask cmd else deed_gone ask).pool ≡ Some saw → saw.any ≡ any
+    by_test true k = running_tells plan g any ask cmd saw k
+    by_test false k = cc

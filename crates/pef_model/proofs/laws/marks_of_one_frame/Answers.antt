@@ -1,0 +1,7 @@
+use Rattle.std.proofs.Common.{refl}
+use Rattle.std.specs.Fmt.{digits}
+use Rattle.pef_model.proofs.laws.marks_of_one_frame.Goals as goal
+
+pub returns : goal.returns
+unfolding digits
+returns c = refl
