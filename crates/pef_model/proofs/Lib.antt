@@ -9,3 +9,4 @@ pub mod Touched
 pub mod Doublewords
 pub mod Places
 pub mod Normal
+pub mod Views

@@ -20,7 +20,7 @@ use Rattle.pef_model.specs.History.{cpu_after, guest_after, pool_after, frame_af
 use Rattle.pef_model.proofs.Folds.{counts, skips}
 use Rattle.pef_model.specs.SecretLaw.{AgreeButValue, SecretsStayIn, NoSecretInOneEntry, NoSecretInDeeds, open_cmd, open_answer, open_answer_of_guest, open_entry, NoSecretInPublicState}
 
-target_open : (plan : Plan) (c : Ctx) (lpid : ℕ) (cmd : Cmd) → target_in plan c lpid cmd ≡ target_in plan c lpid (open_cmd cmd)
+pub target_open : (plan : Plan) (c : Ctx) (lpid : ℕ) (cmd : Cmd) → target_in plan c lpid cmd ≡ target_in plan c lpid (open_cmd cmd)
 target_open plan ctx.Hv lpid (HLd ra) = refl
 target_open plan ctx.Hv lpid (HSt ra value) = refl
 target_open plan ctx.Hv lpid (UReturn r0 r2 outs) = refl
@@ -124,7 +124,7 @@ no_secret_in_one_entry plan e f same = record {
 }
 
 -- a fold over two histories that agree goes on to agree
-agree_more : {S : Type 0} (touches : Event → Bool) (next : S → Event → S) (start : S) (e f : Event) (past other : List Event) → touches e ≡ touches f →
+pub agree_more : {S : Type 0} (touches : Event → Bool) (next : S → Event → S) (start : S) (e f : Event) (past other : List Event) → touches e ≡ touches f →
     ((value : S) → next value e ≡ next value f) → value_after touches next start past ≡ value_after touches next start other →
     value_after touches next start (e ∷ past) ≡ value_after touches next start (f ∷ other)
 agree_more {S = S} touches next start e f past other t step before = by_test (touches e) refl where
@@ -134,7 +134,7 @@ agree_more {S = S} touches next start e f past other t step before = by_test (to
   by_test false h = skips touches next start e past h ∙ before ∙ sym (skips touches next start f other (sym t ∙ h))
 
 -- a guest's public part is a fold of its own
-part_after : (plan : Plan) (lpid : ℕ) (past : List Event) → (guest_after plan lpid past).part ≡ value_after (touches_guest plan lpid) (next_part plan) (start_part plan lpid) past
+pub part_after : (plan : Plan) (lpid : ℕ) (past : List Event) → (guest_after plan lpid past).part ≡ value_after (touches_guest plan lpid) (next_part plan) (start_part plan lpid) past
 part_after plan lpid [] = refl
 part_after plan lpid (e ∷ past) = by_test (part_after plan lpid past) (touches_guest plan lpid e) refl where
   by_test : (guest_after plan lpid past).part ≡ value_after (touches_guest plan lpid) (next_part plan) (start_part plan lpid) past → (b : Bool) → touches_guest plan lpid e ≡ b →

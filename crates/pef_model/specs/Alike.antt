@@ -1,5 +1,5 @@
 -- Two runs that agree but on secrets.
-use Rattle.std.specs.Prelude.{◌≡◌, ℕ, ◌-◌, ◌==◌, Bool, false, List, [], ◌∷◌, length, drop}
+use Rattle.std.specs.Prelude.{◌≡◌, ℕ, ◌-◌, ◌==◌, Bool, true, false, List, [], ◌∷◌, length, drop}
 use Rattle.std.specs.List.{count_by}
 use Rattle.pef_model.specs.declared.config.Config.{Config}
 use Rattle.pef_model.specs.declared.config.EntropyWord.{EntropyWord}
@@ -29,10 +29,44 @@ pub record AreAlikeOpen (e f : Event) : Type 0 where
 -- histories of one length whose entries are alike but for sealed bytes
 abbrev pub AllAlikeOpen : List Event → List Event → Type 0
 AllAlikeOpen [] [] = Unit {0}
-AllAlikeOpen (e ∷ past) (f ∷ other) = AreAlikeOpen e f × AllAlikeOpen past other
-AllAlikeOpen [] (f ∷ other) = ⊥
+AllAlikeOpen (e ∷ past) (f ∷ history) = AreAlikeOpen e f × AllAlikeOpen past history
+AllAlikeOpen [] (f ∷ history) = ⊥
 AllAlikeOpen (e ∷ past) [] = ⊥
+
+-- two runs agree but on secrets, and perhaps on sealed bytes
+pub record IsAlikeOpen (one : Config) (past : List Event) (other : Config) (history : List Event) : Type 0 where
+  pub configs : AgreeButWords one other
+  pub entries : AllAlikeOpen past history
 
 -- whether an entry begins a page-out that seals the page: no command does so
 abbrev pub begins_sealing : Event → Bool
 begins_sealing e = false
+
+-- the bytes of each begin of a sealed page-out agree
+abbrev pub SealedBytesAgree : List Event → List Event → Type 0
+SealedBytesAgree (e ∷ past) (f ∷ history) = (begins_sealing e ≡ true → e.bytes ≡ f.bytes) × SealedBytesAgree past history
+SealedBytesAgree past history = Unit {0}
+
+-- two runs agree but on secrets
+pub record IsAlike (one : Config) (past : List Event) (other : Config) (history : List Event) : Type 0 where
+  pub open_ : IsAlikeOpen one past other history
+  pub sealed : SealedBytesAgree past history
+
+-- the first so many entries of a history
+abbrev pub first : ℕ → List Event → List Event
+first k past = drop (length past - k) past
+
+-- both runs show the hypervisor the same so far
+pub record ShowTheSame (plan other_plan : Plan) (past history : List Event) : Type 0 where
+  pub state : public_state plan past ≡ public_state other_plan history
+  pub seen : view plan past ≡ view other_plan history
+
+-- the view law: two legal histories that are alike show the same at every prefix
+abbrev pub AlikeShowTheSame : Type 0
+AlikeShowTheSame =
+    (one other : Config) (past history : List Event) (k : ℕ) → IsAlike one past other history → IsLegal (plan_of one) past → IsLegal (plan_of other) history →
+    ShowTheSame (plan_of one) (plan_of other) (first k past) (first k history)
+
+-- no command seals a page, so what is alike but for sealed bytes is alike
+abbrev pub OpenIsAlike : Type 0
+OpenIsAlike = (one other : Config) (past history : List Event) → IsAlikeOpen one past other history → IsAlike one past other history
