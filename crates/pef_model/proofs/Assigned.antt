@@ -18,7 +18,7 @@ use Rattle.pef_model.specs.Plan.{Plan}
 use Rattle.pef_model.specs.Event.{Event, newest}
 use Rattle.pef_model.specs.Registers.{number_of, load_return}
 use Rattle.pef_model.specs.Target.{touches_guest}
-use Rattle.pef_model.specs.Private.{Guest, start_guest, next_guest, registers_after_command, registers_after_return, registers_after_in}
+use Rattle.pef_model.specs.Guest.{Guest, start_guest, next_guest, registers_after_command, registers_after_return, registers_after_in}
 use Rattle.pef_model.specs.History.{guest_after, reg}
 use Rattle.pef_model.specs.SearchLaw.{decides_register, loaded_value, assigned_by_command, assigned_in, IsCommand, RegIsNewest}
 use Rattle.pef_model.proofs.Folds.{test_same, counts, skips}

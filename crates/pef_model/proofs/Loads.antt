@@ -8,7 +8,7 @@ use Rattle.pef_model.specs.Plan.{Plan}
 use Rattle.pef_model.specs.Event.{Event, mark_of}
 use Rattle.pef_model.specs.Target.{Ask}
 use Rattle.pef_model.specs.Deed.{Reach, NoPage, InFrame, Backs, NoFrame, deed_access, deed_running, deed_gone, reach}
-use Rattle.pef_model.specs.Private.{Guest, private_doubleword}
+use Rattle.pef_model.specs.Guest.{Guest, private_doubleword}
 use Rattle.pef_model.specs.History.{ask_of, cpu_after, guest_after, pool_after, next_entry_by}
 use Rattle.pef_model.specs.SearchLaw.{LoadGivesLastStore}
 

@@ -10,9 +10,9 @@ use Rattle.pef_model.specs.Plan.{Plan}
 use Rattle.pef_model.specs.Event.{Event}
 use Rattle.pef_model.specs.Target.{touches_cpu, touches_guest, touches_pool, touches_frame}
 use Rattle.pef_model.specs.Cpu.{CpuPart, start_cpu, next_cpu, cpu_after_in, cpu_after_guest, own_after, last_after}
-use Rattle.pef_model.specs.Guest.{GuestPart, put, next_part, part_after_in, part_after_hypervisor, part_after_guest, part_after_return, taken_up}
-use Rattle.pef_model.specs.Private.{Guest, start_guest, next_guest, next_registers, registers_after_in, stored_by, stored_in, private_doubleword}
-use Rattle.pef_model.specs.Memory.{start_pool, next_pool, pooled, start_frame, next_frame}
+use Rattle.pef_model.specs.GuestPart.{GuestPart, put, next_part, part_after_in, part_after_hypervisor, part_after_guest, part_after_return, with_running_vcpu}
+use Rattle.pef_model.specs.Guest.{Guest, start_guest, next_guest, next_registers, registers_after_in, stored_by, stored_in, private_doubleword}
+use Rattle.pef_model.specs.Memory.{start_pool, next_pool, pool_with, start_frame, next_frame}
 use Rattle.pef_model.specs.ReadLaw.{EachOwnEntriesDecide, AgreeForCpu, AgreeForGuest, AgreeForFrame, IsReturn, TheseFieldsDecide}
 use Rattle.pef_model.proofs.Folds.{value_after-filter, test_same}
 use Rattle.std.specs.Prelude.{unwrap_or}
@@ -75,7 +75,7 @@ part_by_is plan g e = by_ctx e.saw.before where
 part_by_reads : (plan : Plan) (g : GuestPart) (c : Ctx) (cmd : Cmd) (a : Answer) (v w m n : ℕ) → (IsReturn cmd → v ≡ w) → (a ≡ Enter → m ≡ n) →
     part_by plan g c cmd a v m ≡ part_by plan g c cmd a w n
 part_by_reads plan g ctx.Hv (UReturn r0 r2 outs) Enter v w m n h k =
-    ap (λ (x : ℕ). taken_up g x m) (h tt) ∙ ap (λ (x : ℕ). taken_up g w x) (k refl)
+    ap (λ (x : ℕ). with_running_vcpu g x m) (h tt) ∙ ap (λ (x : ℕ). with_running_vcpu g w x) (k refl)
 part_by_reads plan g ctx.Hv (UReturn r0 r2 outs) Done v w m n h k = refl
 part_by_reads plan g ctx.Hv (UReturn r0 r2 outs) (Val value) v w m n h k = refl
 part_by_reads plan g ctx.Hv (UReturn r0 r2 outs) (Ret code) v w m n h k = refl
@@ -142,6 +142,6 @@ these_fields_decide plan e f = record {
   cpu = λ cpu h. cpu_agrees e f cpu h;
   part = λ g h. part_agrees plan e f g h;
   guest = λ g h. guest_agrees plan e f g h;
-  pool = λ free h. ap (pooled free) h;
+  pool = λ free h. ap (pool_with free) h;
   frame = λ bytes h. frame_agrees plan e f bytes h;
 }

@@ -15,7 +15,7 @@ use Rattle.pef_model.specs.Event.{Event}
 use Rattle.pef_model.specs.Doubleword.{doubleword, with_doubleword}
 use Rattle.pef_model.specs.Target.{Ask, Alone, AtFrame, frame_of, has_real_place, target_in, is_guest, is_number, touches_guest, touches_frame}
 use Rattle.pef_model.specs.Memory.{offset_of, written_in, next_frame, start_frame}
-use Rattle.pef_model.specs.Private.{start_guest, next_guest}
+use Rattle.pef_model.specs.Guest.{start_guest, next_guest}
 use Rattle.pef_model.specs.Deed.{Deed, answer_alone}
 use Rattle.pef_model.specs.History.{cpu_after, frame_after, ask_of, deed_after, norm_by, last_norm, Extends, IsLegal}
 use Rattle.pef_model.specs.SearchLaw.{IsCommand}

@@ -10,9 +10,9 @@ use Rattle.pef_model.specs.Plan.{Plan}
 use Rattle.pef_model.specs.Event.{Event, value_after}
 use Rattle.pef_model.specs.Target.{Ask, target_in, is_guest, touches_cpu, touches_guest, touches_pool, touches_frame}
 use Rattle.pef_model.specs.Cpu.{start_cpu, CpuPart, next_cpu, cpu_after_in, cpu_after_guest, own_after, last_after}
-use Rattle.pef_model.specs.Guest.{start_part, GuestPart, page_of, next_part, part_after_in, part_after_guest, part_after_hypervisor, part_after_access}
+use Rattle.pef_model.specs.GuestPart.{start_part, GuestPart, page_of, next_part, part_after_in, part_after_guest, part_after_hypervisor, part_after_access}
 use Rattle.pef_model.specs.Memory.{start_pool, next_pool, start_frame, next_frame, written, written_in}
-use Rattle.pef_model.specs.Private.{Guest, start_guest, next_guest, private_doubleword}
+use Rattle.pef_model.specs.Guest.{Guest, start_guest, next_guest, private_doubleword}
 use Rattle.pef_model.specs.Registers.{fresh_registers}
 use Rattle.pef_model.specs.declared.state.Run.{Run}
 use Rattle.pef_model.specs.Deed.{Deed, Reach, NoPage, InFrame, Backs, NoFrame, deed_access, deed_running, deed_gone, deed_hypervisor, deed_guest_in, deed_guest, reach}

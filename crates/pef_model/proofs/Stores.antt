@@ -12,8 +12,8 @@ use Rattle.pef_model.specs.declared.entry.Answer.TheVariants.{Done, Val, Ret, En
 use Rattle.pef_model.specs.Plan.{Plan}
 use Rattle.pef_model.specs.Event.{Event, newest}
 use Rattle.pef_model.specs.Target.{is_guest, target_in, target_of_running, touches_guest}
-use Rattle.pef_model.specs.Guest.{GuestPart, is_invalid, page_of, secured, accessed, next_part, part_after_in, part_after_hypervisor, part_after_return, part_after_guest, part_after_access}
-use Rattle.pef_model.specs.Private.{Guest, start_guest, next_guest, stored_by, stored_in, stored_by_command, backed_by}
+use Rattle.pef_model.specs.GuestPart.{GuestPart, is_invalid, page_of, with_secure_page, with_page_backed, next_part, part_after_in, part_after_hypervisor, part_after_return, part_after_guest, part_after_access}
+use Rattle.pef_model.specs.Guest.{Guest, start_guest, next_guest, stored_by, stored_in, stored_by_command, backed_by}
 use Rattle.pef_model.specs.History.{guest_after, reg}
 use Rattle.pef_model.specs.SearchLaw.{zero_where_backed, access_decides, step_decides, decides_doubleword, LastStoreIsNewest, is_store, is_store_by, HasNoStore, IsStep, LastStoreIsStored, LastStoreIsZero}
 use Rattle.pef_model.proofs.Folds.{same_test, test_same, counts, skips}
@@ -112,13 +112,13 @@ last_store_is_newest plan past lpid gpa =
     ap (λ (x : ℕ). if is_invalid ((guest_after plan lpid past).part.pages (page_of plan gpa)) then 0 else x) (content_newest plan lpid gpa past)
 
 -- A page that isn't Invalid stays so.
-stays_accessed : (g : GuestPart) (gfn p : ℕ) → is_invalid (g.pages p) ≡ false → is_invalid ((accessed g gfn).pages p) ≡ false
+stays_accessed : (g : GuestPart) (gfn p : ℕ) → is_invalid (g.pages p) ≡ false → is_invalid ((with_page_backed g gfn).pages p) ≡ false
 stays_accessed g gfn p h = by_kind (is_invalid (g.pages gfn)) where
   by_place : (b : Bool) → is_invalid (if b then (record { kind = kind.Secure }) else g.pages p) ≡ false
   by_place true = refl
   by_place false = h
 
-  by_kind : (b : Bool) → is_invalid ((if b then secured g gfn else g).pages p) ≡ false
+  by_kind : (b : Bool) → is_invalid ((if b then with_secure_page g gfn else g).pages p) ≡ false
   by_kind true = by_place (p == gfn)
   by_kind false = h
 
@@ -184,9 +184,9 @@ record Holds (plan : Plan) (g : Guest) (gpa value : ℕ) : Type 0 where
   has_frame : is_invalid (g.part.pages (page_of plan gpa)) ≡ false
   value_is : g.content gpa ≡ value
 
-accessed_has_frame : (g : GuestPart) (gfn : ℕ) → is_invalid ((accessed g gfn).pages gfn) ≡ false
+accessed_has_frame : (g : GuestPart) (gfn : ℕ) → is_invalid ((with_page_backed g gfn).pages gfn) ≡ false
 accessed_has_frame g gfn = by_kind (is_invalid (g.pages gfn)) refl where
-  by_kind : (b : Bool) → is_invalid (g.pages gfn) ≡ b → is_invalid ((if b then secured g gfn else g).pages gfn) ≡ false
+  by_kind : (b : Bool) → is_invalid (g.pages gfn) ≡ b → is_invalid ((if b then with_secure_page g gfn else g).pages gfn) ≡ false
   by_kind true h = ap (λ (b : Bool). is_invalid (if b then (record { kind = kind.Secure }) else g.pages gfn)) (same_test gfn)
   by_kind false h = h
 

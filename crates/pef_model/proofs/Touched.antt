@@ -13,8 +13,8 @@ use Rattle.pef_model.specs.Plan.{Plan}
 use Rattle.pef_model.specs.Event.{Event, mark_of}
 use Rattle.pef_model.specs.Target.{Ask, Target, Alone, AtGuest, AtFrame, target_in, is_guest, is_number, touches_frame, touches_guest, touches_pool}
 use Rattle.pef_model.specs.Cpu.{CpuPart}
-use Rattle.pef_model.specs.Guest.{GuestPart, is_invalid, has_place, page_of}
-use Rattle.pef_model.specs.Private.{Guest}
+use Rattle.pef_model.specs.GuestPart.{GuestPart, is_invalid, has_place, page_of}
+use Rattle.pef_model.specs.Guest.{Guest}
 use Rattle.pef_model.specs.Deed.{answering, may_return_in, is_waiting, NoPage, reach_of, deed_access, deed_running, deed_gone, deed_hypervisor, deed_guest_in, deed_guest, deed_frame}
 use Rattle.pef_model.specs.History.{cpu_after, guest_after, pool_after, frame_after, ask_of, entry_of, deed_after, next_entry, next_entry_by}
 use Rattle.pef_model.specs.ReadLaw.{TouchedObjectsDecide, AskedIsTold}

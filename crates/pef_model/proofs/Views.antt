@@ -14,9 +14,9 @@ use Rattle.pef_model.specs.Plan.{Plan, plan_of}
 use Rattle.pef_model.specs.Event.{Event, Mark, mark_of, value_after}
 use Rattle.pef_model.specs.Target.{Ask, Target, Alone, AtGuest, AtFrame, target_in, target_of_running, touches_cpu, touches_guest, touches_pool, touches_frame}
 use Rattle.pef_model.specs.Cpu.{CpuPart, start_cpu, next_cpu}
-use Rattle.pef_model.specs.Guest.{GuestPart, start_part, next_part}
+use Rattle.pef_model.specs.GuestPart.{GuestPart, start_part, next_part}
 use Rattle.pef_model.specs.Memory.{start_pool, next_pool, start_frame, next_frame}
-use Rattle.pef_model.specs.Private.{Guest}
+use Rattle.pef_model.specs.Guest.{Guest}
 use Rattle.pef_model.specs.Deed.{Deed, Reach, NoPage, InFrame, Backs, NoFrame, answer_alone, answer_frame, deed_alone, deed_frame, deed_access, deed_running, deed_gone, deed_guest_in, deed_guest, reach}
 use Rattle.pef_model.specs.History.{public_state, cpu_after, guest_after, pool_after, frame_after, ask_of, entry_of, deed_after, next_entry, next_entry_by, Extends, IsLegal}
 use Rattle.pef_model.specs.Report.{command_name}

@@ -14,8 +14,8 @@ use Rattle.pef_model.specs.declared.entry.Answer.TheVariants as answer
 use Rattle.pef_model.specs.declared.entry.PoolSaw.{PoolSaw}
 use Rattle.pef_model.specs.Plan.{Plan}
 use Rattle.pef_model.specs.Target.{Ask}
-use Rattle.pef_model.specs.Guest.{GuestPart, page_of, has_place, is_invalid}
-use Rattle.pef_model.specs.Private.{Guest, private_doubleword}
+use Rattle.pef_model.specs.GuestPart.{GuestPart, page_of, has_place, is_invalid}
+use Rattle.pef_model.specs.Guest.{Guest, private_doubleword}
 use Rattle.pef_model.specs.Memory.{offset_of}
 use Rattle.pef_model.specs.Doubleword.{doubleword}
 
@@ -120,9 +120,9 @@ abbrev pub deed_hypervisor : GuestPart → Ask → Cmd → Deed
 deed_hypervisor g ask (HLd ra) = answering ask answer.Context
 deed_hypervisor g ask (HSt ra value) = answering ask answer.Context
 deed_hypervisor g ask (UReturn r0 r2 outs) = deed_return g ask
-deed_hypervisor g ask (GLi rd value) = answering ask answer.Context
-deed_hypervisor g ask (GLd rd gpa) = answering ask answer.Context
-deed_hypervisor g ask (GSt rs gpa) = answering ask answer.Context
+deed_hypervisor g ask (GLi rd value) = deed_alone ask (GLi rd value)
+deed_hypervisor g ask (GLd rd gpa) = deed_alone ask (GLd rd gpa)
+deed_hypervisor g ask (GSt rs gpa) = deed_alone ask (GSt rs gpa)
 
 -- a command at a guest, by the CPU's context
 abbrev pub deed_guest_in : Ctx → Plan → Guest → Bool → Ask → Cmd → Deed

@@ -1,123 +1,84 @@
--- A guest's public part, and what an entry makes of it.
-use Rattle.std.specs.Prelude.{ℕ, ◌/◌, ◌%◌, ◌^◌, ◌==◌, nat_lt, Bool, true, false, ◌&&◌, if◌then◌else◌, List, [], ◌∷◌, ◌++◌}
-use Rattle.pef_model.specs.declared.state.Phase.{Phase}
-use Rattle.pef_model.specs.declared.state.Phase.TheVariants as phase
-use Rattle.pef_model.specs.declared.state.Kind.{Kind}
-use Rattle.pef_model.specs.declared.state.Kind.TheVariants as kind
-use Rattle.pef_model.specs.declared.state.VState.{VState}
-use Rattle.pef_model.specs.declared.state.VState.TheVariants as vstate
+-- What a guest keeps to itself: the doublewords of its pages and the registers of its vCPUs.
+use Rattle.std.specs.Prelude.{ℕ, ◌+◌, ◌%◌, ◌^◌, ◌==◌, ◌&&◌, if◌then◌else◌, List, Option, Some, None, unwrap_or, slice_index, slice_set}
 use Rattle.pef_model.specs.declared.state.Ctx.{Ctx}
 use Rattle.pef_model.specs.declared.state.Ctx.TheVariants as ctx
+use Rattle.pef_model.specs.declared.state.Regs.{Regs}
 use Rattle.pef_model.specs.declared.command.Cmd.{Cmd}
-use Rattle.pef_model.specs.declared.command.Cmd.TheVariants.{HLd, HSt, UReturn, GLi, GLd, GSt}
+use Rattle.pef_model.specs.declared.command.Cmd.TheVariants.{UReturn, GLi, GLd, GSt}
 use Rattle.pef_model.specs.declared.entry.Answer.{Answer}
 use Rattle.pef_model.specs.declared.entry.Answer.TheVariants as answer
 use Rattle.pef_model.specs.Plan.{Plan}
 use Rattle.pef_model.specs.Event.{Event}
+use Rattle.pef_model.specs.Registers.{fresh_registers, load_return, with_code}
+use Rattle.pef_model.specs.GuestPart.{GuestPart, start_part, page_of, is_invalid, put, next_part}
 
--- a page, as far as it is public: its kind
-pub record Page : Type 0 where
-  pub kind : Kind
+-- a guest whole: its public part, the doubleword at each address, the registers of each vCPU
+pub record Guest : Type 0 where
+  pub part : GuestPart
+  pub content : ℕ → ℕ
+  pub registers : ℕ → Regs
 
--- a vCPU, as far as it is public: its state, and the guest's generation when it was taken up
-pub record VcpuPart : Type 0 where
-  pub state : VState
-  pub generation : ℕ
+-- at the start all is zero
+abbrev pub start_guest : Plan → ℕ → Guest
+start_guest plan lpid = record { part = start_part plan lpid; content = λ gpa. 0; registers = λ vid. fresh_registers }
 
--- a guest, without what it keeps to itself; order has its Secure pages, the one that became so first in front
-pub record GuestPart : Type 0 where
-  pub phase : Phase
-  pub generation : ℕ
-  pub pages : ℕ → Page
-  pub vcpus : ℕ → VcpuPart
-  pub order : List ℕ
+-- the doubleword at an address of a private page: 0 where the page is Invalid
+abbrev pub private_doubleword : Plan → Guest → ℕ → ℕ
+private_doubleword plan g gpa = if is_invalid (g.part.pages (page_of plan gpa)) then 0 else g.content gpa
 
--- the function with another value at one place
-abbrev pub put : {X : Type 0} → (ℕ → X) → ℕ → X → ℕ → X
-put f at x n = if n == at then x else f n
+-- an access backs an Invalid page with zeros
+abbrev pub backed_by : Plan → Guest → ℕ → ℕ → Option ℕ
+backed_by plan g at gpa = if is_invalid (g.part.pages (page_of plan at)) && (page_of plan at == page_of plan gpa) then Some 0 else None
 
--- a guest that is born secure has Fresh vCPUs; every other is Absent, and its vCPUs are Idle
-abbrev pub start_part_of : Bool → GuestPart
-start_part_of true = record {
-  phase = phase.Secure;
-  generation = 1;
-  pages = λ gfn. record { kind = kind.Invalid };
-  vcpus = λ vid. record { state = vstate.Fresh; generation = 0 };
-  order = [];
+-- the value that a command of the guest gives the doubleword at an address, if it was done and decides it: a store its register, a backing 0
+abbrev pub stored_by_command : Plan → Guest → ℕ → Cmd → Answer → ℕ → Option ℕ
+stored_by_command plan g vid (GSt rs at) answer.Done gpa = if at == gpa then Some (slice_index (g.registers vid).gpr rs) else backed_by plan g at gpa
+stored_by_command plan g vid (GLd rd at) (answer.Val value) gpa = backed_by plan g at gpa
+stored_by_command plan g vid cmd a gpa = None
+
+-- the hypervisor's commands decide none
+abbrev pub stored_in : Ctx → Plan → Guest → Cmd → Answer → ℕ → Option ℕ
+stored_in ctx.Hv plan g cmd a gpa = None
+stored_in (ctx.Guest run) plan g cmd a gpa = stored_by_command plan g run.vid cmd a gpa
+
+-- the value that an entry gives the doubleword at an address
+abbrev pub stored_by : Plan → Guest → Event → ℕ → Option ℕ
+stored_by plan g e gpa = stored_in e.saw.before plan g e.trace.cmd e.trace.answer gpa
+
+-- the next instruction is the one after
+abbrev pub at_next_instruction : Regs → List ℕ → Regs
+at_next_instruction regs gpr = record regs { gpr = gpr; nip = (regs.nip + 4) % 2 ^ 64 }
+
+-- a vCPU's registers after a command of its own, by its answer: one that answers Hole or Gone keeps them
+abbrev pub registers_after_command : Regs → Cmd → Answer → Regs
+registers_after_command regs (UReturn r0 r2 outs) (answer.Ret code) = at_next_instruction regs (with_code (load_return regs.gpr r0 r2 outs) code)
+registers_after_command regs (GLi rd value) answer.Done = at_next_instruction regs (slice_set regs.gpr rd value)
+registers_after_command regs (GLd rd gpa) (answer.Val value) = at_next_instruction regs (slice_set regs.gpr rd value)
+registers_after_command regs (GSt rs gpa) answer.Done = at_next_instruction regs regs.gpr
+registers_after_command regs cmd a = regs
+
+-- UV_RETURN goes on at the address in R2, where it isn't 0, and keeps where the vCPU was in SRR0
+abbrev pub entered_at : Regs → ℕ → Regs
+entered_at regs r2 = if r2 == 0 then regs else record regs { nip = r2; srr0 = regs.nip }
+
+-- a vCPU's registers after a step of the hypervisor
+abbrev pub registers_after_return : Regs → Cmd → Answer → Regs
+registers_after_return regs (UReturn r0 r2 outs) answer.Enter = entered_at regs r2
+registers_after_return regs cmd a = regs
+
+-- the registers of a guest's vCPUs after a step, by the context before it: those of the selected vCPU, or of the running one
+abbrev pub registers_after_in : Ctx → (ℕ → Regs) → ℕ → Cmd → Answer → ℕ → Regs
+registers_after_in ctx.Hv registers vid cmd a = put registers vid (registers_after_return (registers vid) cmd a)
+registers_after_in (ctx.Guest run) registers vid cmd a = put registers run.vid (registers_after_command (registers run.vid) cmd a)
+
+-- the registers of a guest's vCPUs after an entry
+abbrev pub next_registers : (ℕ → Regs) → Event → ℕ → Regs
+next_registers registers e = registers_after_in e.saw.before registers e.saw.vid e.trace.cmd e.trace.answer
+
+-- a guest after an entry that touches it
+abbrev pub next_guest : Plan → Guest → Event → Guest
+next_guest plan g e = record {
+  part = next_part plan g.part e;
+  content = λ gpa. unwrap_or (stored_by plan g e gpa) (g.content gpa);
+  registers = next_registers g.registers e;
 }
-start_part_of false = record {
-  phase = phase.Absent;
-  generation = 1;
-  pages = λ gfn. record { kind = kind.Invalid };
-  vcpus = λ vid. record { state = vstate.Idle; generation = 0 };
-  order = [];
-}
-
--- a guest's public part at the start
-abbrev pub start_part : Plan → ℕ → GuestPart
-start_part plan lpid = start_part_of (plan.is_born lpid)
-
--- the page of a guest address
-abbrev pub page_of : Plan → ℕ → ℕ
-page_of plan gpa = gpa / 2 ^ plan.shift
-
--- whether a guest address is that of a doubleword in a page of the guest
-abbrev pub has_place : Plan → ℕ → Bool
-has_place plan gpa = (gpa % 8 == 0) && nat_lt (page_of plan gpa) plan.pages
-
--- whether a page has no frame yet
-abbrev pub is_invalid : Page → Bool
-is_invalid page = is_invalid_kind page.kind where
-  is_invalid_kind : Kind → Bool
-  is_invalid_kind kind.Invalid = true
-  is_invalid_kind kind.Secure = false
-
--- a page that becomes Secure is the last in the order
-abbrev pub secured : GuestPart → ℕ → GuestPart
-secured g gfn = record g { pages = put g.pages gfn (record { kind = kind.Secure }); order = g.order ++ gfn ∷ [] }
-
--- an access that was done has backed the page where it was Invalid
-abbrev pub accessed : GuestPart → ℕ → GuestPart
-accessed g gfn = if is_invalid (g.pages gfn) then secured g gfn else g
-
--- a vCPU that is taken up runs on the CPU under the guest's generation
-abbrev pub taken_up : GuestPart → ℕ → ℕ → GuestPart
-taken_up g vid cpu = record g { vcpus = put g.vcpus vid (record { state = vstate.Running cpu; generation = g.generation }) }
-
--- after an answer of UV_RETURN in the hypervisor
-abbrev pub part_after_return : GuestPart → ℕ → ℕ → Answer → GuestPart
-part_after_return g vid cpu answer.Enter = taken_up g vid cpu
-part_after_return g vid cpu other = g
-
--- after the answer of an access
-abbrev pub part_after_access : GuestPart → ℕ → Answer → GuestPart
-part_after_access g gfn answer.Done = accessed g gfn
-part_after_access g gfn (answer.Val value) = accessed g gfn
-part_after_access g gfn other = g
-
--- after a step of the hypervisor
-abbrev pub part_after_hypervisor : GuestPart → Cmd → Event → GuestPart
-part_after_hypervisor g (HLd ra) e = g
-part_after_hypervisor g (HSt ra value) e = g
-part_after_hypervisor g (UReturn r0 r2 outs) e = part_after_return g e.saw.vid e.trace.cpu e.trace.answer
-part_after_hypervisor g (GLi rd value) e = g
-part_after_hypervisor g (GLd rd gpa) e = g
-part_after_hypervisor g (GSt rs gpa) e = g
-
--- after a step of the guest
-abbrev pub part_after_guest : Plan → GuestPart → Cmd → Answer → GuestPart
-part_after_guest plan g (HLd ra) a = g
-part_after_guest plan g (HSt ra value) a = g
-part_after_guest plan g (UReturn r0 r2 outs) a = g
-part_after_guest plan g (GLi rd value) a = g
-part_after_guest plan g (GLd rd gpa) a = part_after_access g (page_of plan gpa) a
-part_after_guest plan g (GSt rs gpa) a = part_after_access g (page_of plan gpa) a
-
--- by the context before the entry
-abbrev pub part_after_in : Ctx → Plan → GuestPart → Event → GuestPart
-part_after_in ctx.Hv plan g e = part_after_hypervisor g e.trace.cmd e
-part_after_in (ctx.Guest run) plan g e = part_after_guest plan g e.trace.cmd e.trace.answer
-
--- a guest's public part after an entry that touches it
-abbrev pub next_part : Plan → GuestPart → Event → GuestPart
-next_part plan g e = part_after_in e.saw.before plan g e

@@ -10,8 +10,8 @@ use Rattle.pef_model.specs.Plan.{Plan}
 use Rattle.pef_model.specs.Event.{Event, Mark, mark_of, newest, value_after}
 use Rattle.pef_model.specs.Target.{Ask, Target, Alone, AtGuest, AtFrame, target_in, touches_cpu, touches_guest, touches_pool, touches_frame}
 use Rattle.pef_model.specs.Cpu.{CpuPart, start_cpu, next_cpu}
-use Rattle.pef_model.specs.Guest.{GuestPart}
-use Rattle.pef_model.specs.Private.{Guest, start_guest, next_guest, private_doubleword}
+use Rattle.pef_model.specs.GuestPart.{GuestPart}
+use Rattle.pef_model.specs.Guest.{Guest, start_guest, next_guest, private_doubleword}
 use Rattle.pef_model.specs.Memory.{start_pool, next_pool, start_frame, next_frame}
 use Rattle.pef_model.specs.Deed.{Deed, deed_alone, deed_guest, deed_frame}
 

@@ -5,7 +5,7 @@ pub mod Registers
 pub mod Target
 pub mod Cpu
 pub mod Guest
-pub mod Private
+pub mod GuestPart
 pub mod Memory
 pub mod Deed
 pub mod History

@@ -12,13 +12,13 @@ use Rattle.pef_model.specs.Event.{Event}
 use Rattle.pef_model.specs.Doubleword.{with_doubleword}
 
 -- the number of free frames after what a step took and gave back
-abbrev pub pooled : ℕ → Option PoolSaw → ℕ
-pooled free None = free
-pooled free (Some saw) = free - saw.taken + saw.given
+abbrev pub pool_with : ℕ → Option PoolSaw → ℕ
+pool_with free None = free
+pool_with free (Some saw) = free - saw.taken + saw.given
 
 -- the number of free frames after an entry that touches the pool
 abbrev pub next_pool : ℕ → Event → ℕ
-next_pool free e = pooled free e.saw.pool
+next_pool free e = pool_with free e.saw.pool
 
 -- at the start each secure frame is free
 abbrev pub start_pool : Plan → ℕ

@@ -9,8 +9,8 @@ use Rattle.pef_model.specs.Plan.{Plan}
 use Rattle.pef_model.specs.Event.{Event}
 use Rattle.pef_model.specs.Target.{Ask, touches_cpu, touches_guest, touches_pool, touches_frame}
 use Rattle.pef_model.specs.Cpu.{CpuPart, next_cpu}
-use Rattle.pef_model.specs.Guest.{GuestPart, next_part}
-use Rattle.pef_model.specs.Private.{Guest, next_guest}
+use Rattle.pef_model.specs.GuestPart.{GuestPart, next_part}
+use Rattle.pef_model.specs.Guest.{Guest, next_guest}
 use Rattle.pef_model.specs.Memory.{next_pool, next_frame}
 use Rattle.pef_model.specs.Deed.{deed_guest}
 use Rattle.pef_model.specs.History.{cpu_after, guest_after, pool_after, frame_after, last_store, reg, Extends}

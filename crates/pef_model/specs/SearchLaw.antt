@@ -12,7 +12,7 @@ use Rattle.pef_model.specs.Plan.{Plan}
 use Rattle.pef_model.specs.Event.{Event, newest}
 use Rattle.pef_model.specs.Registers.{number_of}
 use Rattle.pef_model.specs.Target.{touches_guest}
-use Rattle.pef_model.specs.Guest.{is_invalid, page_of}
+use Rattle.pef_model.specs.GuestPart.{is_invalid, page_of}
 use Rattle.pef_model.specs.History.{guest_after, last_store, reg, Extends}
 
 -- an access of a guest backs the page of an address where that page was Invalid, and its doublewords are 0 then

@@ -1,0 +1,135 @@
+-- A guest's public part, and what an entry makes of it.
+use Rattle.std.specs.Prelude.{ℕ, ◌/◌, ◌%◌, ◌^◌, ◌==◌, nat_lt, Bool, true, false, ◌&&◌, if◌then◌else◌, List, [], ◌∷◌, ◌++◌}
+use Rattle.pef_model.specs.declared.state.Phase.{Phase}
+use Rattle.pef_model.specs.declared.state.Phase.TheVariants as phase
+use Rattle.pef_model.specs.declared.state.Kind.{Kind}
+use Rattle.pef_model.specs.declared.state.Kind.TheVariants as kind
+use Rattle.pef_model.specs.declared.state.VState.{VState}
+use Rattle.pef_model.specs.declared.state.VState.TheVariants as vstate
+use Rattle.pef_model.specs.declared.state.Ctx.{Ctx}
+use Rattle.pef_model.specs.declared.state.Ctx.TheVariants as ctx
+use Rattle.pef_model.specs.declared.command.Cmd.{Cmd}
+use Rattle.pef_model.specs.declared.command.Cmd.TheVariants.{HLd, HSt, UReturn, GLi, GLd, GSt}
+use Rattle.pef_model.specs.declared.entry.Answer.{Answer}
+use Rattle.pef_model.specs.declared.entry.Answer.TheVariants as answer
+use Rattle.pef_model.specs.Plan.{Plan}
+use Rattle.pef_model.specs.Event.{Event}
+
+-- a page, as far as it is public: its kind
+pub record Page : Type 0 where
+  pub kind : Kind
+
+-- a vCPU, as far as it is public: its state, and the guest's generation when it was taken up
+pub record VcpuPart : Type 0 where
+  pub state : VState
+  pub generation : ℕ
+
+-- a guest, without what it keeps to itself; order has its Secure pages, the one that became so first in front
+pub record GuestPart : Type 0 where
+  pub phase : Phase
+  pub generation : ℕ
+  pub pages : ℕ → Page
+  pub vcpus : ℕ → VcpuPart
+  pub order : List ℕ
+
+-- the function with another value at one place
+abbrev pub put : {X : Type 0} → (ℕ → X) → ℕ → X → ℕ → X
+put f at x n = if n == at then x else f n
+
+-- a page that has no frame yet
+abbrev pub invalid_page : Page
+invalid_page = record { kind = kind.Invalid }
+
+-- a page in its secure frame
+abbrev pub secure_page : Page
+secure_page = record { kind = kind.Secure }
+
+-- a vCPU in this state that was never taken up
+abbrev pub new_vcpu : VState → VcpuPart
+new_vcpu state = record { state = state; generation = 0 }
+
+-- a guest that is born secure has Fresh vCPUs; every other is Absent, and its vCPUs are Idle
+abbrev pub start_part_of : Bool → GuestPart
+start_part_of true = record {
+  phase = phase.Secure;
+  generation = 1;
+  pages = λ gfn. invalid_page;
+  vcpus = λ vid. new_vcpu vstate.Fresh;
+  order = [];
+}
+start_part_of false = record {
+  phase = phase.Absent;
+  generation = 1;
+  pages = λ gfn. invalid_page;
+  vcpus = λ vid. new_vcpu vstate.Idle;
+  order = [];
+}
+
+-- a guest's public part at the start
+abbrev pub start_part : Plan → ℕ → GuestPart
+start_part plan lpid = start_part_of (plan.is_born lpid)
+
+-- the page of a guest address
+abbrev pub page_of : Plan → ℕ → ℕ
+page_of plan gpa = gpa / 2 ^ plan.shift
+
+-- whether a guest address is that of a doubleword in a page of the guest
+abbrev pub has_place : Plan → ℕ → Bool
+has_place plan gpa = (gpa % 8 == 0) && nat_lt (page_of plan gpa) plan.pages
+
+-- whether a page has no frame yet
+abbrev pub is_invalid : Page → Bool
+is_invalid page = is_invalid_kind page.kind where
+  is_invalid_kind : Kind → Bool
+  is_invalid_kind kind.Invalid = true
+  is_invalid_kind kind.Secure = false
+
+-- a page that becomes Secure is the last in the order
+abbrev pub with_secure_page : GuestPart → ℕ → GuestPart
+with_secure_page g gfn = record g { pages = put g.pages gfn secure_page; order = g.order ++ gfn ∷ [] }
+
+-- an access that was done has backed the page where it was Invalid
+abbrev pub with_page_backed : GuestPart → ℕ → GuestPart
+with_page_backed g gfn = if is_invalid (g.pages gfn) then with_secure_page g gfn else g
+
+-- a vCPU that is taken up runs on the CPU under the guest's generation
+abbrev pub with_running_vcpu : GuestPart → ℕ → ℕ → GuestPart
+with_running_vcpu g vid cpu = record g { vcpus = put g.vcpus vid (record { state = vstate.Running cpu; generation = g.generation }) }
+
+-- after an answer of UV_RETURN in the hypervisor
+abbrev pub part_after_return : GuestPart → ℕ → ℕ → Answer → GuestPart
+part_after_return g vid cpu answer.Enter = with_running_vcpu g vid cpu
+part_after_return g vid cpu other = g
+
+-- after the answer of an access
+abbrev pub part_after_access : GuestPart → ℕ → Answer → GuestPart
+part_after_access g gfn answer.Done = with_page_backed g gfn
+part_after_access g gfn (answer.Val value) = with_page_backed g gfn
+part_after_access g gfn other = g
+
+-- after a step of the hypervisor
+abbrev pub part_after_hypervisor : GuestPart → Cmd → Event → GuestPart
+part_after_hypervisor g (HLd ra) e = g
+part_after_hypervisor g (HSt ra value) e = g
+part_after_hypervisor g (UReturn r0 r2 outs) e = part_after_return g e.saw.vid e.trace.cpu e.trace.answer
+part_after_hypervisor g (GLi rd value) e = g
+part_after_hypervisor g (GLd rd gpa) e = g
+part_after_hypervisor g (GSt rs gpa) e = g
+
+-- after a step of the guest
+abbrev pub part_after_guest : Plan → GuestPart → Cmd → Answer → GuestPart
+part_after_guest plan g (HLd ra) a = g
+part_after_guest plan g (HSt ra value) a = g
+part_after_guest plan g (UReturn r0 r2 outs) a = g
+part_after_guest plan g (GLi rd value) a = g
+part_after_guest plan g (GLd rd gpa) a = part_after_access g (page_of plan gpa) a
+part_after_guest plan g (GSt rs gpa) a = part_after_access g (page_of plan gpa) a
+
+-- by the context before the entry
+abbrev pub part_after_in : Ctx → Plan → GuestPart → Event → GuestPart
+part_after_in ctx.Hv plan g e = part_after_hypervisor g e.trace.cmd e
+part_after_in (ctx.Guest run) plan g e = part_after_guest plan g e.trace.cmd e.trace.answer
+
+-- a guest's public part after an entry that touches it
+abbrev pub next_part : Plan → GuestPart → Event → GuestPart
+next_part plan g e = part_after_in e.saw.before plan g e
