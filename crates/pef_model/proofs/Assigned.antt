@@ -11,16 +11,16 @@ use Rattle.pef_model.specs.declared.state.Ctx.{Ctx}
 use Rattle.pef_model.specs.declared.state.Ctx.TheVariants as ctx
 use Rattle.pef_model.specs.declared.command.TheConstants.{UV_RETURN}
 use Rattle.pef_model.specs.declared.command.Cmd.{Cmd}
-use Rattle.pef_model.specs.declared.command.Cmd.TheVariants.{UReturn, GLi, GLd, GSt}
+use Rattle.pef_model.specs.declared.command.Cmd.TheVariants.{HLd, HSt, UReturn, GLi, GLd, GSt}
 use Rattle.pef_model.specs.declared.entry.Answer.{Answer}
 use Rattle.pef_model.specs.declared.entry.Answer.TheVariants.{Done, Val, Ret, Enter, Gone, Hole, Context, Nothing}
 use Rattle.pef_model.specs.Plan.{Plan}
-use Rattle.pef_model.specs.Event.{Event}
+use Rattle.pef_model.specs.Event.{Event, newest}
 use Rattle.pef_model.specs.Registers.{number_of, load_return}
 use Rattle.pef_model.specs.Target.{touches_guest}
 use Rattle.pef_model.specs.Guest.{Guest, start_guest, next_guest, registers_after_command, registers_after_return, registers_after_in}
 use Rattle.pef_model.specs.History.{guest_after, reg}
-use Rattle.pef_model.specs.SearchLaw.{newest, decides_register, loaded_value, assigned_by_command, assigned_in, IsCommand, RegIsNewest}
+use Rattle.pef_model.specs.SearchLaw.{decides_register, loaded_value, assigned_by_command, assigned_in, IsCommand, RegIsNewest}
 use Rattle.pef_model.proofs.Folds.{test_same, counts, skips}
 
 -- the registers that a refused UV_RETURN of a guest leaves
@@ -103,6 +103,8 @@ returned_value gpr outs r0 r2 code r h k small = by_zero (r == 0) refl where
 
 -- a command keeps that there are 32 registers
 length_command : (regs : Regs) (cmd : Cmd) (a : Answer) → IsCommand cmd → length regs.gpr ≡ 32 → length (registers_after_command regs cmd a).gpr ≡ 32
+length_command regs (HLd ra) a k h = h
+length_command regs (HSt ra value) a k h = h
 length_command regs (UReturn r0 r2 outs) (Ret code) k h = length-returned (loaded regs.gpr r0 r2) outs r0 r2 (number_of code) (length-loaded regs.gpr r0 r2 h) k
 length_command regs (UReturn r0 r2 outs) Done k h = h
 length_command regs (UReturn r0 r2 outs) (Val value) k h = h
@@ -145,6 +147,8 @@ set_value gpr rd value r h k = by_test (r == rd) refl where
 -- each register after a command of its vCPU
 command_value : (regs : Regs) (cmd : Cmd) (a : Answer) (r : ℕ) → IsCommand cmd → length regs.gpr ≡ 32 → r < 32 →
     get_or (registers_after_command regs cmd a).gpr r 0 ≡ unwrap_or (assigned_by_command cmd a r) (get_or regs.gpr r 0)
+command_value regs (HLd ra) a r k h small = refl
+command_value regs (HSt ra value) a r k h small = refl
 command_value regs (UReturn r0 r2 outs) (Ret code) r k h small = returned_value regs.gpr outs r0 r2 (number_of code) r h k small
 command_value regs (UReturn r0 r2 outs) Done r k h small = refl
 command_value regs (UReturn r0 r2 outs) (Val value) r k h small = refl
@@ -191,6 +195,8 @@ gpr_after_return regs (UReturn r0 r2 outs) Gone = refl
 gpr_after_return regs (UReturn r0 r2 outs) Hole = refl
 gpr_after_return regs (UReturn r0 r2 outs) Context = refl
 gpr_after_return regs (UReturn r0 r2 outs) Nothing = refl
+gpr_after_return regs (HLd ra) a = refl
+gpr_after_return regs (HSt ra value) a = refl
 gpr_after_return regs (GLi rd value) a = refl
 gpr_after_return regs (GLd rd gpa) a = refl
 gpr_after_return regs (GSt rs gpa) a = refl
@@ -226,12 +232,12 @@ value_after_step (ctx.Guest run) registers selected cmd a vid r k full small = b
 
 full_registers : (plan : Plan) (past : List Event) (lpid : ℕ) → AllByRecursion (λ (e : Event). IsCommand e.trace.cmd) past → AreFull (guest_after plan lpid past).registers
 full_registers plan [] lpid commands = λ vid. refl
-full_registers plan (e ∷ past) lpid commands = by_test (full_registers plan past lpid commands.1) (touches_guest lpid e) refl where
-  by_test : AreFull (guest_after plan lpid past).registers → (b : Bool) → touches_guest lpid e ≡ b → AreFull (guest_after plan lpid (e ∷ past)).registers
+full_registers plan (e ∷ past) lpid commands = by_test (full_registers plan past lpid commands.1) (touches_guest plan lpid e) refl where
+  by_test : AreFull (guest_after plan lpid past).registers → (b : Bool) → touches_guest plan lpid e ≡ b → AreFull (guest_after plan lpid (e ∷ past)).registers
   by_test ih true t =
-      subst (λ (g : Guest). AreFull g.registers) (sym (counts (touches_guest lpid) (next_guest plan) (start_guest plan lpid) e past t))
+      subst (λ (g : Guest). AreFull g.registers) (sym (counts (touches_guest plan lpid) (next_guest plan) (start_guest plan lpid) e past t))
       (full_after e.saw.before (guest_after plan lpid past).registers e.saw.vid e.trace.cmd e.trace.answer commands.0 ih)
-  by_test ih false t = subst (λ (g : Guest). AreFull g.registers) (sym (skips (touches_guest lpid) (next_guest plan) (start_guest plan lpid) e past t)) ih
+  by_test ih false t = subst (λ (g : Guest). AreFull g.registers) (sym (skips (touches_guest plan lpid) (next_guest plan) (start_guest plan lpid) e past t)) ih
 
 pub reg_is_newest : RegIsNewest
 reg_is_newest plan [] lpid vid r small commands = zero_at 32 r where
@@ -239,21 +245,21 @@ reg_is_newest plan [] lpid vid r small commands = zero_at 32 r where
   zero_at zero i = refl
   zero_at (suc n) zero = refl
   zero_at (suc n) (suc i) = zero_at n i
-reg_is_newest plan (e ∷ past) lpid vid r small commands = by_test (reg_is_newest plan past lpid vid r small commands.1) (touches_guest lpid e) refl where
+reg_is_newest plan (e ∷ past) lpid vid r small commands = by_test (reg_is_newest plan past lpid vid r small commands.1) (touches_guest plan lpid e) refl where
   decision : Bool → Option ℕ
   decision b = if b then assigned_in e.saw.before vid e.trace.cmd e.trace.answer r else None
 
   value : Guest → ℕ
   value g = get_or (g.registers vid).gpr r 0
 
-  by_test : reg plan past lpid vid r ≡ newest (decides_register lpid vid r) 0 past → (b : Bool) → touches_guest lpid e ≡ b →
-      reg plan (e ∷ past) lpid vid r ≡ newest (decides_register lpid vid r) 0 (e ∷ past)
+  by_test : reg plan past lpid vid r ≡ newest (decides_register plan lpid vid r) 0 past → (b : Bool) → touches_guest plan lpid e ≡ b →
+      reg plan (e ∷ past) lpid vid r ≡ newest (decides_register plan lpid vid r) 0 (e ∷ past)
   by_test ih true t =
-      ap value (counts (touches_guest lpid) (next_guest plan) (start_guest plan lpid) e past t)
+      ap value (counts (touches_guest plan lpid) (next_guest plan) (start_guest plan lpid) e past t)
       ∙ value_after_step e.saw.before (guest_after plan lpid past).registers e.saw.vid e.trace.cmd e.trace.answer vid r commands.0 (full_registers plan past lpid commands.1) small
       ∙ ap (unwrap_or (decision true)) ih
-      ∙ ap (λ (b : Bool). unwrap_or (decision b) (newest (decides_register lpid vid r) 0 past)) (sym t)
+      ∙ ap (λ (b : Bool). unwrap_or (decision b) (newest (decides_register plan lpid vid r) 0 past)) (sym t)
   by_test ih false t =
-      ap value (skips (touches_guest lpid) (next_guest plan) (start_guest plan lpid) e past t)
+      ap value (skips (touches_guest plan lpid) (next_guest plan) (start_guest plan lpid) e past t)
       ∙ ih
-      ∙ ap (λ (b : Bool). unwrap_or (decision b) (newest (decides_register lpid vid r) 0 past)) (sym t)
+      ∙ ap (λ (b : Bool). unwrap_or (decision b) (newest (decides_register plan lpid vid r) 0 past)) (sym t)

@@ -18,3 +18,7 @@ pub mod WrittenWords
 pub mod WrittenScript
 pub mod ReadCommands
 pub mod Rows
+pub mod Doublewords
+pub mod Places
+pub mod Normal
+pub mod Views

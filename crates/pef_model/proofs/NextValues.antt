@@ -1,9 +1,9 @@
 -- What an object's value reads.
-use Rattle.std.proofs.Common.{◌≡◌, ℕ, Bool, true, false, ◌==◌, if◌then◌else◌, refl, ap, sym, ◌∙◌, slice_index}
+use Rattle.std.proofs.Common.{◌≡◌, ℕ, List, Bool, true, false, ◌==◌, if◌then◌else◌, refl, ap, sym, ◌∙◌, slice_index}
 use Rattle.pef_model.specs.declared.state.Ctx.{Ctx}
 use Rattle.pef_model.specs.declared.state.Ctx.TheVariants as ctx
 use Rattle.pef_model.specs.declared.command.Cmd.{Cmd}
-use Rattle.pef_model.specs.declared.command.Cmd.TheVariants.{UReturn, GLi, GLd, GSt}
+use Rattle.pef_model.specs.declared.command.Cmd.TheVariants.{HLd, HSt, UReturn, GLi, GLd, GSt}
 use Rattle.pef_model.specs.declared.entry.Answer.{Answer}
 use Rattle.pef_model.specs.declared.entry.Answer.TheVariants.{Done, Val, Ret, Enter, Gone, Hole, Context, Nothing}
 use Rattle.pef_model.specs.Plan.{Plan}
@@ -13,19 +13,19 @@ use Rattle.pef_model.specs.Cpu.{CpuPart, start_cpu, next_cpu, cpu_after_in, cpu_
 use Rattle.pef_model.specs.GuestPart.{GuestPart, put, next_part, part_after_in, part_after_hypervisor, part_after_guest, part_after_return, with_running_vcpu}
 use Rattle.pef_model.specs.Guest.{Guest, start_guest, next_guest, next_registers, registers_after_in, stored_by, stored_in, private_doubleword}
 use Rattle.pef_model.specs.Memory.{start_pool, next_pool, pool_with, start_frame, next_frame}
-use Rattle.pef_model.specs.ReadLaw.{EachOwnEntriesDecide, AgreeForCpu, AgreeForGuest, IsReturn, TheseFieldsDecide}
+use Rattle.pef_model.specs.ReadLaw.{EachOwnEntriesDecide, AgreeForCpu, AgreeForGuest, AgreeForFrame, IsReturn, TheseFieldsDecide}
 use Rattle.pef_model.proofs.Folds.{value_after-filter, test_same}
 use Rattle.std.specs.Prelude.{unwrap_or}
 use Rattle.pef_model.specs.declared.state.Regs.{Regs}
 
 pub own_entries_decide : EachOwnEntriesDecide
 own_entries_decide plan past =
-    let guest = λ (lpid : ℕ). value_after-filter (touches_guest lpid) (next_guest plan) (start_guest plan lpid) past in
+    let guest = λ (lpid : ℕ). value_after-filter (touches_guest plan lpid) (next_guest plan) (start_guest plan lpid) past in
     record {
       cpu = λ n. value_after-filter (touches_cpu n) next_cpu (start_cpu plan) past;
       guest = guest;
       pool = value_after-filter touches_pool next_pool (start_pool plan) past;
-      frame = λ n. value_after-filter (touches_frame n) next_frame (start_frame plan) past;
+      frame = λ n. value_after-filter (touches_frame n) (next_frame plan) (start_frame plan) past;
       store = λ lpid gpa. ap (λ (g : Guest). private_doubleword plan g gpa) (guest lpid);
       register = λ lpid vid r. ap (λ (g : Guest). slice_index (g.registers vid).gpr r) (guest lpid);
     }
@@ -60,6 +60,8 @@ part_by plan g (ctx.Guest run) cmd a vid cpu = part_after_guest plan g cmd a
 pub part_by_is : (plan : Plan) (g : GuestPart) (e : Event) → next_part plan g e ≡ part_by plan g e.saw.before e.trace.cmd e.trace.answer e.saw.vid e.trace.cpu
 part_by_is plan g e = by_ctx e.saw.before where
   by_cmd : (cmd : Cmd) → part_after_hypervisor g cmd e ≡ part_by plan g ctx.Hv cmd e.trace.answer e.saw.vid e.trace.cpu
+  by_cmd (HLd ra) = refl
+  by_cmd (HSt ra value) = refl
   by_cmd (UReturn r0 r2 outs) = refl
   by_cmd (GLi rd value) = refl
   by_cmd (GLd rd gpa) = refl
@@ -81,6 +83,8 @@ part_by_reads plan g ctx.Hv (UReturn r0 r2 outs) Gone v w m n h k = refl
 part_by_reads plan g ctx.Hv (UReturn r0 r2 outs) Hole v w m n h k = refl
 part_by_reads plan g ctx.Hv (UReturn r0 r2 outs) Context v w m n h k = refl
 part_by_reads plan g ctx.Hv (UReturn r0 r2 outs) Nothing v w m n h k = refl
+part_by_reads plan g ctx.Hv (HLd ra) a v w m n h k = refl
+part_by_reads plan g ctx.Hv (HSt ra value) a v w m n h k = refl
 part_by_reads plan g ctx.Hv (GLi rd value) a v w m n h k = refl
 part_by_reads plan g ctx.Hv (GLd rd gpa) a v w m n h k = refl
 part_by_reads plan g ctx.Hv (GSt rs gpa) a v w m n h k = refl
@@ -106,6 +110,8 @@ put_same f v n = by_test (n == v) refl where
 registers_read : (c : Ctx) (registers : ℕ → Regs) (cmd : Cmd) (a : Answer) (v w : ℕ) → (IsReturn cmd → v ≡ w) → registers_after_in c registers v cmd a ≡ registers_after_in c registers w cmd a
 registers_read (ctx.Guest run) registers cmd a v w h = refl
 registers_read ctx.Hv registers (UReturn r0 r2 outs) a v w h = ap (λ (x : ℕ). registers_after_in ctx.Hv registers x (UReturn r0 r2 outs) a) (h tt)
+registers_read ctx.Hv registers (HLd ra) a v w h = (λ i n. (put_same registers v n ∙ sym (put_same registers w n)) i)
+registers_read ctx.Hv registers (HSt ra value) a v w h = (λ i n. (put_same registers v n ∙ sym (put_same registers w n)) i)
 registers_read ctx.Hv registers (GLi rd value) a v w h = (λ i n. (put_same registers v n ∙ sym (put_same registers w n)) i)
 registers_read ctx.Hv registers (GLd rd gpa) a v w h = (λ i n. (put_same registers v n ∙ sym (put_same registers w n)) i)
 registers_read ctx.Hv registers (GSt rs gpa) a v w h = (λ i n. (put_same registers v n ∙ sym (put_same registers w n)) i)
@@ -124,11 +130,18 @@ guest_agrees plan e f g h =
     ∙ ap (λ (a : Answer). stored_in f.saw.before plan g f.trace.cmd a gpa) h.answer) in
     (λ i. record { part = part i; content = λ gpa. unwrap_or (stored gpa i) (g.content gpa); registers = registers i })
 
+frame_agrees : (plan : Plan) (e f : Event) (bytes : List ℕ) → AgreeForFrame e f → next_frame plan bytes e ≡ next_frame plan bytes f
+frame_agrees plan e f bytes h =
+    let a = h.cmd in
+    let b = h.answer in
+    let c = h.before in
+    cc
+
 pub these_fields_decide : TheseFieldsDecide
 these_fields_decide plan e f = record {
   cpu = λ cpu h. cpu_agrees e f cpu h;
   part = λ g h. part_agrees plan e f g h;
   guest = λ g h. guest_agrees plan e f g h;
   pool = λ free h. ap (pool_with free) h;
-  frame = λ bytes. refl;
+  frame = λ bytes h. frame_agrees plan e f bytes h;
 }

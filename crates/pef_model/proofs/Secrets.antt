@@ -3,7 +3,7 @@ use Rattle.std.proofs.Common.{◌≡◌, ℕ, Bool, true, false, ◌==◌, if◌
 use Rattle.pef_model.specs.declared.state.Ctx.{Ctx}
 use Rattle.pef_model.specs.declared.state.Ctx.TheVariants as ctx
 use Rattle.pef_model.specs.declared.command.Cmd.{Cmd}
-use Rattle.pef_model.specs.declared.command.Cmd.TheVariants.{UReturn, GLi, GLd, GSt}
+use Rattle.pef_model.specs.declared.command.Cmd.TheVariants.{HLd, HSt, UReturn, GLi, GLd, GSt}
 use Rattle.pef_model.specs.declared.entry.Answer.{Answer}
 use Rattle.pef_model.specs.declared.entry.Answer.TheVariants.{Done, Val, Ret, Enter, Gone, Hole, Context, Nothing}
 use Rattle.pef_model.specs.Plan.{Plan}
@@ -11,7 +11,7 @@ use Rattle.pef_model.specs.Event.{Event, value_after}
 use Rattle.pef_model.specs.Target.{Ask, target_in, is_guest, touches_cpu, touches_guest, touches_pool, touches_frame}
 use Rattle.pef_model.specs.Cpu.{start_cpu, CpuPart, next_cpu, cpu_after_in, cpu_after_guest, own_after, last_after}
 use Rattle.pef_model.specs.GuestPart.{start_part, GuestPart, page_of, next_part, part_after_in, part_after_guest, part_after_hypervisor, part_after_access}
-use Rattle.pef_model.specs.Memory.{start_pool, next_pool, start_frame, next_frame}
+use Rattle.pef_model.specs.Memory.{start_pool, next_pool, start_frame, next_frame, written, written_in}
 use Rattle.pef_model.specs.Guest.{Guest, start_guest, next_guest, private_doubleword}
 use Rattle.pef_model.specs.Registers.{fresh_registers}
 use Rattle.pef_model.specs.declared.state.Run.{Run}
@@ -20,14 +20,23 @@ use Rattle.pef_model.specs.History.{cpu_after, guest_after, pool_after, frame_af
 use Rattle.pef_model.proofs.Folds.{counts, skips}
 use Rattle.pef_model.specs.SecretLaw.{AgreeButValue, SecretsStayIn, NoSecretInOneEntry, NoSecretInDeeds, open_cmd, open_answer, open_answer_of_guest, open_entry, NoSecretInPublicState}
 
-target_open : (c : Ctx) (lpid : ℕ) (cmd : Cmd) → target_in c lpid cmd ≡ target_in c lpid (open_cmd cmd)
-target_open ctx.Hv lpid (UReturn r0 r2 outs) = refl
-target_open ctx.Hv lpid (GLi rd value) = refl
-target_open ctx.Hv lpid (GLd rd gpa) = refl
-target_open ctx.Hv lpid (GSt rs gpa) = refl
-target_open (ctx.Guest run) lpid cmd = refl
+pub target_open : (plan : Plan) (c : Ctx) (lpid : ℕ) (cmd : Cmd) → target_in plan c lpid cmd ≡ target_in plan c lpid (open_cmd cmd)
+target_open plan ctx.Hv lpid (HLd ra) = refl
+target_open plan ctx.Hv lpid (HSt ra value) = refl
+target_open plan ctx.Hv lpid (UReturn r0 r2 outs) = refl
+target_open plan ctx.Hv lpid (GLi rd value) = refl
+target_open plan ctx.Hv lpid (GLd rd gpa) = refl
+target_open plan ctx.Hv lpid (GSt rs gpa) = refl
+target_open plan (ctx.Guest run) lpid (HLd ra) = refl
+target_open plan (ctx.Guest run) lpid (HSt ra value) = refl
+target_open plan (ctx.Guest run) lpid (UReturn r0 r2 outs) = refl
+target_open plan (ctx.Guest run) lpid (GLi rd value) = refl
+target_open plan (ctx.Guest run) lpid (GLd rd gpa) = refl
+target_open plan (ctx.Guest run) lpid (GSt rs gpa) = refl
 
 own_open : (own : List ℕ) (cmd : Cmd) (a : Answer) → own_after own cmd a ≡ own_after own (open_cmd cmd) a
+own_open own (HLd ra) a = refl
+own_open own (HSt ra value) a = refl
 own_open own (UReturn r0 r2 outs) a = refl
 own_open own (GLi rd value) a = refl
 own_open own (GLd rd gpa) a = refl
@@ -67,12 +76,16 @@ access_open g gfn Nothing = refl
 guest_open : (plan : Plan) (g : GuestPart) (e : Event) → next_part plan g e ≡ next_part plan g (open_entry e)
 guest_open plan g e = by_ctx e.saw.before where
   by_cmd : (cmd : Cmd) → part_after_hypervisor g cmd e ≡ part_after_hypervisor g (open_cmd cmd) (opened ctx.Hv e)
+  by_cmd (HLd ra) = refl
+  by_cmd (HSt ra value) = refl
   by_cmd (UReturn r0 r2 outs) = refl
   by_cmd (GLi rd value) = refl
   by_cmd (GLd rd gpa) = refl
   by_cmd (GSt rs gpa) = refl
 
   by_guest : (cmd : Cmd) (a : Answer) → part_after_guest plan g cmd a ≡ part_after_guest plan g (open_cmd cmd) (open_answer_of_guest a)
+  by_guest (HLd ra) a = refl
+  by_guest (HSt ra value) a = refl
   by_guest (UReturn r0 r2 outs) a = refl
   by_guest (GLi rd value) a = refl
   by_guest (GLd rd gpa) a = access_open g (page_of plan gpa) a
@@ -82,22 +95,36 @@ guest_open plan g e = by_ctx e.saw.before where
   by_ctx ctx.Hv = by_cmd e.trace.cmd
   by_ctx (ctx.Guest run) = by_guest e.trace.cmd e.trace.answer
 
+written_open : (plan : Plan) (bytes : List ℕ) (cmd : Cmd) (a : Answer) → written plan bytes cmd a ≡ written plan bytes (open_cmd cmd) a
+written_open plan bytes (HLd ra) a = refl
+written_open plan bytes (HSt ra value) a = refl
+written_open plan bytes (UReturn r0 r2 outs) a = refl
+written_open plan bytes (GLi rd value) a = refl
+written_open plan bytes (GLd rd gpa) a = refl
+written_open plan bytes (GSt rs gpa) a = refl
+
+frame_open : (plan : Plan) (bytes : List ℕ) (e : Event) → next_frame plan bytes e ≡ next_frame plan bytes (open_entry e)
+frame_open plan bytes e = by_ctx e.saw.before where
+  by_ctx : (c : Ctx) → written_in c plan bytes e.trace.cmd e.trace.answer ≡ written_in c plan bytes (open_cmd e.trace.cmd) (open_answer c e.trace.answer)
+  by_ctx ctx.Hv = written_open plan bytes e.trace.cmd e.trace.answer
+  by_ctx (ctx.Guest run) = refl
+
 pub no_secret_in_one_entry : NoSecretInOneEntry
 no_secret_in_one_entry plan e f same = record {
   touches_cpu = λ n. ap (touches_cpu n) same;
   touches_guest = λ lpid.
-      ap (is_guest lpid) (target_open e.saw.before e.saw.lpid e.trace.cmd) ∙ ap (touches_guest lpid) same
-      ∙ sym (ap (is_guest lpid) (target_open f.saw.before f.saw.lpid f.trace.cmd));
+      ap (is_guest lpid) (target_open plan e.saw.before e.saw.lpid e.trace.cmd) ∙ ap (touches_guest plan lpid) same
+      ∙ sym (ap (is_guest lpid) (target_open plan f.saw.before f.saw.lpid f.trace.cmd));
   touches_pool = ap touches_pool same;
   touches_frame = λ n. ap (touches_frame n) same;
   cpu = λ cpu. cpu_open cpu e ∙ ap (next_cpu cpu) same ∙ sym (cpu_open cpu f);
   guest = λ g. guest_open plan g e ∙ ap (next_part plan g) same ∙ sym (guest_open plan g f);
   pool = λ free. ap (next_pool free) same;
-  frame = λ bytes. refl;
+  frame = λ bytes. frame_open plan bytes e ∙ ap (next_frame plan bytes) same ∙ sym (frame_open plan bytes f);
 }
 
 -- a fold over two histories that agree goes on to agree
-agree_more : {S : Type 0} (touches : Event → Bool) (next : S → Event → S) (start : S) (e f : Event) (past other : List Event) → touches e ≡ touches f →
+pub agree_more : {S : Type 0} (touches : Event → Bool) (next : S → Event → S) (start : S) (e f : Event) (past other : List Event) → touches e ≡ touches f →
     ((value : S) → next value e ≡ next value f) → value_after touches next start past ≡ value_after touches next start other →
     value_after touches next start (e ∷ past) ≡ value_after touches next start (f ∷ other)
 agree_more {S = S} touches next start e f past other t step before = by_test (touches e) refl where
@@ -107,22 +134,22 @@ agree_more {S = S} touches next start e f past other t step before = by_test (to
   by_test false h = skips touches next start e past h ∙ before ∙ sym (skips touches next start f other (sym t ∙ h))
 
 -- a guest's public part is a fold of its own
-part_after : (plan : Plan) (lpid : ℕ) (past : List Event) → (guest_after plan lpid past).part ≡ value_after (touches_guest lpid) (next_part plan) (start_part plan lpid) past
+pub part_after : (plan : Plan) (lpid : ℕ) (past : List Event) → (guest_after plan lpid past).part ≡ value_after (touches_guest plan lpid) (next_part plan) (start_part plan lpid) past
 part_after plan lpid [] = refl
-part_after plan lpid (e ∷ past) = by_test (part_after plan lpid past) (touches_guest lpid e) refl where
-  by_test : (guest_after plan lpid past).part ≡ value_after (touches_guest lpid) (next_part plan) (start_part plan lpid) past → (b : Bool) → touches_guest lpid e ≡ b →
-      (guest_after plan lpid (e ∷ past)).part ≡ value_after (touches_guest lpid) (next_part plan) (start_part plan lpid) (e ∷ past)
+part_after plan lpid (e ∷ past) = by_test (part_after plan lpid past) (touches_guest plan lpid e) refl where
+  by_test : (guest_after plan lpid past).part ≡ value_after (touches_guest plan lpid) (next_part plan) (start_part plan lpid) past → (b : Bool) → touches_guest plan lpid e ≡ b →
+      (guest_after plan lpid (e ∷ past)).part ≡ value_after (touches_guest plan lpid) (next_part plan) (start_part plan lpid) (e ∷ past)
   by_test ih true t =
-      ap (λ (g : Guest). g.part) (counts (touches_guest lpid) (next_guest plan) (start_guest plan lpid) e past t)
-      ∙ ap (λ (g : GuestPart). next_part plan g e) ih ∙ sym (counts (touches_guest lpid) (next_part plan) (start_part plan lpid) e past t)
+      ap (λ (g : Guest). g.part) (counts (touches_guest plan lpid) (next_guest plan) (start_guest plan lpid) e past t)
+      ∙ ap (λ (g : GuestPart). next_part plan g e) ih ∙ sym (counts (touches_guest plan lpid) (next_part plan) (start_part plan lpid) e past t)
   by_test ih false t =
-      ap (λ (g : Guest). g.part) (skips (touches_guest lpid) (next_guest plan) (start_guest plan lpid) e past t) ∙ ih
-      ∙ sym (skips (touches_guest lpid) (next_part plan) (start_part plan lpid) e past t)
+      ap (λ (g : Guest). g.part) (skips (touches_guest plan lpid) (next_guest plan) (start_guest plan lpid) e past t) ∙ ih
+      ∙ sym (skips (touches_guest plan lpid) (next_part plan) (start_part plan lpid) e past t)
 
 -- the objects of the public state agree
 record PartsAgree (plan : Plan) (past other : List Event) : Type 0 where
   cpu : (n : ℕ) → cpu_after plan n past ≡ cpu_after plan n other
-  part : (lpid : ℕ) → value_after (touches_guest lpid) (next_part plan) (start_part plan lpid) past ≡ value_after (touches_guest lpid) (next_part plan) (start_part plan lpid) other
+  part : (lpid : ℕ) → value_after (touches_guest plan lpid) (next_part plan) (start_part plan lpid) past ≡ value_after (touches_guest plan lpid) (next_part plan) (start_part plan lpid) other
   pool : pool_after plan past ≡ pool_after plan other
   frame : (n : ℕ) → frame_after plan n past ≡ frame_after plan n other
 
@@ -137,9 +164,9 @@ parts_agree plan (e ∷ past) (f ∷ other) same =
     let before : PartsAgree plan past other = parts_agree plan past other rest in
     record {
       cpu = λ n. agree_more (touches_cpu n) next_cpu (start_cpu plan) e f past other (law.touches_cpu n) law.cpu (before.cpu n);
-      part = λ lpid. agree_more (touches_guest lpid) (next_part plan) (start_part plan lpid) e f past other (law.touches_guest lpid) law.guest (before.part lpid);
+      part = λ lpid. agree_more (touches_guest plan lpid) (next_part plan) (start_part plan lpid) e f past other (law.touches_guest lpid) law.guest (before.part lpid);
       pool = agree_more touches_pool next_pool (start_pool plan) e f past other law.touches_pool law.pool before.pool;
-      frame = λ n. agree_more (touches_frame n) next_frame (start_frame plan) e f past other (law.touches_frame n) law.frame (before.frame n);
+      frame = λ n. agree_more (touches_frame n) (next_frame plan) (start_frame plan) e f past other (law.touches_frame n) law.frame (before.frame n);
     }
 
 pub no_secret_in_public_state : NoSecretInPublicState
@@ -177,12 +204,16 @@ access_agrees run ask v w NoFrame = same_deed (ctx.Guest run) (deed_access ask (
 
 running_agrees : (plan : Plan) (g : Guest) (any : Bool) (run : Run) (ask : Ask) (cmd : Cmd) →
     AgreeButValue (ctx.Guest run) (deed_running plan g any ask cmd) (deed_running plan (bare g.part) any ask (open_cmd cmd))
+running_agrees plan g any run ask (HLd ra) = same_deed (ctx.Guest run) (deed_running plan g any ask (HLd ra))
+running_agrees plan g any run ask (HSt ra value) = same_deed (ctx.Guest run) (deed_running plan g any ask (HSt ra value))
 running_agrees plan g any run ask (UReturn r0 r2 outs) = same_deed (ctx.Guest run) (deed_running plan g any ask (UReturn r0 r2 outs))
 running_agrees plan g any run ask (GLi rd value) = same_deed (ctx.Guest run) (deed_running plan g any ask (GLi rd value))
 running_agrees plan g any run ask (GLd rd gpa) = access_agrees run ask (private_doubleword plan g gpa) (private_doubleword plan (bare g.part) gpa) (reach plan g.part any gpa)
 running_agrees plan g any run ask (GSt rs gpa) = same_deed (ctx.Guest run) (deed_running plan g any ask (GSt rs gpa))
 
 hypervisor_agrees : (g : GuestPart) (ask : Ask) (cmd : Cmd) → AgreeButValue ctx.Hv (deed_hypervisor g ask cmd) (deed_hypervisor g ask (open_cmd cmd))
+hypervisor_agrees g ask (HLd ra) = same_deed ctx.Hv (deed_hypervisor g ask (HLd ra))
+hypervisor_agrees g ask (HSt ra value) = same_deed ctx.Hv (deed_hypervisor g ask (HSt ra value))
 hypervisor_agrees g ask (UReturn r0 r2 outs) = same_deed ctx.Hv (deed_hypervisor g ask (UReturn r0 r2 outs))
 hypervisor_agrees g ask (GLi rd value) = same_deed ctx.Hv (deed_hypervisor g ask (GLi rd value))
 hypervisor_agrees g ask (GLd rd gpa) = same_deed ctx.Hv (deed_hypervisor g ask (GLd rd gpa))

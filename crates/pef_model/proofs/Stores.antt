@@ -6,16 +6,16 @@ use Rattle.pef_model.specs.declared.state.Kind.TheVariants as kind
 use Rattle.pef_model.specs.declared.state.Ctx.{Ctx}
 use Rattle.pef_model.specs.declared.state.Ctx.TheVariants as ctx
 use Rattle.pef_model.specs.declared.command.Cmd.{Cmd}
-use Rattle.pef_model.specs.declared.command.Cmd.TheVariants.{UReturn, GLi, GLd, GSt}
+use Rattle.pef_model.specs.declared.command.Cmd.TheVariants.{HLd, HSt, UReturn, GLi, GLd, GSt}
 use Rattle.pef_model.specs.declared.entry.Answer.{Answer}
 use Rattle.pef_model.specs.declared.entry.Answer.TheVariants.{Done, Val, Ret, Enter, Gone, Hole, Context, Nothing}
 use Rattle.pef_model.specs.Plan.{Plan}
-use Rattle.pef_model.specs.Event.{Event}
-use Rattle.pef_model.specs.Target.{touches_guest, target_in, is_guest}
+use Rattle.pef_model.specs.Event.{Event, newest}
+use Rattle.pef_model.specs.Target.{is_guest, target_in, target_of_running, touches_guest}
 use Rattle.pef_model.specs.GuestPart.{GuestPart, is_invalid, page_of, with_secure_page, with_page_backed, next_part, part_after_in, part_after_hypervisor, part_after_return, part_after_guest, part_after_access}
 use Rattle.pef_model.specs.Guest.{Guest, start_guest, next_guest, stored_by, stored_in, stored_by_command, backed_by}
 use Rattle.pef_model.specs.History.{guest_after, reg}
-use Rattle.pef_model.specs.SearchLaw.{zero_where_backed, access_decides, step_decides, newest, decides_doubleword, LastStoreIsNewest, is_store, is_store_by, HasNoStore, IsStep, LastStoreIsStored, LastStoreIsZero}
+use Rattle.pef_model.specs.SearchLaw.{zero_where_backed, access_decides, step_decides, decides_doubleword, LastStoreIsNewest, is_store, is_store_by, HasNoStore, IsStep, LastStoreIsStored, LastStoreIsZero}
 use Rattle.pef_model.proofs.Folds.{same_test, test_same, counts, skips}
 
 -- Both ways to say that an access backs the page of an address.
@@ -44,8 +44,8 @@ backs_alike plan past lpid at gpa = by_test (page_of plan at == page_of plan gpa
   by_test false t = ap (choice (invalid (page_of plan at))) t ∙ elsewhere (invalid (page_of plan at)) ∙ sym (ap (λ (b : Bool). choice b (invalid (page_of plan gpa))) t)
 
 decided_alike : (plan : Plan) (past : List Event) (lpid gpa l : ℕ) (c : Ctx) (cmd : Cmd) (a : Answer) →
-    (if is_guest lpid (target_in c l cmd) then stored_in c plan (guest_after plan lpid past) cmd a gpa else None) ≡ step_decides plan lpid gpa past c cmd a
-decided_alike plan past lpid gpa l ctx.Hv cmd a = by_test (is_guest lpid (target_in ctx.Hv l cmd)) where
+    (if is_guest lpid (target_in plan c l cmd) then stored_in c plan (guest_after plan lpid past) cmd a gpa else None) ≡ step_decides plan lpid gpa past c cmd a
+decided_alike plan past lpid gpa l ctx.Hv cmd a = by_test (is_guest lpid (target_in plan ctx.Hv l cmd)) where
   by_test : (b : Bool) → (if b then None else None) ≡ (let nothing : Option ℕ = None in nothing)
   by_test true = refl
   by_test false = refl
@@ -56,8 +56,14 @@ decided_alike plan past lpid gpa l (ctx.Guest run) cmd a = by_command cmd a wher
   here : Bool
   here = run.lpid == lpid
 
+  nothing : (b : Bool) → (let none : Option ℕ = None in none) ≡ (if b then None else None)
+  nothing true = refl
+  nothing false = refl
+
   by_command : (cmd : Cmd) (a : Answer) →
-      (if here then stored_by_command plan g run.vid cmd a gpa else None) ≡ (if here then access_decides plan lpid gpa past run.vid cmd a else None)
+      (if is_guest lpid (target_of_running run.lpid cmd) then stored_by_command plan g run.vid cmd a gpa else None) ≡ (if here then access_decides plan lpid gpa past run.vid cmd a else None)
+  by_command (HLd ra) a = nothing here
+  by_command (HSt ra value) a = nothing here
   by_command (UReturn r0 r2 outs) a = refl
   by_command (GLi rd value) a = refl
   by_command (GLd rd at) (Val value) = ap (λ (o : Option ℕ). if here then o else None) (backs_alike plan past lpid at gpa)
@@ -80,24 +86,24 @@ decided_alike plan past lpid gpa l (ctx.Guest run) cmd a = by_command cmd a wher
 
 content_newest : (plan : Plan) (lpid gpa : ℕ) (past : List Event) → (guest_after plan lpid past).content gpa ≡ newest (decides_doubleword plan lpid gpa) 0 past
 content_newest plan lpid gpa [] = refl
-content_newest plan lpid gpa (e ∷ past) = by_test (content_newest plan lpid gpa past) (touches_guest lpid e) refl where
+content_newest plan lpid gpa (e ∷ past) = by_test (content_newest plan lpid gpa past) (touches_guest plan lpid e) refl where
   before : ℕ
   before = newest (decides_doubleword plan lpid gpa) 0 past
 
   stored : Option ℕ
   stored = stored_by plan (guest_after plan lpid past) e gpa
 
-  alike : (if touches_guest lpid e then stored else None) ≡ decides_doubleword plan lpid gpa past e
+  alike : (if touches_guest plan lpid e then stored else None) ≡ decides_doubleword plan lpid gpa past e
   alike = decided_alike plan past lpid gpa e.saw.lpid e.saw.before e.trace.cmd e.trace.answer
 
-  by_test : (guest_after plan lpid past).content gpa ≡ before → (b : Bool) → touches_guest lpid e ≡ b →
+  by_test : (guest_after plan lpid past).content gpa ≡ before → (b : Bool) → touches_guest plan lpid e ≡ b →
       (guest_after plan lpid (e ∷ past)).content gpa ≡ newest (decides_doubleword plan lpid gpa) 0 (e ∷ past)
   by_test ih true t =
-      ap (λ (g : Guest). g.content gpa) (counts (touches_guest lpid) (next_guest plan) (start_guest plan lpid) e past t)
+      ap (λ (g : Guest). g.content gpa) (counts (touches_guest plan lpid) (next_guest plan) (start_guest plan lpid) e past t)
       ∙ ap (unwrap_or stored) ih
       ∙ ap (λ (o : Option ℕ). unwrap_or o before) (ap (λ (b : Bool). if b then stored else None) (sym t) ∙ alike)
   by_test ih false t =
-      ap (λ (g : Guest). g.content gpa) (skips (touches_guest lpid) (next_guest plan) (start_guest plan lpid) e past t)
+      ap (λ (g : Guest). g.content gpa) (skips (touches_guest plan lpid) (next_guest plan) (start_guest plan lpid) e past t)
       ∙ ih
       ∙ ap (λ (o : Option ℕ). unwrap_or o before) (ap (λ (b : Bool). if b then stored else None) (sym t) ∙ alike)
 
@@ -139,12 +145,16 @@ stays_after_return g vid cpu p Nothing h = h
 stays : (plan : Plan) (g : GuestPart) (e : Event) (p : ℕ) → is_invalid (g.pages p) ≡ false → is_invalid ((next_part plan g e).pages p) ≡ false
 stays plan g e p h = by_ctx e.saw.before where
   by_hypervisor : (cmd : Cmd) → is_invalid ((part_after_hypervisor g cmd e).pages p) ≡ false
+  by_hypervisor (HLd ra) = h
+  by_hypervisor (HSt ra value) = h
   by_hypervisor (UReturn r0 r2 outs) = stays_after_return g e.saw.vid e.trace.cpu p e.trace.answer h
   by_hypervisor (GLi rd value) = h
   by_hypervisor (GLd rd gpa) = h
   by_hypervisor (GSt rs gpa) = h
 
   by_guest : (cmd : Cmd) → is_invalid ((part_after_guest plan g cmd e.trace.answer).pages p) ≡ false
+  by_guest (HLd ra) = h
+  by_guest (HSt ra value) = h
   by_guest (UReturn r0 r2 outs) = h
   by_guest (GLi rd value) = h
   by_guest (GLd rd gpa) = stays_after_access g (page_of plan gpa) p e.trace.answer h
@@ -193,32 +203,34 @@ second_is_false false b h k = cc
 
 -- An entry that touches the guest and is no store to the address decides nothing there.
 decides_nothing : (plan : Plan) (g : Guest) (lpid gpa l : ℕ) (c : Ctx) (cmd : Cmd) (a : Answer) → is_invalid (g.part.pages (page_of plan gpa)) ≡ false →
-    is_guest lpid (target_in c l cmd) ≡ true → is_store_by lpid gpa c cmd a ≡ false → stored_in c plan g cmd a gpa ≡ None
+    is_guest lpid (target_in plan c l cmd) ≡ true → is_store_by lpid gpa c cmd a ≡ false → stored_in c plan g cmd a gpa ≡ None
 decides_nothing plan g lpid gpa l ctx.Hv cmd a h touched other = refl
-decides_nothing plan g lpid gpa l (ctx.Guest run) cmd a h touched other = by_command cmd a other where
-  by_command : (cmd : Cmd) (a : Answer) → is_store_by lpid gpa (ctx.Guest run) cmd a ≡ false → stored_by_command plan g run.vid cmd a gpa ≡ None
-  by_command (UReturn r0 r2 outs) a k = refl
-  by_command (GLi rd value) a k = refl
-  by_command (GLd rd at) (Val value) k = backs_nothing plan g at gpa h
-  by_command (GLd rd at) Done k = refl
-  by_command (GLd rd at) (Ret code) k = refl
-  by_command (GLd rd at) Enter k = refl
-  by_command (GLd rd at) Gone k = refl
-  by_command (GLd rd at) Hole k = refl
-  by_command (GLd rd at) Context k = refl
-  by_command (GLd rd at) Nothing k = refl
-  by_command (GSt rs at) Done k =
-      ap (λ (b : Bool). if b then Some (slice_index (g.registers run.vid).gpr rs) else backed_by plan g at gpa) (second_is_false _ _ touched k)
+decides_nothing plan g lpid gpa l (ctx.Guest run) cmd a h touched other = by_command cmd a touched other where
+  by_command : (cmd : Cmd) (a : Answer) → is_guest lpid (target_of_running run.lpid cmd) ≡ true → is_store_by lpid gpa (ctx.Guest run) cmd a ≡ false → stored_by_command plan g run.vid cmd a gpa ≡ None
+  by_command (HLd ra) a t k = refl
+  by_command (HSt ra value) a t k = refl
+  by_command (UReturn r0 r2 outs) a t k = refl
+  by_command (GLi rd value) a t k = refl
+  by_command (GLd rd at) (Val value) t k = backs_nothing plan g at gpa h
+  by_command (GLd rd at) Done t k = refl
+  by_command (GLd rd at) (Ret code) t k = refl
+  by_command (GLd rd at) Enter t k = refl
+  by_command (GLd rd at) Gone t k = refl
+  by_command (GLd rd at) Hole t k = refl
+  by_command (GLd rd at) Context t k = refl
+  by_command (GLd rd at) Nothing t k = refl
+  by_command (GSt rs at) Done t k =
+      ap (λ (b : Bool). if b then Some (slice_index (g.registers run.vid).gpr rs) else backed_by plan g at gpa) (second_is_false _ _ t k)
       ∙ backs_nothing plan g at gpa h
-  by_command (GSt rs at) (Val value) k = refl
-  by_command (GSt rs at) (Ret code) k = refl
-  by_command (GSt rs at) Enter k = refl
-  by_command (GSt rs at) Gone k = refl
-  by_command (GSt rs at) Hole k = refl
-  by_command (GSt rs at) Context k = refl
-  by_command (GSt rs at) Nothing k = refl
+  by_command (GSt rs at) (Val value) t k = refl
+  by_command (GSt rs at) (Ret code) t k = refl
+  by_command (GSt rs at) Enter t k = refl
+  by_command (GSt rs at) Gone t k = refl
+  by_command (GSt rs at) Hole t k = refl
+  by_command (GSt rs at) Context t k = refl
+  by_command (GSt rs at) Nothing t k = refl
 
-kept_holds : (plan : Plan) (g : Guest) (e : Event) (lpid gpa value : ℕ) → touches_guest lpid e ≡ true → is_store lpid gpa e ≡ false →
+kept_holds : (plan : Plan) (g : Guest) (e : Event) (lpid gpa value : ℕ) → touches_guest plan lpid e ≡ true → is_store lpid gpa e ≡ false →
     Holds plan g gpa value → Holds plan (next_guest plan g e) gpa value
 kept_holds plan g e lpid gpa value touched other holds =
     let nothing : stored_by plan g e gpa ≡ None = decides_nothing plan g lpid gpa e.saw.lpid e.saw.before e.trace.cmd e.trace.answer holds.has_frame touched other in
@@ -230,19 +242,19 @@ kept_holds plan g e lpid gpa value touched other holds =
 since_holds : (plan : Plan) (past since : List Event) (e : Event) (run : Run) (rs gpa : ℕ) → IsStep run (GSt rs gpa) Done e → HasNoStore run.lpid gpa since →
     Holds plan (guest_after plan run.lpid (since ++ e ∷ past)) gpa (reg plan past run.lpid run.vid rs)
 since_holds plan past [] e run rs gpa step none =
-    let touched : touches_guest run.lpid e ≡ true = rw step.before (same_test run.lpid) in
-    rw (counts (touches_guest run.lpid) (next_guest plan) (start_guest plan run.lpid) e past touched) (stored_holds plan (guest_after plan run.lpid past) e run rs gpa step)
-since_holds plan past (f ∷ since) e run rs gpa step none = by_test (since_holds plan past since e run rs gpa step none.1) (touches_guest run.lpid f) refl where
+    let touched : touches_guest plan run.lpid e ≡ true = rw (step.before, step.cmd_is) (same_test run.lpid) in
+    rw (counts (touches_guest plan run.lpid) (next_guest plan) (start_guest plan run.lpid) e past touched) (stored_holds plan (guest_after plan run.lpid past) e run rs gpa step)
+since_holds plan past (f ∷ since) e run rs gpa step none = by_test (since_holds plan past since e run rs gpa step none.1) (touches_guest plan run.lpid f) refl where
   value : ℕ
   value = reg plan past run.lpid run.vid rs
 
-  by_test : Holds plan (guest_after plan run.lpid (since ++ e ∷ past)) gpa value → (b : Bool) → touches_guest run.lpid f ≡ b →
+  by_test : Holds plan (guest_after plan run.lpid (since ++ e ∷ past)) gpa value → (b : Bool) → touches_guest plan run.lpid f ≡ b →
       Holds plan (guest_after plan run.lpid (f ∷ (since ++ e ∷ past))) gpa value
   by_test ih true t =
-      subst (λ (g : Guest). Holds plan g gpa value) (sym (counts (touches_guest run.lpid) (next_guest plan) (start_guest plan run.lpid) f (since ++ e ∷ past) t))
+      subst (λ (g : Guest). Holds plan g gpa value) (sym (counts (touches_guest plan run.lpid) (next_guest plan) (start_guest plan run.lpid) f (since ++ e ∷ past) t))
       (kept_holds plan (guest_after plan run.lpid (since ++ e ∷ past)) f run.lpid gpa value t none.0 ih)
   by_test ih false t =
-      subst (λ (g : Guest). Holds plan g gpa value) (sym (skips (touches_guest run.lpid) (next_guest plan) (start_guest plan run.lpid) f (since ++ e ∷ past) t)) ih
+      subst (λ (g : Guest). Holds plan g gpa value) (sym (skips (touches_guest plan run.lpid) (next_guest plan) (start_guest plan run.lpid) f (since ++ e ∷ past) t)) ih
 
 pub last_store_is_stored : LastStoreIsStored
 last_store_is_stored plan past since e run rs gpa step none =
@@ -257,44 +269,46 @@ zero_by_backing plan g at gpa = by_test (is_invalid (g.part.pages (page_of plan 
   by_test true = refl
   by_test false = refl
 
-zero_by_entry : (plan : Plan) (g : Guest) (lpid gpa l : ℕ) (c : Ctx) (cmd : Cmd) (a : Answer) → is_guest lpid (target_in c l cmd) ≡ true →
+zero_by_entry : (plan : Plan) (g : Guest) (lpid gpa l : ℕ) (c : Ctx) (cmd : Cmd) (a : Answer) → is_guest lpid (target_in plan c l cmd) ≡ true →
     is_store_by lpid gpa c cmd a ≡ false → unwrap_or (stored_in c plan g cmd a gpa) 0 ≡ 0
 zero_by_entry plan g lpid gpa l ctx.Hv cmd a touched other = refl
-zero_by_entry plan g lpid gpa l (ctx.Guest run) cmd a touched other = by_command cmd a other where
-  by_command : (cmd : Cmd) (a : Answer) → is_store_by lpid gpa (ctx.Guest run) cmd a ≡ false → unwrap_or (stored_by_command plan g run.vid cmd a gpa) 0 ≡ 0
-  by_command (UReturn r0 r2 outs) a k = refl
-  by_command (GLi rd value) a k = refl
-  by_command (GLd rd at) (Val value) k = zero_by_backing plan g at gpa
-  by_command (GLd rd at) Done k = refl
-  by_command (GLd rd at) (Ret code) k = refl
-  by_command (GLd rd at) Enter k = refl
-  by_command (GLd rd at) Gone k = refl
-  by_command (GLd rd at) Hole k = refl
-  by_command (GLd rd at) Context k = refl
-  by_command (GLd rd at) Nothing k = refl
-  by_command (GSt rs at) Done k =
-      ap (λ (b : Bool). unwrap_or (if b then Some (slice_index (g.registers run.vid).gpr rs) else backed_by plan g at gpa) 0) (second_is_false _ _ touched k)
+zero_by_entry plan g lpid gpa l (ctx.Guest run) cmd a touched other = by_command cmd a touched other where
+  by_command : (cmd : Cmd) (a : Answer) → is_guest lpid (target_of_running run.lpid cmd) ≡ true → is_store_by lpid gpa (ctx.Guest run) cmd a ≡ false → unwrap_or (stored_by_command plan g run.vid cmd a gpa) 0 ≡ 0
+  by_command (HLd ra) a t k = refl
+  by_command (HSt ra value) a t k = refl
+  by_command (UReturn r0 r2 outs) a t k = refl
+  by_command (GLi rd value) a t k = refl
+  by_command (GLd rd at) (Val value) t k = zero_by_backing plan g at gpa
+  by_command (GLd rd at) Done t k = refl
+  by_command (GLd rd at) (Ret code) t k = refl
+  by_command (GLd rd at) Enter t k = refl
+  by_command (GLd rd at) Gone t k = refl
+  by_command (GLd rd at) Hole t k = refl
+  by_command (GLd rd at) Context t k = refl
+  by_command (GLd rd at) Nothing t k = refl
+  by_command (GSt rs at) Done t k =
+      ap (λ (b : Bool). unwrap_or (if b then Some (slice_index (g.registers run.vid).gpr rs) else backed_by plan g at gpa) 0) (second_is_false _ _ t k)
       ∙ zero_by_backing plan g at gpa
-  by_command (GSt rs at) (Val value) k = refl
-  by_command (GSt rs at) (Ret code) k = refl
-  by_command (GSt rs at) Enter k = refl
-  by_command (GSt rs at) Gone k = refl
-  by_command (GSt rs at) Hole k = refl
-  by_command (GSt rs at) Context k = refl
-  by_command (GSt rs at) Nothing k = refl
+  by_command (GSt rs at) (Val value) t k = refl
+  by_command (GSt rs at) (Ret code) t k = refl
+  by_command (GSt rs at) Enter t k = refl
+  by_command (GSt rs at) Gone t k = refl
+  by_command (GSt rs at) Hole t k = refl
+  by_command (GSt rs at) Context t k = refl
+  by_command (GSt rs at) Nothing t k = refl
 
 content_zero : (plan : Plan) (past : List Event) (lpid gpa : ℕ) → HasNoStore lpid gpa past → (guest_after plan lpid past).content gpa ≡ 0
 content_zero plan [] lpid gpa none = refl
-content_zero plan (e ∷ past) lpid gpa none = by_test (content_zero plan past lpid gpa none.1) (touches_guest lpid e) refl where
+content_zero plan (e ∷ past) lpid gpa none = by_test (content_zero plan past lpid gpa none.1) (touches_guest plan lpid e) refl where
   g : Guest
   g = guest_after plan lpid past
 
-  by_test : g.content gpa ≡ 0 → (b : Bool) → touches_guest lpid e ≡ b → (guest_after plan lpid (e ∷ past)).content gpa ≡ 0
+  by_test : g.content gpa ≡ 0 → (b : Bool) → touches_guest plan lpid e ≡ b → (guest_after plan lpid (e ∷ past)).content gpa ≡ 0
   by_test ih true t =
-      ap (λ (x : Guest). x.content gpa) (counts (touches_guest lpid) (next_guest plan) (start_guest plan lpid) e past t)
+      ap (λ (x : Guest). x.content gpa) (counts (touches_guest plan lpid) (next_guest plan) (start_guest plan lpid) e past t)
       ∙ ap (unwrap_or (stored_by plan g e gpa)) ih
       ∙ zero_by_entry plan g lpid gpa e.saw.lpid e.saw.before e.trace.cmd e.trace.answer t none.0
-  by_test ih false t = ap (λ (x : Guest). x.content gpa) (skips (touches_guest lpid) (next_guest plan) (start_guest plan lpid) e past t) ∙ ih
+  by_test ih false t = ap (λ (x : Guest). x.content gpa) (skips (touches_guest plan lpid) (next_guest plan) (start_guest plan lpid) e past t) ∙ ih
 
 pub last_store_is_zero : LastStoreIsZero
 last_store_is_zero plan past lpid gpa none = by_page (is_invalid ((guest_after plan lpid past).part.pages (page_of plan gpa))) where

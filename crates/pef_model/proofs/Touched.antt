@@ -4,19 +4,19 @@ use Rattle.std.specs.Prelude.{is_some}
 use Rattle.pef_model.specs.declared.state.Ctx.{Ctx}
 use Rattle.pef_model.specs.declared.state.Ctx.TheVariants as ctx
 use Rattle.pef_model.specs.declared.command.Cmd.{Cmd}
-use Rattle.pef_model.specs.declared.command.Cmd.TheVariants.{UReturn, GLi, GLd, GSt}
+use Rattle.pef_model.specs.declared.command.Cmd.TheVariants.{HLd, HSt, UReturn, GLi, GLd, GSt}
 use Rattle.pef_model.specs.declared.command.Code.TheVariants.{UInvalid}
 use Rattle.pef_model.specs.declared.entry.Answer.{Answer}
 use Rattle.pef_model.specs.declared.entry.Answer.TheVariants.{Enter, Ret}
 use Rattle.pef_model.specs.declared.entry.PoolSaw.{PoolSaw}
 use Rattle.pef_model.specs.Plan.{Plan}
 use Rattle.pef_model.specs.Event.{Event, mark_of}
-use Rattle.pef_model.specs.Target.{Ask, Target, Alone, AtGuest, target_in, is_guest, touches_guest, touches_pool}
+use Rattle.pef_model.specs.Target.{Ask, Target, Alone, AtGuest, AtFrame, target_in, is_guest, is_number, touches_frame, touches_guest, touches_pool}
 use Rattle.pef_model.specs.Cpu.{CpuPart}
 use Rattle.pef_model.specs.GuestPart.{GuestPart, is_invalid, has_place, page_of}
 use Rattle.pef_model.specs.Guest.{Guest}
-use Rattle.pef_model.specs.Deed.{answering, may_return_in, is_waiting, NoPage, reach_of, deed_access, deed_running, deed_gone, deed_hypervisor, deed_guest_in, deed_guest}
-use Rattle.pef_model.specs.History.{cpu_after, guest_after, pool_after, ask_of, entry_of, deed_after, next_entry, next_entry_by}
+use Rattle.pef_model.specs.Deed.{answering, may_return_in, is_waiting, NoPage, reach_of, deed_access, deed_running, deed_gone, deed_hypervisor, deed_guest_in, deed_guest, deed_frame}
+use Rattle.pef_model.specs.History.{cpu_after, guest_after, pool_after, frame_after, ask_of, entry_of, deed_after, next_entry, next_entry_by}
 use Rattle.pef_model.specs.ReadLaw.{TouchedObjectsDecide, AskedIsTold}
 use Rattle.pef_model.proofs.Folds.{same_test}
 
@@ -35,6 +35,8 @@ placed_asks ask success false invalid any free h = refl
 
 running_asks : (plan : Plan) (g : Guest) (any free : Bool) (ask : Ask) (cmd : Cmd) → (is_some (deed_running plan g any ask cmd).pool ≡ true → any ≡ free) →
     deed_running plan g any ask cmd ≡ deed_running plan g free ask cmd
+running_asks plan g any free ask (HLd ra) h = refl
+running_asks plan g any free ask (HSt ra value) h = refl
 running_asks plan g any free ask (UReturn r0 r2 outs) h = refl
 running_asks plan g any free ask (GLi rd value) h = refl
 running_asks plan g any free ask (GLd rd gpa) h = placed_asks ask _ (has_place plan gpa) (is_invalid (g.part.pages (page_of plan gpa))) any free h
@@ -51,7 +53,7 @@ deed_asks plan g any free ask cmd (ctx.Guest run) h = by_test (run.generation ==
   by_test false k = refl
 
 pub touched_objects_decide : TouchedObjectsDecide
-touched_objects_decide plan past other e agree extends = record { cpu = extends.cpu; is = extends.is ∙ by_target (target_in ask.before ask.lpid e.trace.cmd) refl ∙ asked } where
+touched_objects_decide plan past other e agree extends = record { cpu = extends.cpu; is = extends.is ∙ by_target (target_in plan ask.before ask.lpid e.trace.cmd) refl ∙ asked } where
   ask : Ask
   ask = ask_of (cpu_after plan e.trace.cpu past)
 
@@ -64,17 +66,21 @@ touched_objects_decide plan past other e agree extends = record { cpu = extends.
   at : List Event → Target → Event
   at history t = entry_of ask (mark_of e) e.trace.cmd (deed_after plan history ask e.trace.cmd t)
 
-  deeds : (lpid : ℕ) → target_in ask.before ask.lpid e.trace.cmd ≡ AtGuest lpid →
+  deeds : (lpid : ℕ) → target_in plan ask.before ask.lpid e.trace.cmd ≡ AtGuest lpid →
       deed_guest plan (guest_after plan lpid past) (free past) ask e.trace.cmd ≡ deed_guest plan (guest_after plan lpid other) (free other) ask e.trace.cmd
   deeds lpid is =
-      let touched : touches_guest lpid e ≡ true = ap (touches_guest lpid) extends.is ∙ ap (is_guest lpid) is ∙ same_test lpid in
+      let touched : touches_guest plan lpid e ≡ true = ap (touches_guest plan lpid) extends.is ∙ ap (is_guest lpid) is ∙ same_test lpid in
       let asks : is_some (deed_guest plan (guest_after plan lpid past) (free past) ask e.trace.cmd).pool ≡ true → free past ≡ free other =
       (λ h. ap (nat_lt 0) (agree.pool (ap touches_pool extends.is ∙ ap (λ (t : Target). is_some (deed_after plan past ask e.trace.cmd t).pool) is ∙ h))) in
       deed_asks plan (guest_after plan lpid past) (free past) (free other) ask e.trace.cmd ask.before asks
       ∙ ap (λ (g : Guest). deed_guest plan g (free other) ask e.trace.cmd) (agree.guest lpid touched)
 
-  by_target : (t : Target) → target_in ask.before ask.lpid e.trace.cmd ≡ t → next_entry_by plan past ask (mark_of e) e.trace.cmd ≡ next_entry_by plan other ask (mark_of e) e.trace.cmd
+  frames : (n : ℕ) → target_in plan ask.before ask.lpid e.trace.cmd ≡ AtFrame n → frame_after plan n past ≡ frame_after plan n other
+  frames n is = agree.frame n (ap (touches_frame n) extends.is ∙ ap (λ (t : Target). is_number n (deed_after plan past ask e.trace.cmd t).frame) is ∙ same_test n)
+
+  by_target : (t : Target) → target_in plan ask.before ask.lpid e.trace.cmd ≡ t → next_entry_by plan past ask (mark_of e) e.trace.cmd ≡ next_entry_by plan other ask (mark_of e) e.trace.cmd
   by_target Alone is = ap (at past) is ∙ sym (ap (at other) is)
+  by_target (AtFrame n) is = ap (at past) is ∙ ap (λ (bytes : List ℕ). entry_of ask (mark_of e) e.trace.cmd (deed_frame plan n bytes ask e.trace.cmd)) (frames n is) ∙ sym (ap (at other) is)
   by_target (AtGuest lpid) is = ap (at past) is ∙ ap (entry_of ask (mark_of e) e.trace.cmd) (deeds lpid is) ∙ sym (ap (at other) is)
 
 access_tells : (ask : Ask) (success : Answer) (invalid any : Bool) (saw : PoolSaw) → (deed_access ask success (reach_of invalid any)).pool ≡ Some saw → saw.any ≡ any
@@ -88,6 +94,8 @@ placed_tells ask success true invalid any saw h = access_tells ask success inval
 placed_tells ask success false invalid any saw h = cc
 
 running_tells : (plan : Plan) (g : Guest) (any : Bool) (ask : Ask) (cmd : Cmd) (saw : PoolSaw) → (deed_running plan g any ask cmd).pool ≡ Some saw → saw.any ≡ any
+running_tells plan g any ask (HLd ra) saw h = cc
+running_tells plan g any ask (HSt ra value) saw h = cc
 running_tells plan g any ask (UReturn r0 r2 outs) saw h = cc
 running_tells plan g any ask (GLi rd value) saw h = cc
 running_tells plan g any ask (GLd rd gpa) saw h = placed_tells ask _ (has_place plan gpa) (is_invalid (g.part.pages (page_of plan gpa))) any saw h
@@ -98,6 +106,8 @@ hypervisor_tells g any ask (UReturn r0 r2 outs) saw h = by_test (may_return_in g
   by_test : (b : Bool) → (if b then record (answering ask Enter) { after = ctx.Guest (record { lpid = ask.lpid; vid = ask.vid; generation = g.generation }) } else answering ask (Ret UInvalid)).pool ≡ Some saw → saw.any ≡ any
   by_test true k = cc
   by_test false k = cc
+hypervisor_tells g any ask (HLd ra) saw h = cc
+hypervisor_tells g any ask (HSt ra value) saw h = cc
 hypervisor_tells g any ask (GLi rd value) saw h = cc
 hypervisor_tells g any ask (GLd rd gpa) saw h = cc
 hypervisor_tells g any ask (GSt rs gpa) saw h = cc

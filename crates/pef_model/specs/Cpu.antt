@@ -1,9 +1,9 @@
 -- A CPU: what the hypervisor sees of it, and what an entry makes of it.
-use Rattle.std.specs.Prelude.{ℕ, ◌^◌, List, replicate}
+use Rattle.std.specs.Prelude.{ℕ, ◌^◌, List, replicate, slice_set}
 use Rattle.pef_model.specs.declared.state.Ctx.{Ctx}
 use Rattle.pef_model.specs.declared.state.Ctx.TheVariants as ctx
 use Rattle.pef_model.specs.declared.command.Cmd.{Cmd}
-use Rattle.pef_model.specs.declared.command.Cmd.TheVariants.{UReturn, GLi, GLd, GSt}
+use Rattle.pef_model.specs.declared.command.Cmd.TheVariants.{HLd, HSt, UReturn, GLi, GLd, GSt}
 use Rattle.pef_model.specs.declared.entry.Answer.{Answer}
 use Rattle.pef_model.specs.declared.entry.Answer.TheVariants as answer
 use Rattle.pef_model.specs.Plan.{Plan}
@@ -28,8 +28,15 @@ abbrev pub own_after_return : List ℕ → Answer → List ℕ
 own_after_return loaded (answer.Ret code) = with_code loaded code
 own_after_return loaded other = loaded
 
+-- a value that was loaded is in R3
+abbrev pub own_after_load : List ℕ → Answer → List ℕ
+own_after_load own (answer.Val value) = slice_set own 3 value
+own_after_load own other = own
+
 -- the hypervisor's registers after a command of its own
 abbrev pub own_after : List ℕ → Cmd → Answer → List ℕ
+own_after own (HLd ra) a = own_after_load own a
+own_after own (HSt ra value) a = own
 own_after own (UReturn r0 r2 outs) a = own_after_return (load_return own r0 r2 outs) a
 own_after own (GLi rd value) a = own
 own_after own (GLd rd gpa) a = own

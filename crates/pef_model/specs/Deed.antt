@@ -8,7 +8,7 @@ use Rattle.pef_model.specs.declared.state.Ctx.{Ctx}
 use Rattle.pef_model.specs.declared.state.Ctx.TheVariants as ctx
 use Rattle.pef_model.specs.declared.command.Code.TheVariants.{UInvalid}
 use Rattle.pef_model.specs.declared.command.Cmd.{Cmd}
-use Rattle.pef_model.specs.declared.command.Cmd.TheVariants.{UReturn, GLi, GLd, GSt}
+use Rattle.pef_model.specs.declared.command.Cmd.TheVariants.{HLd, HSt, UReturn, GLi, GLd, GSt}
 use Rattle.pef_model.specs.declared.entry.Answer.{Answer}
 use Rattle.pef_model.specs.declared.entry.Answer.TheVariants as answer
 use Rattle.pef_model.specs.declared.entry.PoolSaw.{PoolSaw}
@@ -16,6 +16,8 @@ use Rattle.pef_model.specs.Plan.{Plan}
 use Rattle.pef_model.specs.Target.{Ask}
 use Rattle.pef_model.specs.GuestPart.{GuestPart, page_of, has_place, is_invalid}
 use Rattle.pef_model.specs.Guest.{Guest, private_doubleword}
+use Rattle.pef_model.specs.Memory.{offset_of}
+use Rattle.pef_model.specs.Doubleword.{doubleword}
 
 -- what a step does at its target: the answer, the context after it, the values that the guest lets out, the pool, the frame, the bytes
 pub record Deed : Type 0 where
@@ -35,9 +37,25 @@ abbrev pub taking : Deed → Bool → Deed
 taking deed true = record deed { pool = Some (record { any = true; taken = 1; given = 0 }) }
 taking deed false = record deed { pool = Some (record { any = false; taken = 0; given = 0 }) }
 
--- a command of another context
+-- the hypervisor's load or store that has no frame is Hole; every other command that aims at nothing is one of another context
+abbrev pub answer_alone : Ctx → Cmd → Answer
+answer_alone ctx.Hv (HLd ra) = answer.Hole
+answer_alone ctx.Hv (HSt ra value) = answer.Hole
+answer_alone before cmd = answer.Context
+
+-- a command that aims at nothing
 abbrev pub deed_alone : Ask → Cmd → Deed
-deed_alone ask cmd = answering ask answer.Context
+deed_alone ask cmd = answering ask (answer_alone ask.before cmd)
+
+-- the answer of the hypervisor's load or store in a normal frame with these bytes
+abbrev pub answer_frame : Plan → List ℕ → Cmd → Answer
+answer_frame plan bytes (HLd ra) = answer.Val (doubleword bytes (offset_of plan ra))
+answer_frame plan bytes (HSt ra value) = answer.Done
+answer_frame plan bytes cmd = answer.Context
+
+-- a command at a normal frame with these bytes
+abbrev pub deed_frame : Plan → ℕ → List ℕ → Ask → Cmd → Deed
+deed_frame plan n bytes ask cmd = record (answering ask (answer_frame plan bytes cmd)) { frame = Some n }
 
 -- whether UV_RETURN may take up a vCPU in this phase
 abbrev pub may_return_in : Phase → Bool
@@ -86,6 +104,8 @@ deed_access ask success NoFrame = taking (answering ask answer.Hole) false
 
 -- a command of a guest that runs; any: a secure frame is free
 abbrev pub deed_running : Plan → Guest → Bool → Ask → Cmd → Deed
+deed_running plan g any ask (HLd ra) = answering ask answer.Context
+deed_running plan g any ask (HSt ra value) = answering ask answer.Context
 deed_running plan g any ask (UReturn r0 r2 outs) = record (answering ask (answer.Ret UInvalid)) { shown = r0 ∷ r2 ∷ outs }
 deed_running plan g any ask (GLi rd value) = answering ask answer.Done
 deed_running plan g any ask (GLd rd gpa) = deed_access ask (answer.Val (private_doubleword plan g gpa)) (reach plan g.part any gpa)
@@ -97,6 +117,8 @@ deed_gone ask = record (answering ask answer.Gone) { after = ctx.Hv }
 
 -- a command of the hypervisor at a guest
 abbrev pub deed_hypervisor : GuestPart → Ask → Cmd → Deed
+deed_hypervisor g ask (HLd ra) = answering ask answer.Context
+deed_hypervisor g ask (HSt ra value) = answering ask answer.Context
 deed_hypervisor g ask (UReturn r0 r2 outs) = deed_return g ask
 deed_hypervisor g ask (GLi rd value) = deed_alone ask (GLi rd value)
 deed_hypervisor g ask (GLd rd gpa) = deed_alone ask (GLd rd gpa)

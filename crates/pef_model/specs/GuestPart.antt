@@ -9,7 +9,7 @@ use Rattle.pef_model.specs.declared.state.VState.TheVariants as vstate
 use Rattle.pef_model.specs.declared.state.Ctx.{Ctx}
 use Rattle.pef_model.specs.declared.state.Ctx.TheVariants as ctx
 use Rattle.pef_model.specs.declared.command.Cmd.{Cmd}
-use Rattle.pef_model.specs.declared.command.Cmd.TheVariants.{UReturn, GLi, GLd, GSt}
+use Rattle.pef_model.specs.declared.command.Cmd.TheVariants.{HLd, HSt, UReturn, GLi, GLd, GSt}
 use Rattle.pef_model.specs.declared.entry.Answer.{Answer}
 use Rattle.pef_model.specs.declared.entry.Answer.TheVariants as answer
 use Rattle.pef_model.specs.Plan.{Plan}
@@ -109,6 +109,8 @@ part_after_access g gfn other = g
 
 -- after a step of the hypervisor
 abbrev pub part_after_hypervisor : GuestPart → Cmd → Event → GuestPart
+part_after_hypervisor g (HLd ra) e = g
+part_after_hypervisor g (HSt ra value) e = g
 part_after_hypervisor g (UReturn r0 r2 outs) e = part_after_return g e.saw.vid e.trace.cpu e.trace.answer
 part_after_hypervisor g (GLi rd value) e = g
 part_after_hypervisor g (GLd rd gpa) e = g
@@ -116,6 +118,8 @@ part_after_hypervisor g (GSt rs gpa) e = g
 
 -- after a step of the guest
 abbrev pub part_after_guest : Plan → GuestPart → Cmd → Answer → GuestPart
+part_after_guest plan g (HLd ra) a = g
+part_after_guest plan g (HSt ra value) a = g
 part_after_guest plan g (UReturn r0 r2 outs) a = g
 part_after_guest plan g (GLi rd value) a = g
 part_after_guest plan g (GLd rd gpa) a = part_after_access g (page_of plan gpa) a

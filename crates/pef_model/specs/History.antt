@@ -1,14 +1,19 @@
 -- The objects after a history, the one entry that a step adds, and legal histories.
-use Rattle.std.specs.Prelude.{◌≡◌, ℕ, ◌<◌, nat_lt, List, [], ◌∷◌, slice_index}
+use Rattle.std.specs.Prelude.{◌≡◌, ℕ, ◌<◌, ◌==◌, nat_lt, if◌then◌else◌, List, [], ◌∷◌, Option, Some, None, slice_index}
+use Rattle.pef_model.specs.declared.state.Ctx.{Ctx}
+use Rattle.pef_model.specs.declared.state.Ctx.TheVariants as ctx
+use Rattle.pef_model.specs.declared.entry.Answer.{Answer}
+use Rattle.pef_model.specs.declared.entry.Answer.TheVariants as answer
 use Rattle.pef_model.specs.declared.command.Cmd.{Cmd}
+use Rattle.pef_model.specs.declared.command.Cmd.TheVariants.{HSt}
 use Rattle.pef_model.specs.Plan.{Plan}
-use Rattle.pef_model.specs.Event.{Event, Mark, mark_of, value_after}
-use Rattle.pef_model.specs.Target.{Ask, Target, Alone, AtGuest, target_in, touches_cpu, touches_guest, touches_pool, touches_frame}
+use Rattle.pef_model.specs.Event.{Event, Mark, mark_of, newest, value_after}
+use Rattle.pef_model.specs.Target.{Ask, Target, Alone, AtGuest, AtFrame, target_in, touches_cpu, touches_guest, touches_pool, touches_frame}
 use Rattle.pef_model.specs.Cpu.{CpuPart, start_cpu, next_cpu}
 use Rattle.pef_model.specs.GuestPart.{GuestPart}
 use Rattle.pef_model.specs.Guest.{Guest, start_guest, next_guest, private_doubleword}
 use Rattle.pef_model.specs.Memory.{start_pool, next_pool, start_frame, next_frame}
-use Rattle.pef_model.specs.Deed.{Deed, deed_alone, deed_guest}
+use Rattle.pef_model.specs.Deed.{Deed, deed_alone, deed_guest, deed_frame}
 
 -- a CPU after a history
 abbrev pub cpu_after : Plan → ℕ → List Event → CpuPart
@@ -16,7 +21,7 @@ cpu_after plan n past = value_after (touches_cpu n) next_cpu (start_cpu plan) pa
 
 -- a guest after a history, with what it keeps to itself
 abbrev pub guest_after : Plan → ℕ → List Event → Guest
-guest_after plan lpid past = value_after (touches_guest lpid) (next_guest plan) (start_guest plan lpid) past
+guest_after plan lpid past = value_after (touches_guest plan lpid) (next_guest plan) (start_guest plan lpid) past
 
 -- the number of free secure frames after a history
 abbrev pub pool_after : Plan → List Event → ℕ
@@ -24,7 +29,7 @@ pool_after plan past = value_after touches_pool next_pool (start_pool plan) past
 
 -- a normal frame after a history
 abbrev pub frame_after : Plan → ℕ → List Event → List ℕ
-frame_after plan n past = value_after (touches_frame n) next_frame (start_frame plan) past
+frame_after plan n past = value_after (touches_frame n) (next_frame plan) (start_frame plan) past
 
 -- all that the hypervisor could know; it has no secret
 pub record PublicState : Type 0 where
@@ -46,6 +51,18 @@ public_state plan past = record {
 abbrev pub last_store : Plan → List Event → ℕ → ℕ → ℕ
 last_store plan past lpid gpa = private_doubleword plan (guest_after plan lpid past) gpa
 
+-- the value that an entry stores at a real address
+abbrev pub norm_by : ℕ → Ctx → Cmd → Answer → Option ℕ
+norm_by ra ctx.Hv (HSt at value) answer.Done = if at == ra then Some value else None
+norm_by ra before cmd a = None
+
+abbrev pub decides_norm : ℕ → List Event → Event → Option ℕ
+decides_norm ra past e = norm_by ra e.saw.before e.trace.cmd e.trace.answer
+
+-- the value last stored at a real address
+abbrev pub last_norm : List Event → ℕ → ℕ
+last_norm past ra = newest (decides_norm ra) 0 past
+
 -- the value last assigned to one of R0 to R31 of a vCPU
 abbrev pub reg : Plan → List Event → ℕ → ℕ → ℕ → ℕ
 reg plan past lpid vid r = slice_index ((guest_after plan lpid past).registers vid).gpr r
@@ -66,10 +83,11 @@ entry_of ask mark cmd deed = record {
 abbrev pub deed_after : Plan → List Event → Ask → Cmd → Target → Deed
 deed_after plan past ask cmd Alone = deed_alone ask cmd
 deed_after plan past ask cmd (AtGuest lpid) = deed_guest plan (guest_after plan lpid past) (nat_lt 0 (pool_after plan past)) ask cmd
+deed_after plan past ask cmd (AtFrame n) = deed_frame plan n (frame_after plan n past) ask cmd
 
 -- the entry that a step adds to a history, once it is known what the step learns of its CPU
 abbrev pub next_entry_by : Plan → List Event → Ask → Mark → Cmd → Event
-next_entry_by plan past ask mark cmd = entry_of ask mark cmd (deed_after plan past ask cmd (target_in ask.before ask.lpid cmd))
+next_entry_by plan past ask mark cmd = entry_of ask mark cmd (deed_after plan past ask cmd (target_in plan ask.before ask.lpid cmd))
 
 -- the one entry that a step of a CPU adds to a history
 abbrev pub next_entry : Plan → List Event → Mark → Cmd → Event

@@ -1,5 +1,6 @@
 pub mod Plan
 pub mod Event
+pub mod Doubleword
 pub mod Registers
 pub mod Target
 pub mod Cpu
@@ -21,3 +22,6 @@ pub mod CountLaw
 pub mod Commands
 pub mod ScriptText
 pub mod GrammarLaw
+pub mod NormalLaw
+pub mod View
+pub mod Alike

@@ -2,7 +2,7 @@
 use Rattle.std.specs.Prelude.{◌≡◌, ℕ, Bool, true, List, Some}
 use Rattle.std.specs.List.{filter}
 use Rattle.pef_model.specs.declared.command.Cmd.{Cmd}
-use Rattle.pef_model.specs.declared.command.Cmd.TheVariants.{UReturn, GLi, GLd, GSt}
+use Rattle.pef_model.specs.declared.command.Cmd.TheVariants.{HLd, HSt, UReturn, GLi, GLd, GSt}
 use Rattle.pef_model.specs.declared.entry.Answer.TheVariants.{Enter}
 use Rattle.pef_model.specs.declared.entry.PoolSaw.{PoolSaw}
 use Rattle.pef_model.specs.Plan.{Plan}
@@ -18,11 +18,11 @@ use Rattle.pef_model.specs.History.{cpu_after, guest_after, pool_after, frame_af
 -- the entries of a history that touch an object decide its value; so last_store and reg read only their guest's entries
 pub record OwnEntriesDecide (plan : Plan) (past : List Event) : Type 0 where
   pub cpu : (n : ℕ) → cpu_after plan n (filter (touches_cpu n) past) ≡ cpu_after plan n past
-  pub guest : (lpid : ℕ) → guest_after plan lpid (filter (touches_guest lpid) past) ≡ guest_after plan lpid past
+  pub guest : (lpid : ℕ) → guest_after plan lpid (filter (touches_guest plan lpid) past) ≡ guest_after plan lpid past
   pub pool : pool_after plan (filter touches_pool past) ≡ pool_after plan past
   pub frame : (n : ℕ) → frame_after plan n (filter (touches_frame n) past) ≡ frame_after plan n past
-  pub store : (lpid gpa : ℕ) → last_store plan (filter (touches_guest lpid) past) lpid gpa ≡ last_store plan past lpid gpa
-  pub register : (lpid vid r : ℕ) → reg plan (filter (touches_guest lpid) past) lpid vid r ≡ reg plan past lpid vid r
+  pub store : (lpid gpa : ℕ) → last_store plan (filter (touches_guest plan lpid) past) lpid gpa ≡ last_store plan past lpid gpa
+  pub register : (lpid vid r : ℕ) → reg plan (filter (touches_guest plan lpid) past) lpid vid r ≡ reg plan past lpid vid r
 
 -- the entries that touch an object decide its value, for every history
 abbrev pub EachOwnEntriesDecide : Type 0
@@ -30,6 +30,8 @@ EachOwnEntriesDecide = (plan : Plan) (past : List Event) → OwnEntriesDecide pl
 
 -- whether a command is UV_RETURN
 abbrev pub IsReturn : Cmd → Type 0
+IsReturn (HLd ra) = ⊥
+IsReturn (HSt ra value) = ⊥
 IsReturn (UReturn r0 r2 outs) = Unit {0}
 IsReturn (GLi rd value) = ⊥
 IsReturn (GLd rd gpa) = ⊥
@@ -50,13 +52,19 @@ pub record AgreeForGuest (e f : Event) : Type 0 where
   pub vid : IsReturn e.trace.cmd → e.saw.vid ≡ f.saw.vid
   pub cpu : e.trace.answer ≡ Enter → e.trace.cpu ≡ f.trace.cpu
 
+-- two entries agree in what a normal frame reads of them
+pub record AgreeForFrame (e f : Event) : Type 0 where
+  pub cmd : e.trace.cmd ≡ f.trace.cmd
+  pub answer : e.trace.answer ≡ f.trace.answer
+  pub before : e.saw.before ≡ f.saw.before
+
 -- entries that agree in these fields give equal next values
 pub record NextValuesAgree (plan : Plan) (e f : Event) : Type 0 where
   pub cpu : (cpu : CpuPart) → AgreeForCpu e f → next_cpu cpu e ≡ next_cpu cpu f
   pub part : (g : GuestPart) → AgreeForGuest e f → next_part plan g e ≡ next_part plan g f
   pub guest : (g : Guest) → AgreeForGuest e f → next_guest plan g e ≡ next_guest plan g f
   pub pool : (free : ℕ) → e.saw.pool ≡ f.saw.pool → next_pool free e ≡ next_pool free f
-  pub frame : (bytes : List ℕ) → next_frame bytes e ≡ next_frame bytes f
+  pub frame : (bytes : List ℕ) → AgreeForFrame e f → next_frame plan bytes e ≡ next_frame plan bytes f
 
 -- no other field of an entry counts
 abbrev pub TheseFieldsDecide : Type 0
@@ -65,8 +73,9 @@ TheseFieldsDecide = (plan : Plan) (e f : Event) → NextValuesAgree plan e f
 -- two histories agree in the objects that an entry touches
 pub record AgreeWhereTouched (plan : Plan) (past other : List Event) (e : Event) : Type 0 where
   pub cpu : cpu_after plan e.trace.cpu past ≡ cpu_after plan e.trace.cpu other
-  pub guest : (lpid : ℕ) → touches_guest lpid e ≡ true → guest_after plan lpid past ≡ guest_after plan lpid other
+  pub guest : (lpid : ℕ) → touches_guest plan lpid e ≡ true → guest_after plan lpid past ≡ guest_after plan lpid other
   pub pool : touches_pool e ≡ true → pool_after plan past ≡ pool_after plan other
+  pub frame : (n : ℕ) → touches_frame n e ≡ true → frame_after plan n past ≡ frame_after plan n other
 
 -- the objects that an entry touches decide whether it extends a history
 abbrev pub TouchedObjectsDecide : Type 0

@@ -1,16 +1,18 @@
 -- The text of a report.
-use Rattle.std.specs.Prelude.{ℕ, false, List, ◌++◌, reverse, codes, decimal}
-use Rattle.std.specs.List.{flat_map}
+use Rattle.std.specs.Prelude.{ℕ, zero, suc, ◌==◌, Bool, if◌then◌else◌, [], false, List, ◌++◌, reverse, codes, decimal}
+use Rattle.std.specs.List.{flat_map, list_all}
 use Rattle.std.specs.Fmt.{digits}
+use Rattle.hex.specs.Hex.{encode_lower}
+use Rattle.sha2.specs.Sha256.{sha256}
 use Rattle.pef_model.specs.declared.command.Code.{Code}
 use Rattle.pef_model.specs.declared.command.Code.TheVariants.{UInvalid}
 use Rattle.pef_model.specs.declared.command.Cmd.{Cmd}
-use Rattle.pef_model.specs.declared.command.Cmd.TheVariants.{UReturn, GLi, GLd, GSt}
+use Rattle.pef_model.specs.declared.command.Cmd.TheVariants.{HLd, HSt, UReturn, GLi, GLd, GSt}
 use Rattle.pef_model.specs.declared.entry.Answer.{Answer}
 use Rattle.pef_model.specs.declared.entry.Answer.TheVariants.{Done, Val, Ret, Enter, Gone, Hole, Context, Nothing}
 use Rattle.pef_model.specs.Plan.{Plan}
 use Rattle.pef_model.specs.Event.{Event}
-use Rattle.pef_model.specs.History.{pool_after}
+use Rattle.pef_model.specs.History.{frame_after, pool_after}
 
 -- a value: 0x and lower-case hexadecimal without leading zeros
 abbrev pub value_text : ℕ → List ℕ
@@ -18,6 +20,8 @@ value_text value = codes "0x" ++ digits 16 false value
 
 -- a command's name
 abbrev pub command_name : Cmd → List ℕ
+command_name (HLd ra) = codes "h.ld"
+command_name (HSt ra value) = codes "h.st"
 command_name (UReturn r0 r2 outs) = codes "u.return"
 command_name (GLi rd value) = codes "g.li"
 command_name (GLd rd gpa) = codes "g.ld"
@@ -43,10 +47,23 @@ abbrev pub entry_line : Event → List ℕ
 entry_line e =
     decimal e.trace.line ++ (codes " " ++ (decimal e.trace.cpu ++ (codes " " ++ (command_name e.trace.cmd ++ (codes " " ++ (answer_text e.trace.answer ++ codes "\n"))))))
 
+-- whether bytes are all zero
+abbrev pub is_zero : List ℕ → Bool
+is_zero bytes = list_all (λ b. b == 0) bytes
+
+-- the line of a normal frame: its number, and the SHA-256 of its bytes; none for a frame that is all zero
+abbrev pub frame_line : ℕ → List ℕ → List ℕ
+frame_line n bytes = if is_zero bytes then [] else codes "frame " ++ (decimal n ++ (codes " " ++ (encode_lower (sha256 bytes) ++ codes "\n")))
+
+-- the lines of the normal frames below a number, in order
+abbrev pub frames_below : ℕ → (ℕ → List ℕ) → List ℕ
+frames_below zero frames = []
+frames_below (suc n) frames = frames_below n frames ++ frame_line n (frames n)
+
 -- the end of a report: the number of free secure frames
 abbrev pub free_text : ℕ → List ℕ
 free_text free = codes "free " ++ (decimal free ++ codes "\nend\n")
 
--- the report of a history: its entries, the oldest first, and what is free after them
+-- the report of a history: its entries, the oldest first; the normal frames that are not all zero; what is free
 abbrev pub report : Plan → List Event → List ℕ
-report plan past = flat_map entry_line (reverse past) ++ free_text (pool_after plan past)
+report plan past = flat_map entry_line (reverse past) ++ (frames_below plan.normal (λ n. frame_after plan n past) ++ free_text (pool_after plan past))

@@ -7,7 +7,7 @@ use Rattle.std.specs.Str.{bytes_eq}
 use Rattle.std.specs.Str.Parse.{digits_value}
 use Rattle.pef_model.specs.declared.config.Config.{Config}
 use Rattle.pef_model.specs.declared.command.Cmd.{Cmd}
-use Rattle.pef_model.specs.declared.command.Cmd.TheVariants.{UReturn, GLi, GLd, GSt}
+use Rattle.pef_model.specs.declared.command.Cmd.TheVariants.{HLd, HSt, UReturn, GLi, GLd, GSt}
 use Rattle.pef_model.specs.Plan.{IsInRange, default_config}
 
 -- a command line: its number from 1, its CPU, its command
@@ -75,6 +75,16 @@ register_in word =
     then register_at (numeral_in 10 2 (drop 1 word))
     else None
 
+-- a load of the hypervisor
+abbrev pub load_of : Option ℕ → Option Cmd
+load_of None = None
+load_of (Some ra) = Some (HLd ra)
+
+-- a store of the hypervisor
+abbrev pub store_of : Option ℕ → Option ℕ → Option Cmd
+store_of (Some ra) (Some value) = Some (HSt ra value)
+store_of ra value = None
+
 -- UV_RETURN with R0 and R2, and zeros in R4 to R12
 abbrev pub return_of : Option ℕ → Option ℕ → Option Cmd
 return_of (Some r0) (Some r2) = Some (UReturn r0 r2 (replicate 9 0))
@@ -85,10 +95,15 @@ abbrev pub guest_command_of : (ℕ → ℕ → Cmd) → Option ℕ → Option �
 guest_command_of cmd (Some r) (Some n) = Some (cmd r n)
 guest_command_of cmd r n = None
 
+-- a command, by its name and one operand
+abbrev pub short_command_of : List ℕ → List ℕ → Option Cmd
+short_command_of name operand = if bytes_eq name (codes "h.ld") then load_of (number_in operand) else None
+
 -- a command, by its name and two operands
 abbrev pub command_of : List ℕ → List ℕ → List ℕ → Option Cmd
 command_of name first second =
-    if bytes_eq name (codes "u.return") then return_of (number_in first) (number_in second)
+    if bytes_eq name (codes "h.st") then store_of (number_in first) (number_in second)
+    else if bytes_eq name (codes "u.return") then return_of (number_in first) (number_in second)
     else if bytes_eq name (codes "g.li") then guest_command_of GLi (register_in first) (number_in second)
     else if bytes_eq name (codes "g.ld") then guest_command_of GLd (register_in first) (number_in second)
     else if bytes_eq name (codes "g.st") then guest_command_of GSt (register_in first) (number_in second)
@@ -96,6 +111,7 @@ command_of name first second =
 
 -- a command of CPU 0, by the words of its line
 abbrev pub command_in : List (List ℕ) → Option Cmd
+command_in (cpu ∷ name ∷ operand ∷ []) = if bytes_eq cpu (codes "0") then short_command_of name operand else None
 command_in (cpu ∷ name ∷ first ∷ second ∷ []) = if bytes_eq cpu (codes "0") then command_of name first second else None
 command_in words = None
 

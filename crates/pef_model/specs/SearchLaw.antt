@@ -1,24 +1,19 @@
 -- Laws of what a guest loads: the last store, as a search from the newest entry on.
-use Rattle.std.specs.Prelude.{◌≡◌, ℕ, ◌-◌, ◌<◌, ◌==◌, nat_lt, nat_le, Bool, false, ◌&&◌, if◌then◌else◌, List, [], ◌∷◌, ◌++◌, length, Option, Some, None, unwrap_or, slice_index}
+use Rattle.std.specs.Prelude.{◌≡◌, ℕ, ◌-◌, ◌^◌, ◌<◌, ◌==◌, nat_lt, nat_le, Bool, false, ◌&&◌, if◌then◌else◌, List, [], ◌∷◌, ◌++◌, length, Option, Some, None, unwrap_or, slice_index}
 use Rattle.std.specs.List.{AllByRecursion}
 use Rattle.pef_model.specs.declared.state.Run.{Run}
 use Rattle.pef_model.specs.declared.state.Ctx.{Ctx}
 use Rattle.pef_model.specs.declared.state.Ctx.TheVariants as ctx
 use Rattle.pef_model.specs.declared.command.Cmd.{Cmd}
-use Rattle.pef_model.specs.declared.command.Cmd.TheVariants.{UReturn, GLi, GLd, GSt}
+use Rattle.pef_model.specs.declared.command.Cmd.TheVariants.{HLd, HSt, UReturn, GLi, GLd, GSt}
 use Rattle.pef_model.specs.declared.entry.Answer.{Answer}
 use Rattle.pef_model.specs.declared.entry.Answer.TheVariants as answer
 use Rattle.pef_model.specs.Plan.{Plan}
-use Rattle.pef_model.specs.Event.{Event}
+use Rattle.pef_model.specs.Event.{Event, newest}
 use Rattle.pef_model.specs.Registers.{number_of}
 use Rattle.pef_model.specs.Target.{touches_guest}
 use Rattle.pef_model.specs.GuestPart.{is_invalid, page_of}
 use Rattle.pef_model.specs.History.{guest_after, last_store, reg, Extends}
-
--- what the newest entry says that decides; the start where none does
-abbrev pub newest : (List Event → Event → Option ℕ) → ℕ → List Event → ℕ
-newest decides start [] = start
-newest decides start (e ∷ past) = unwrap_or (decides past e) (newest decides start past)
 
 -- an access of a guest backs the page of an address where that page was Invalid, and its doublewords are 0 then
 abbrev pub zero_where_backed : Plan → ℕ → ℕ → List Event → ℕ → Option ℕ
@@ -69,11 +64,13 @@ assigned_in ctx.Hv vid cmd a r = None
 assigned_in (ctx.Guest run) vid cmd a r = if vid == run.vid then assigned_by_command cmd a r else None
 
 -- the value that an entry of a guest gives a register of its vCPU
-abbrev pub decides_register : ℕ → ℕ → ℕ → List Event → Event → Option ℕ
-decides_register lpid vid r past e = if touches_guest lpid e then assigned_in e.saw.before vid e.trace.cmd e.trace.answer r else None
+abbrev pub decides_register : Plan → ℕ → ℕ → ℕ → List Event → Event → Option ℕ
+decides_register plan lpid vid r past e = if touches_guest plan lpid e then assigned_in e.saw.before vid e.trace.cmd e.trace.answer r else None
 
--- a command that a script can have: its registers are R0 to R31, and UV_RETURN has nine outputs
+-- a command that a script can have: its registers are R0 to R31, UV_RETURN has nine outputs, and what is stored has 64 bits
 abbrev pub IsCommand : Cmd → Type 0
+IsCommand (HLd ra) = Unit {0}
+IsCommand (HSt ra value) = value < 2 ^ 64
 IsCommand (UReturn r0 r2 outs) = length outs ≡ 9
 IsCommand (GLi rd value) = rd < 32
 IsCommand (GLd rd gpa) = rd < 32
@@ -83,7 +80,7 @@ IsCommand (GSt rs gpa) = rs < 32
 abbrev pub RegIsNewest : Type 0
 RegIsNewest =
     (plan : Plan) (past : List Event) (lpid vid r : ℕ) → r < 32 → AllByRecursion (λ (e : Event). IsCommand e.trace.cmd) past →
-    reg plan past lpid vid r ≡ newest (decides_register lpid vid r) 0 past
+    reg plan past lpid vid r ≡ newest (decides_register plan lpid vid r) 0 past
 
 -- whether a step is a store to an address of a guest that was done
 abbrev pub is_store_by : ℕ → ℕ → Ctx → Cmd → Answer → Bool

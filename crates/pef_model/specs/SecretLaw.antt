@@ -3,7 +3,7 @@ use Rattle.std.specs.Prelude.{◌≡◌, ℕ, Bool, List, map}
 use Rattle.pef_model.specs.declared.state.Ctx.{Ctx}
 use Rattle.pef_model.specs.declared.state.Ctx.TheVariants as ctx
 use Rattle.pef_model.specs.declared.command.Cmd.{Cmd}
-use Rattle.pef_model.specs.declared.command.Cmd.TheVariants.{UReturn, GLi, GLd, GSt}
+use Rattle.pef_model.specs.declared.command.Cmd.TheVariants.{HLd, HSt, UReturn, GLi, GLd, GSt}
 use Rattle.pef_model.specs.declared.entry.Answer.{Answer}
 use Rattle.pef_model.specs.declared.entry.Answer.TheVariants.{Val}
 use Rattle.pef_model.specs.Plan.{Plan}
@@ -18,6 +18,8 @@ use Rattle.pef_model.specs.Memory.{next_pool, next_frame}
 
 -- a command without the value that a guest alone knows
 abbrev pub open_cmd : Cmd → Cmd
+open_cmd (HLd ra) = HLd ra
+open_cmd (HSt ra value) = HSt ra value
 open_cmd (UReturn r0 r2 outs) = UReturn r0 r2 outs
 open_cmd (GLi rd value) = GLi rd 0
 open_cmd (GLd rd gpa) = GLd rd gpa
@@ -40,13 +42,13 @@ open_entry e = record e { trace = record e.trace { cmd = open_cmd e.trace.cmd; a
 -- two such entries that agree touch the same objects, and give equal next public values
 pub record SecretsStayIn (plan : Plan) (e f : Event) : Type 0 where
   pub touches_cpu : (n : ℕ) → touches_cpu n e ≡ touches_cpu n f
-  pub touches_guest : (lpid : ℕ) → touches_guest lpid e ≡ touches_guest lpid f
+  pub touches_guest : (lpid : ℕ) → touches_guest plan lpid e ≡ touches_guest plan lpid f
   pub touches_pool : touches_pool e ≡ touches_pool f
   pub touches_frame : (n : ℕ) → touches_frame n e ≡ touches_frame n f
   pub cpu : (cpu : CpuPart) → next_cpu cpu e ≡ next_cpu cpu f
   pub guest : (g : GuestPart) → next_part plan g e ≡ next_part plan g f
   pub pool : (free : ℕ) → next_pool free e ≡ next_pool free f
-  pub frame : (bytes : List ℕ) → next_frame bytes e ≡ next_frame bytes f
+  pub frame : (bytes : List ℕ) → next_frame plan bytes e ≡ next_frame plan bytes f
 
 -- one entry lets no secret into the public state
 abbrev pub NoSecretInOneEntry : Type 0

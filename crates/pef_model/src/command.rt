@@ -69,6 +69,10 @@ impl Code {
 /// A command of a script: what the hypervisor or the guest on a CPU does in one step.
 #[derive(Clone, Copy, Debug, PartialEq, Eq)]
 pub enum Cmd {
+    /// The hypervisor loads the doubleword at a real address, in bytes, into R3.
+    HLd { ra: u64 },
+    /// The hypervisor stores a doubleword at a real address, in bytes.
+    HSt { ra: u64, value: u64 },
     /// The ultracall UV_RETURN, with the values that the caller loads: R0 a hypercall's return value, R2 the
     /// address of a synthesized interrupt or 0, and R4 to R12 a hypercall's outputs.
     UReturn { r0: u64, r2: u64, outs: [u64; 9] },

@@ -1,0 +1,33 @@
+-- Laws of normal memory.
+use Rattle.std.specs.Prelude.{◌≡◌, ℕ, true, List, ◌∷◌}
+use Rattle.std.specs.List.{AllByRecursion}
+use Rattle.pef_model.specs.declared.config.Config.{Config}
+use Rattle.pef_model.specs.declared.state.Run.{Run}
+use Rattle.pef_model.specs.declared.state.Ctx.TheVariants as ctx
+use Rattle.pef_model.specs.declared.command.Cmd.TheVariants.{HSt}
+use Rattle.pef_model.specs.Plan.{Plan, plan_of, IsInRange}
+use Rattle.pef_model.specs.Event.{Event}
+use Rattle.pef_model.specs.Doubleword.{doubleword}
+use Rattle.pef_model.specs.Target.{frame_of, has_real_place}
+use Rattle.pef_model.specs.Memory.{offset_of}
+use Rattle.pef_model.specs.History.{frame_after, guest_after, last_norm, IsLegal}
+use Rattle.pef_model.specs.SearchLaw.{IsCommand}
+
+-- the frames of the public state hold last_norm everywhere
+abbrev pub FramesHoldLastNorm : Type 0
+FramesHoldLastNorm =
+    (config : Config) (past : List Event) (ra : ℕ) → IsInRange config → IsLegal (plan_of config) past → AllByRecursion (λ (e : Event). IsCommand e.trace.cmd) past →
+    has_real_place (plan_of config) ra ≡ true →
+    doubleword (frame_after (plan_of config) (frame_of (plan_of config) ra) past) (offset_of (plan_of config) ra) ≡ last_norm past ra
+
+-- a guest's step changes no normal frame
+abbrev pub GuestLeavesFrames : Type 0
+GuestLeavesFrames =
+    (plan : Plan) (past : List Event) (e : Event) (run : Run) (n : ℕ) → e.saw.before ≡ ctx.Guest run →
+    frame_after plan n (e ∷ past) ≡ frame_after plan n past
+
+-- the hypervisor's store changes no guest
+abbrev pub StoreLeavesGuests : Type 0
+StoreLeavesGuests =
+    (plan : Plan) (past : List Event) (e : Event) (ra value lpid : ℕ) → e.trace.cmd ≡ HSt ra value →
+    guest_after plan lpid (e ∷ past) ≡ guest_after plan lpid past

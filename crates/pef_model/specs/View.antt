@@ -1,0 +1,64 @@
+-- What the hypervisor sees of a history.
+use Rattle.std.specs.Prelude.{ℕ, List, [], ◌∷◌, Option, Some, None}
+use Rattle.byteorder.specs.Endian.{big_bytes}
+use Rattle.pef_model.specs.declared.state.Ctx.{Ctx}
+use Rattle.pef_model.specs.declared.state.Ctx.TheVariants as ctx
+use Rattle.pef_model.specs.declared.command.Cmd.{Cmd}
+use Rattle.pef_model.specs.declared.command.Cmd.TheVariants.{HSt}
+use Rattle.pef_model.specs.declared.entry.Answer.{Answer}
+use Rattle.pef_model.specs.declared.entry.Answer.TheVariants as answer
+use Rattle.pef_model.specs.Plan.{Plan}
+use Rattle.pef_model.specs.Event.{Event}
+use Rattle.pef_model.specs.Target.{frame_of}
+use Rattle.pef_model.specs.Memory.{offset_of}
+use Rattle.pef_model.specs.History.{cpu_after}
+use Rattle.pef_model.specs.Report.{command_name}
+
+-- a step that the hypervisor sees: its line, CPU, command and answer
+pub record Step : Type 0 where
+  pub line : ℕ
+  pub cpu : ℕ
+  pub command : List ℕ
+  pub answer : Answer
+
+-- a write into normal memory
+pub record Write : Type 0 where
+  pub frame : ℕ
+  pub offset : ℕ
+  pub bytes : List ℕ
+
+-- what an entry shows: the step, the CPU's registers, what was written
+pub record Sight : Type 0 where
+  pub step : Option Step
+  pub registers : Option (List ℕ)
+  pub writes : List Write
+
+-- a value where the hypervisor runs
+abbrev pub if_hypervisor : {A : Type 0} → Ctx → A → Option A
+if_hypervisor ctx.Hv x = Some x
+if_hypervisor (ctx.Guest run) x = None
+
+-- the first of two values that is there
+abbrev pub either_of : {A : Type 0} → Option A → Option A → Option A
+either_of (Some x) other = Some x
+either_of None other = other
+
+-- what a store of the hypervisor writes
+abbrev pub writes_of : Plan → Ctx → Cmd → Answer → List Write
+writes_of plan ctx.Hv (HSt ra value) answer.Done = record { frame = frame_of plan ra; offset = offset_of plan ra; bytes = big_bytes 8 value } ∷ []
+writes_of plan before cmd a = []
+
+-- what an entry after a history shows: the step where the hypervisor ran before it or runs after it, the CPU's registers where it runs after it
+abbrev pub sight : Plan → List Event → Event → Sight
+sight plan past e = record {
+  step = either_of (if_hypervisor e.saw.before step) (if_hypervisor e.saw.after step);
+  registers = if_hypervisor e.saw.after (cpu_after plan e.trace.cpu (e ∷ past)).own;
+  writes = writes_of plan e.saw.before e.trace.cmd e.trace.answer;
+} where
+  step : Step
+  step = record { line = e.trace.line; cpu = e.trace.cpu; command = command_name e.trace.cmd; answer = e.trace.answer }
+
+-- what a history shows, the newest entry first
+abbrev pub view : Plan → List Event → List Sight
+view plan [] = []
+view plan (e ∷ past) = sight plan past e ∷ view plan past
