@@ -138,7 +138,7 @@ length_command regs (GSt rs gpa) Hole k h = h
 length_command regs (GSt rs gpa) Context k h = h
 length_command regs (GSt rs gpa) Nothing k h = h
 
-set_value : (gpr : List ℕ) (rd value r : ℕ) → length gpr ≡ 32 → rd < 32 → get_or (slice_set gpr rd value) r 0 ≡ unwrap_or (if r == rd then Some value else None) (get_or gpr r 0)
+pub set_value : (gpr : List ℕ) (rd value r : ℕ) → length gpr ≡ 32 → rd < 32 → get_or (slice_set gpr rd value) r 0 ≡ unwrap_or (if r == rd then Some value else None) (get_or gpr r 0)
 set_value gpr rd value r h k = by_test (r == rd) refl where
   by_test : (b : Bool) → (r == rd) ≡ b → get_or (slice_set gpr rd value) r 0 ≡ unwrap_or (if b then Some value else None) (get_or gpr r 0)
   by_test true t = let same : r ≡ rd = test_same r rd t in grind (arith, common_steps)

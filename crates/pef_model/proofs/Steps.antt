@@ -8,20 +8,20 @@ use Rattle.pef_model.specs.declared.state.Ctx.{Ctx}
 use Rattle.pef_model.specs.declared.state.Ctx.TheVariants as ctx
 use Rattle.pef_model.specs.declared.command.TheConstants.{UV_RETURN}
 use Rattle.pef_model.specs.declared.command.Cmd.{Cmd}
-use Rattle.pef_model.specs.declared.command.Cmd.TheVariants.{UReturn, GLi, GLd, GSt}
+use Rattle.pef_model.specs.declared.command.Cmd.TheVariants.{HLd, HSt, UReturn, GLi, GLd, GSt}
 use Rattle.pef_model.specs.declared.entry.Answer.{Answer}
 use Rattle.pef_model.specs.declared.entry.Answer.TheVariants.{Done, Val, Ret, Enter, Gone, Hole, Context}
 use Rattle.pef_model.specs.Plan.{Plan}
 use Rattle.pef_model.specs.Event.{Event}
 use Rattle.pef_model.specs.Registers.{number_of, load_return}
-use Rattle.pef_model.specs.Cpu.{CpuPart, start_cpu, next_cpu, cpu_after_guest, last_after}
+use Rattle.pef_model.specs.Cpu.{CpuPart, start_cpu, next_cpu, cpu_after_guest, own_after_load, last_after}
 use Rattle.pef_model.specs.Target.{touches_cpu}
 use Rattle.pef_model.specs.History.{cpu_after, Extends}
 use Rattle.pef_model.specs.SearchLaw.{loaded_value, IsCommand}
-use Rattle.pef_model.specs.StepLaw.{is_kept, own_given_in, let_out, EachEntryLeavesCpu}
+use Rattle.pef_model.specs.StepLaw.{is_kept, given_by_load, own_given_in, let_out, EachEntryLeavesCpu}
 use Rattle.pef_model.proofs.Folds.{same_test, counts}
 use Rattle.pef_model.proofs.NextValues.{cpu_by, cpu_by_is}
-use Rattle.pef_model.proofs.Assigned.{returned_value}
+use Rattle.pef_model.proofs.Assigned.{returned_value, set_value}
 use Rattle.pef_model.proofs.Outcomes.{Outcome, outcome}
 
 -- the context after a guest's step, by its answer
@@ -30,6 +30,8 @@ ctx_after_guest run Gone = ctx.Hv
 ctx_after_guest run a = ctx.Guest run
 
 pub after_guest : (run : Run) (cmd : Cmd) (a : Answer) (after : Ctx) (shown : List ℕ) → Outcome (ctx.Guest run) cmd a after shown → after ≡ ctx_after_guest run a
+after_guest run (HLd ra) Context after shown h = h.0
+after_guest run (HSt ra value) Context after shown h = h.0
 after_guest run (UReturn r0 r2 outs) Gone after shown h = h.0
 after_guest run (UReturn r0 r2 outs) (Ret code) after shown h = h.0
 after_guest run (GLi rd value) Gone after shown h = h.0
@@ -51,6 +53,8 @@ ctx_left cpu ctx.Hv after cmd a shown before h = refl
 ctx_left cpu (ctx.Guest run) after cmd a shown before h = ctx_left_by_guest cpu run a before ∙ sym (after_guest run cmd a after shown h)
 
 context_leaves : (cpu : CpuPart) (c after : Ctx) (cmd : Cmd) (shown : List ℕ) → cpu.ctx ≡ c → Outcome c cmd Context after shown → cpu_by cpu c after cmd Context ≡ cpu
+context_leaves cpu ctx.Hv after (HLd ra) shown before h = absurd h
+context_leaves cpu ctx.Hv after (HSt ra value) shown before h = absurd h
 context_leaves cpu ctx.Hv after (UReturn r0 r2 outs) shown before h = absurd h
 context_leaves cpu ctx.Hv after (GLi rd value) shown before h = (λ i. record cpu { ctx = (h.0 ∙ sym before) i })
 context_leaves cpu ctx.Hv after (GLd rd gpa) shown before h = (λ i. record cpu { ctx = (h.0 ∙ sym before) i })
@@ -93,6 +97,10 @@ own_by_return : (cpu : CpuPart) (after : Ctx) (r0 r2 : ℕ) (outs : List ℕ) (a
 own_by_return cpu after r0 r2 outs (Ret code) r k full small = returned_value cpu.own outs r0 r2 (number_of code) r full k small
 own_by_return cpu after r0 r2 outs a r k full small = loaded_for_return cpu.own outs r0 r2 r full k small
 
+own_by_load : (own : List ℕ) (a : Answer) (r : ℕ) → length own ≡ 32 → get_or (own_after_load own a) r 0 ≡ unwrap_or (given_by_load a r) (get_or own r 0)
+own_by_load own (Val value) r full = set_value own 3 value r full (omega arith)
+own_by_load own a r full = refl
+
 zero_at : (n i : ℕ) → get_or (replicate {A = ℕ} n 0) i 0 ≡ 0
 zero_at zero i = refl
 zero_at (suc n) zero = refl
@@ -100,6 +108,8 @@ zero_at (suc n) (suc i) = zero_at n i
 
 own_left : (cpu : CpuPart) (c after : Ctx) (cmd : Cmd) (a : Answer) (r : ℕ) → IsCommand cmd → length cpu.own ≡ 32 → r < 32 →
     get_or (cpu_by cpu c after cmd a).own r 0 ≡ unwrap_or (own_given_in c cmd a r) (get_or cpu.own r 0)
+own_left cpu ctx.Hv after (HLd ra) a r k full small = own_by_load cpu.own a r full
+own_left cpu ctx.Hv after (HSt ra value) a r k full small = refl
 own_left cpu ctx.Hv after (UReturn r0 r2 outs) a r k full small = own_by_return cpu after r0 r2 outs a r k full small
 own_left cpu ctx.Hv after (GLi rd value) a r k full small = refl
 own_left cpu ctx.Hv after (GLd rd gpa) a r k full small = refl
@@ -114,11 +124,17 @@ selection_left cpu (ctx.Guest run) after cmd Gone = (refl, refl)
 selection_left cpu (ctx.Guest run) after cmd a = (refl, refl)
 
 shown_is : (c : Ctx) (cmd : Cmd) (a : Answer) (after : Ctx) (shown : List ℕ) → Outcome c cmd a after shown → shown ≡ let_out c cmd a
+shown_is ctx.Hv (HLd ra) (Val value) after shown h = h.1
+shown_is ctx.Hv (HLd ra) Hole after shown h = h.1
+shown_is ctx.Hv (HSt ra value) Done after shown h = h.1
+shown_is ctx.Hv (HSt ra value) Hole after shown h = h.1
 shown_is ctx.Hv (UReturn r0 r2 outs) Enter after shown h = h
 shown_is ctx.Hv (UReturn r0 r2 outs) (Ret code) after shown h = h.1
 shown_is ctx.Hv (GLi rd value) Context after shown h = h.1
 shown_is ctx.Hv (GLd rd gpa) Context after shown h = h.1
 shown_is ctx.Hv (GSt rs gpa) Context after shown h = h.1
+shown_is (ctx.Guest run) (HLd ra) Context after shown h = h.1
+shown_is (ctx.Guest run) (HSt ra value) Context after shown h = h.1
 shown_is (ctx.Guest run) (UReturn r0 r2 outs) Gone after shown h = h.1
 shown_is (ctx.Guest run) (UReturn r0 r2 outs) (Ret code) after shown h = h.1
 shown_is (ctx.Guest run) (GLi rd value) Gone after shown h = h.1

@@ -6,7 +6,7 @@ use Rattle.pef_model.specs.declared.state.Ctx.{Ctx}
 use Rattle.pef_model.specs.declared.state.Ctx.TheVariants as ctx
 use Rattle.pef_model.specs.declared.command.TheConstants.{UV_RETURN}
 use Rattle.pef_model.specs.declared.command.Cmd.{Cmd}
-use Rattle.pef_model.specs.declared.command.Cmd.TheVariants.{UReturn}
+use Rattle.pef_model.specs.declared.command.Cmd.TheVariants.{HLd, UReturn}
 use Rattle.pef_model.specs.declared.entry.Answer.{Answer}
 use Rattle.pef_model.specs.declared.entry.Answer.TheVariants as answer
 use Rattle.pef_model.specs.Plan.{Plan}
@@ -30,8 +30,14 @@ abbrev pub given_by_return : ℕ → ℕ → List ℕ → Answer → ℕ → Opt
 given_by_return r0 r2 outs (answer.Ret code) r = loaded_value r0 r2 outs (number_of code) r
 given_by_return r0 r2 outs a r = loaded_value r0 r2 outs UV_RETURN r
 
--- the value that a command of the hypervisor gives one of its registers
+-- the value that a load of the hypervisor gives one of its registers: R3 has what was loaded
+abbrev pub given_by_load : Answer → ℕ → Option ℕ
+given_by_load (answer.Val value) r = if r == 3 then Some value else None
+given_by_load a r = None
+
+-- the value that a command of the hypervisor gives one of its registers: a load that was refused and a store give none
 abbrev pub given_by_command : Cmd → Answer → ℕ → Option ℕ
+given_by_command (HLd ra) a r = given_by_load a r
 given_by_command (UReturn r0 r2 outs) a r = given_by_return r0 r2 outs a r
 given_by_command cmd a r = None
 
