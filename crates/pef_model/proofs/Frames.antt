@@ -6,13 +6,13 @@ use Rattle.pef_model.specs.declared.state.Ctx.{Ctx}
 use Rattle.pef_model.specs.declared.state.Ctx.TheVariants as ctx
 use Rattle.pef_model.specs.declared.command.Code.TheVariants.{UInvalid}
 use Rattle.pef_model.specs.declared.command.Cmd.{Cmd}
-use Rattle.pef_model.specs.declared.command.Cmd.TheVariants.{UReturn, GLi, GLd, GSt}
+use Rattle.pef_model.specs.declared.command.Cmd.TheVariants.{HLd, HSt, UReturn, GLi, GLd, GSt}
 use Rattle.pef_model.specs.declared.entry.PoolSaw.{PoolSaw}
 use Rattle.pef_model.specs.declared.entry.Answer.{Answer}
-use Rattle.pef_model.specs.declared.entry.Answer.TheVariants.{Done, Val, Ret, Enter, Gone, Context}
+use Rattle.pef_model.specs.declared.entry.Answer.TheVariants.{Done, Val, Ret, Enter, Gone, Hole, Context}
 use Rattle.pef_model.specs.Plan.{Plan}
 use Rattle.pef_model.specs.Event.{Event}
-use Rattle.pef_model.specs.Target.{Ask, AtGuest, target_in, is_guest, touches_cpu, touches_guest}
+use Rattle.pef_model.specs.Target.{Ask, Target, Alone, AtGuest, AtFrame, frame_of, has_real_place, target_of_address, target_in, is_guest, touches_cpu, touches_guest}
 use Rattle.pef_model.specs.Cpu.{CpuPart, start_cpu, next_cpu}
 use Rattle.pef_model.specs.GuestPart.{GuestPart, start_part_of, page_of, has_place, is_invalid, with_secure_page, with_page_backed, part_after_access, part_after_guest, part_after_return}
 use Rattle.pef_model.specs.Guest.{Guest, start_guest, next_guest, private_doubleword}
@@ -21,7 +21,8 @@ use Rattle.pef_model.specs.Deed.{Deed, Reach, NoPage, answering, deed_return, de
 use Rattle.pef_model.specs.History.{cpu_after, guest_after, pool_after, deed_after, IsLegal}
 use Rattle.pef_model.specs.CountLaw.{part_after, secure_pages, sum_to, FramesAreCounted}
 use Rattle.pef_model.proofs.Folds.{test_same, same_test, skips}
-use Rattle.pef_model.proofs.NextValues.{cpu_by_is}
+use Rattle.pef_model.proofs.NextValues.{cpu_by_is, part_by}
+use Rattle.pef_model.proofs.Aims.{address_is_no_guest, own_guest}
 use Rattle.pef_model.proofs.Outcomes.{Outcome, outcome}
 use Rattle.pef_model.proofs.Steps.{ctx_after_guest, after_guest, ctx_after, selection_left}
 use Rattle.pef_model.proofs.Running.{Taking, takes, next_by, next_by_is}
@@ -47,6 +48,10 @@ RunsFirst (ctx.Guest run) = run.lpid ≡ 1
 -- if guest 1 ran before an entry, it runs after it
 first_runs_by : (g : GuestPart) (c : Ctx) (lpid vid : ℕ) (cmd : Cmd) (a : Answer) (after : Ctx) (shown : List ℕ) → lpid ≡ 1 → RunsFirst c →
     Outcome c cmd a after shown → Taking g c lpid vid a after → RunsFirst after
+first_runs_by g ctx.Hv lpid vid (HLd ra) (Val value) after shown one runs o taking = subst RunsFirst (sym o.0) tt
+first_runs_by g ctx.Hv lpid vid (HLd ra) Hole after shown one runs o taking = subst RunsFirst (sym o.0) tt
+first_runs_by g ctx.Hv lpid vid (HSt ra value) Done after shown one runs o taking = subst RunsFirst (sym o.0) tt
+first_runs_by g ctx.Hv lpid vid (HSt ra value) Hole after shown one runs o taking = subst RunsFirst (sym o.0) tt
 first_runs_by g ctx.Hv lpid vid (UReturn r0 r2 outs) Enter after shown one runs o taking = subst RunsFirst (sym taking.after_is) one
 first_runs_by g ctx.Hv lpid vid (UReturn r0 r2 outs) (Ret code) after shown one runs o taking = subst RunsFirst (sym o.0) tt
 first_runs_by g ctx.Hv lpid vid (GLi rd value) Context after shown one runs o taking = subst RunsFirst (sym o.0) tt
@@ -73,25 +78,31 @@ first_runs plan (e ∷ past) n legal = by_test (first_runs plan past n legal.1) 
   by_test ih false t = subst (λ (x : CpuPart). RunsFirst x.ctx) (sym (skips (touches_cpu n) next_cpu (start_cpu plan) e past t)) ih
 
 -- An entry of a legal history aims at guest 1 or at none.
-aims : (c : Ctx) (l lpid : ℕ) (cmd : Cmd) → l ≡ 1 → RunsFirst c → is_guest lpid (target_in c l cmd) ≡ true → lpid ≡ 1
-aims ctx.Hv l lpid (UReturn r0 r2 outs) one runs t = sym (test_same l lpid t) ∙ one
-aims ctx.Hv l lpid (GLi rd value) one runs t = cc
-aims ctx.Hv l lpid (GLd rd gpa) one runs t = cc
-aims ctx.Hv l lpid (GSt rs gpa) one runs t = cc
-aims (ctx.Guest run) l lpid cmd one runs t = sym (test_same run.lpid lpid t) ∙ runs
+aims : (plan : Plan) (c : Ctx) (l lpid : ℕ) (cmd : Cmd) → l ≡ 1 → RunsFirst c → is_guest lpid (target_in plan c l cmd) ≡ true → lpid ≡ 1
+aims plan ctx.Hv l lpid (HLd ra) one runs t =
+    let none : is_guest lpid (target_of_address plan ra) ≡ false = address_is_no_guest plan ra lpid in
+    cc
+aims plan ctx.Hv l lpid (HSt ra value) one runs t =
+    let none : is_guest lpid (target_of_address plan ra) ≡ false = address_is_no_guest plan ra lpid in
+    cc
+aims plan ctx.Hv l lpid (UReturn r0 r2 outs) one runs t = sym (test_same l lpid t) ∙ one
+aims plan ctx.Hv l lpid (GLi rd value) one runs t = cc
+aims plan ctx.Hv l lpid (GLd rd gpa) one runs t = cc
+aims plan ctx.Hv l lpid (GSt rs gpa) one runs t = cc
+aims plan (ctx.Guest run) l lpid cmd one runs t = sym (own_guest plan run l lpid cmd t) ∙ runs
 
-touches_first : (plan : Plan) (past : List Event) (e : Event) (lpid : ℕ) → IsLegal plan (e ∷ past) → touches_guest lpid e ≡ true → lpid ≡ 1
+touches_first : (plan : Plan) (past : List Event) (e : Event) (lpid : ℕ) → IsLegal plan (e ∷ past) → touches_guest plan lpid e ≡ true → lpid ≡ 1
 touches_first plan past e lpid legal t =
     let is = legal.0.is in
     let before : RunsFirst e.saw.before = subst RunsFirst (ap (λ (x : Event). x.saw.before) (sym is)) (first_runs plan past e.trace.cpu legal.1) in
-    aims e.saw.before e.saw.lpid lpid e.trace.cmd (ap (λ (x : Event). x.saw.lpid) is ∙ selects_first plan past e.trace.cpu) before t
+    aims plan e.saw.before e.saw.lpid lpid e.trace.cmd (ap (λ (x : Event). x.saw.lpid) is ∙ selects_first plan past e.trace.cpu) before t
 
 other_guests : (plan : Plan) (past : List Event) (lpid : ℕ) → IsLegal plan past → lpid ≢ 1 → guest_after plan lpid past ≡ start_guest plan lpid
 other_guests plan [] lpid legal other = refl
-other_guests plan (e ∷ past) lpid legal other = by_test (other_guests plan past lpid legal.1 other) (touches_guest lpid e) refl where
-  by_test : guest_after plan lpid past ≡ start_guest plan lpid → (b : Bool) → touches_guest lpid e ≡ b → guest_after plan lpid (e ∷ past) ≡ start_guest plan lpid
+other_guests plan (e ∷ past) lpid legal other = by_test (other_guests plan past lpid legal.1 other) (touches_guest plan lpid e) refl where
+  by_test : guest_after plan lpid past ≡ start_guest plan lpid → (b : Bool) → touches_guest plan lpid e ≡ b → guest_after plan lpid (e ∷ past) ≡ start_guest plan lpid
   by_test ih true t = absurd (other (touches_first plan past e lpid legal t))
-  by_test ih false t = skips (touches_guest lpid) (next_guest plan) (start_guest plan lpid) e past t ∙ ih
+  by_test ih false t = skips (touches_guest plan lpid) (next_guest plan) (start_guest plan lpid) e past t ∙ ih
 
 -- a step takes as many frames as it makes pages Secure
 abbrev Balances : ℕ → Option PoolSaw → GuestPart → GuestPart → Type 0
@@ -128,12 +139,16 @@ access_balances plan g free ask success gpa access = by_place (has_place plan gp
 running_balances : (plan : Plan) (g : Guest) (free : ℕ) (ask : Ask) (cmd : Cmd) →
     let deed : Deed = deed_running plan g (nat_lt 0 free) ask cmd in
     Balances free deed.pool g.part (part_after_guest plan g.part cmd deed.answer)
+running_balances plan g free ask (HLd ra) = refl
+running_balances plan g free ask (HSt ra value) = refl
 running_balances plan g free ask (UReturn r0 r2 outs) = refl
 running_balances plan g free ask (GLi rd value) = refl
 running_balances plan g free ask (GLd rd gpa) = access_balances plan g.part free ask (Val (private_doubleword plan g gpa)) gpa refl
 running_balances plan g free ask (GSt rs gpa) = access_balances plan g.part free ask Done gpa refl
 
 gone_balances : (plan : Plan) (g : GuestPart) (free : ℕ) (cmd : Cmd) → Balances free None g (part_after_guest plan g cmd Gone)
+gone_balances plan g free (HLd ra) = refl
+gone_balances plan g free (HSt ra value) = refl
 gone_balances plan g free (UReturn r0 r2 outs) = refl
 gone_balances plan g free (GLi rd value) = refl
 gone_balances plan g free (GLd rd gpa) = refl
@@ -173,20 +188,52 @@ guest_balances plan past run vid last cmd = by_test (run.generation == (part_aft
   by_test true = running_balances plan g free ask cmd
   by_test false = gone_balances plan g.part free cmd
 
+-- a load or store of the hypervisor takes no frame and leaves guest 1, whether its address has a place in a normal frame or not
+normal_load_balances : (plan : Plan) (past : List Event) (vid cpu : ℕ) (last : Answer) (ra : ℕ) (b : Bool) →
+    let target : Target = if b then AtFrame (frame_of plan ra) else Alone in
+    let deed : Deed = deed_after plan past (record { before = ctx.Hv; lpid = 1; vid = vid; last = last }) (HLd ra) target in
+    let g : GuestPart = part_after plan past 1 in
+    Balances (pool_after plan past) deed.pool g (if is_guest 1 target then part_by plan g ctx.Hv (HLd ra) deed.answer vid cpu else g)
+normal_load_balances plan past vid cpu last ra true = refl
+normal_load_balances plan past vid cpu last ra false = refl
+
+normal_store_balances : (plan : Plan) (past : List Event) (vid cpu : ℕ) (last : Answer) (ra value : ℕ) (b : Bool) →
+    let target : Target = if b then AtFrame (frame_of plan ra) else Alone in
+    let deed : Deed = deed_after plan past (record { before = ctx.Hv; lpid = 1; vid = vid; last = last }) (HSt ra value) target in
+    let g : GuestPart = part_after plan past 1 in
+    Balances (pool_after plan past) deed.pool g (if is_guest 1 target then part_by plan g ctx.Hv (HSt ra value) deed.answer vid cpu else g)
+normal_store_balances plan past vid cpu last ra value true = refl
+normal_store_balances plan past vid cpu last ra value false = refl
+
+-- a command of guest 1 that aims at it
+own_balances : (plan : Plan) (past : List Event) (run : Run) (vid cpu : ℕ) (last : Answer) (cmd : Cmd) → run.lpid ≡ 1 →
+    let deed : Deed = deed_after plan past (record { before = ctx.Guest run; lpid = 1; vid = vid; last = last }) cmd (AtGuest run.lpid) in
+    let g : GuestPart = part_after plan past 1 in
+    Balances (pool_after plan past) deed.pool g (if is_guest 1 (AtGuest run.lpid) then part_by plan g (ctx.Guest run) cmd deed.answer vid cpu else g)
+own_balances plan past run vid cpu last cmd first =
+    let deed : Deed = deed_after plan past (record { before = ctx.Guest run; lpid = 1; vid = vid; last = last }) cmd (AtGuest run.lpid) in
+    let free : ℕ = pool_after plan past in
+    subst
+    (λ (x : ℕ). Balances free deed.pool (part_after plan past x) (if run.lpid == x then part_after_guest plan (part_after plan past x) cmd deed.answer else part_after plan past x)) first
+    (subst (λ (b : Bool). Balances free deed.pool (part_after plan past run.lpid) (if b then part_after_guest plan (part_after plan past run.lpid) cmd deed.answer else part_after plan past run.lpid))
+    (sym (same_test run.lpid)) (guest_balances plan past run vid last cmd))
+
 -- guest 1 after a step and the frames that the step took
 deed_balances : (plan : Plan) (past : List Event) (c : Ctx) (vid cpu : ℕ) (last : Answer) (cmd : Cmd) → RunsFirst c →
-    let deed : Deed = deed_after plan past (record { before = c; lpid = 1; vid = vid; last = last }) cmd (target_in c 1 cmd) in
+    let deed : Deed = deed_after plan past (record { before = c; lpid = 1; vid = vid; last = last }) cmd (target_in plan c 1 cmd) in
     Balances (pool_after plan past) deed.pool (part_after plan past 1) (next_by plan c 1 vid cpu cmd deed.answer (part_after plan past 1) 1)
+deed_balances plan past ctx.Hv vid cpu last (HLd ra) runs = normal_load_balances plan past vid cpu last ra (has_real_place plan ra)
+deed_balances plan past ctx.Hv vid cpu last (HSt ra value) runs = normal_store_balances plan past vid cpu last ra value (has_real_place plan ra)
 deed_balances plan past ctx.Hv vid cpu last (UReturn r0 r2 outs) runs = return_balances (part_after plan past 1) (pool_after plan past) vid cpu last
 deed_balances plan past ctx.Hv vid cpu last (GLi rd value) runs = refl
 deed_balances plan past ctx.Hv vid cpu last (GLd rd gpa) runs = refl
 deed_balances plan past ctx.Hv vid cpu last (GSt rs gpa) runs = refl
-deed_balances plan past (ctx.Guest run) vid cpu last cmd runs =
-    let deed : Deed = deed_after plan past (record { before = ctx.Guest run; lpid = 1; vid = vid; last = last }) cmd (AtGuest run.lpid) in
-    let free : ℕ = pool_after plan past in
-    subst (λ (x : ℕ). Balances free deed.pool (part_after plan past x) (next_by plan (ctx.Guest run) 1 vid cpu cmd deed.answer (part_after plan past x) x)) runs
-    (subst (λ (b : Bool). Balances free deed.pool (part_after plan past run.lpid) (if b then part_after_guest plan (part_after plan past run.lpid) cmd deed.answer else part_after plan past run.lpid))
-    (sym (same_test run.lpid)) (guest_balances plan past run vid last cmd))
+deed_balances plan past (ctx.Guest run) vid cpu last (HLd ra) runs = refl
+deed_balances plan past (ctx.Guest run) vid cpu last (HSt ra value) runs = refl
+deed_balances plan past (ctx.Guest run) vid cpu last (UReturn r0 r2 outs) runs = own_balances plan past run vid cpu last (UReturn r0 r2 outs) runs
+deed_balances plan past (ctx.Guest run) vid cpu last (GLi rd value) runs = own_balances plan past run vid cpu last (GLi rd value) runs
+deed_balances plan past (ctx.Guest run) vid cpu last (GLd rd gpa) runs = own_balances plan past run vid cpu last (GLd rd gpa) runs
+deed_balances plan past (ctx.Guest run) vid cpu last (GSt rs gpa) runs = own_balances plan past run vid cpu last (GSt rs gpa) runs
 
 entry_balances : (plan : Plan) (past : List Event) (e : Event) → IsLegal plan (e ∷ past) →
     Balances (pool_after plan past) e.saw.pool (part_after plan past 1) (part_after plan (e ∷ past) 1)
@@ -197,7 +244,7 @@ entry_balances plan past e legal =
     subst (Balances free e.saw.pool g) (sym (next_by_is plan past e 1))
     (subst (λ (x : Event). Balances free x.saw.pool g (next_by plan x.saw.before x.saw.lpid x.saw.vid x.trace.cpu x.trace.cmd x.trace.answer g 1)) (sym legal.0.is)
     (subst (λ (l : ℕ).
-    let deed : Deed = deed_after plan past (record { before = cpu.ctx; lpid = l; vid = cpu.vid; last = cpu.last }) e.trace.cmd (target_in cpu.ctx l e.trace.cmd) in
+    let deed : Deed = deed_after plan past (record { before = cpu.ctx; lpid = l; vid = cpu.vid; last = cpu.last }) e.trace.cmd (target_in plan cpu.ctx l e.trace.cmd) in
     Balances free deed.pool g (next_by plan cpu.ctx l cpu.vid e.trace.cpu e.trace.cmd deed.answer g 1))
     (sym (selects_first plan past e.trace.cpu))
     (deed_balances plan past cpu.ctx cpu.vid e.trace.cpu cpu.last e.trace.cmd (first_runs plan past e.trace.cpu legal.1))))

@@ -6,6 +6,7 @@ pub mod Stores
 pub mod Loads
 pub mod Assigned
 pub mod Touched
+pub mod Aims
 pub mod Outcomes
 pub mod Steps
 pub mod Moves

@@ -5,27 +5,28 @@ use Rattle.pef_model.specs.declared.state.Regs.{Regs}
 use Rattle.pef_model.specs.declared.state.Ctx.{Ctx}
 use Rattle.pef_model.specs.declared.state.Ctx.TheVariants as ctx
 use Rattle.pef_model.specs.declared.command.Cmd.{Cmd}
-use Rattle.pef_model.specs.declared.command.Cmd.TheVariants.{UReturn, GLi, GLd, GSt}
+use Rattle.pef_model.specs.declared.command.Cmd.TheVariants.{HLd, HSt, UReturn, GLi, GLd, GSt}
 use Rattle.pef_model.specs.declared.entry.Answer.{Answer}
-use Rattle.pef_model.specs.declared.entry.Answer.TheVariants.{Done, Val, Ret, Enter, Gone, Hole}
+use Rattle.pef_model.specs.declared.entry.Answer.TheVariants.{Done, Val, Ret, Enter, Gone, Hole, Context}
 use Rattle.pef_model.specs.Plan.{Plan}
 use Rattle.pef_model.specs.Event.{Event}
-use Rattle.pef_model.specs.Target.{target_in, is_guest, touches_guest}
+use Rattle.pef_model.specs.Target.{target_of_address, target_in, is_guest, touches_guest}
 use Rattle.pef_model.specs.Guest.{Guest, next_guest, registers_after_command, registers_after_in, entered_at}
 use Rattle.pef_model.specs.History.{guest_after}
 use Rattle.pef_model.specs.StepLaw.{Steps, IsInterrupted, IsStepOf, TakesUp, registers_of, EachEntryLeavesRegisters}
 use Rattle.pef_model.proofs.Folds.{same_test, test_same}
 use Rattle.pef_model.proofs.Assigned.{gpr_in_hypervisor}
+use Rattle.pef_model.proofs.Aims.{own_guest}
 use Rattle.pef_model.proofs.Outcomes.{Outcome, outcome}
 
 -- a vCPU's registers after an entry, by the fields of the entry
-abbrev registers_by : Ctx → ℕ → ℕ → Cmd → Answer → (ℕ → Regs) → ℕ → ℕ → Regs
-registers_by c l v cmd a registers lpid vid = if is_guest lpid (target_in c l cmd) then registers_after_in c registers v cmd a vid else registers vid
+abbrev registers_by : Plan → Ctx → ℕ → ℕ → Cmd → Answer → (ℕ → Regs) → ℕ → ℕ → Regs
+registers_by plan c l v cmd a registers lpid vid = if is_guest lpid (target_in plan c l cmd) then registers_after_in c registers v cmd a vid else registers vid
 
 registers_by_is : (plan : Plan) (past : List Event) (e : Event) (lpid vid : ℕ) →
     registers_of plan (e ∷ past) lpid vid
-    ≡ registers_by e.saw.before e.saw.lpid e.saw.vid e.trace.cmd e.trace.answer (guest_after plan lpid past).registers lpid vid
-registers_by_is plan past e lpid vid = by_test (touches_guest lpid e) where
+    ≡ registers_by plan e.saw.before e.saw.lpid e.saw.vid e.trace.cmd e.trace.answer (guest_after plan lpid past).registers lpid vid
+registers_by_is plan past e lpid vid = by_test (touches_guest plan lpid e) where
   g : Guest
   g = guest_after plan lpid past
 
@@ -35,6 +36,8 @@ registers_by_is plan past e lpid vid = by_test (touches_guest lpid e) where
 
 steps : (regs : Regs) (run : Run) (cmd : Cmd) (a : Answer) (after : Ctx) (shown : List ℕ) → Outcome (ctx.Guest run) cmd a after shown →
     Steps a regs (registers_after_command regs cmd a)
+steps regs run (HLd ra) Context after shown h = record { nip = refl; srr0 = refl }
+steps regs run (HSt ra value) Context after shown h = record { nip = refl; srr0 = refl }
 steps regs run (UReturn r0 r2 outs) Gone after shown h = record { nip = refl; srr0 = refl }
 steps regs run (UReturn r0 r2 outs) (Ret code) after shown h = record { nip = refl; srr0 = refl }
 steps regs run (GLi rd value) Gone after shown h = record { nip = refl; srr0 = refl }
@@ -47,16 +50,27 @@ steps regs run (GSt rs gpa) Done after shown h = record { nip = refl; srr0 = ref
 steps regs run (GSt rs gpa) Hole after shown h = record { nip = refl; srr0 = refl }
 steps regs run cmd a after shown h = absurd h
 
-own_registers : (run : Run) (l v : ℕ) (cmd : Cmd) (a : Answer) (registers : ℕ → Regs) (lpid vid : ℕ) → run.lpid ≡ lpid → run.vid ≡ vid →
-    registers_by (ctx.Guest run) l v cmd a registers lpid vid ≡ registers_after_command (registers vid) cmd a
-own_registers run l v cmd a registers lpid vid here this =
-    subst (λ (x : ℕ). registers_by (ctx.Guest run) l v cmd a registers x vid ≡ registers_after_command (registers vid) cmd a) here
-    (subst (λ (x : ℕ). registers_by (ctx.Guest run) l v cmd a registers run.lpid x ≡ registers_after_command (registers x) cmd a) this
+-- a step that aims at its own guest leaves its vCPU these registers
+aimed_registers : (run : Run) (v : ℕ) (cmd : Cmd) (a : Answer) (registers : ℕ → Regs) (lpid vid : ℕ) → run.lpid ≡ lpid → run.vid ≡ vid →
+    (if run.lpid == lpid then registers_after_in (ctx.Guest run) registers v cmd a vid else registers vid) ≡ registers_after_command (registers vid) cmd a
+aimed_registers run v cmd a registers lpid vid here this =
+    subst (λ (x : ℕ). (if run.lpid == x then registers_after_in (ctx.Guest run) registers v cmd a vid else registers vid) ≡ registers_after_command (registers vid) cmd a) here
+    (subst (λ (x : ℕ). (if run.lpid == run.lpid then registers_after_in (ctx.Guest run) registers v cmd a x else registers x) ≡ registers_after_command (registers x) cmd a) this
     (rw (same_test run.lpid, same_test run.vid) refl))
 
-taken_registers : (r0 r2 : ℕ) (outs : List ℕ) (registers : ℕ → Regs) (lpid vid : ℕ) →
-    registers_by ctx.Hv lpid vid (UReturn r0 r2 outs) Enter registers lpid vid ≡ entered_at (registers vid) r2
-taken_registers r0 r2 outs registers lpid vid = rw (same_test lpid, same_test vid) refl
+-- so does one that aims at nothing
+own_registers : (plan : Plan) (run : Run) (l v : ℕ) (cmd : Cmd) (a : Answer) (registers : ℕ → Regs) (lpid vid : ℕ) → run.lpid ≡ lpid → run.vid ≡ vid →
+    registers_by plan (ctx.Guest run) l v cmd a registers lpid vid ≡ registers_after_command (registers vid) cmd a
+own_registers plan run l v (HLd ra) a registers lpid vid here this = refl
+own_registers plan run l v (HSt ra value) a registers lpid vid here this = refl
+own_registers plan run l v (UReturn r0 r2 outs) a registers lpid vid here this = aimed_registers run v (UReturn r0 r2 outs) a registers lpid vid here this
+own_registers plan run l v (GLi rd value) a registers lpid vid here this = aimed_registers run v (GLi rd value) a registers lpid vid here this
+own_registers plan run l v (GLd rd gpa) a registers lpid vid here this = aimed_registers run v (GLd rd gpa) a registers lpid vid here this
+own_registers plan run l v (GSt rs gpa) a registers lpid vid here this = aimed_registers run v (GSt rs gpa) a registers lpid vid here this
+
+taken_registers : (plan : Plan) (r0 r2 : ℕ) (outs : List ℕ) (registers : ℕ → Regs) (lpid vid : ℕ) →
+    registers_by plan ctx.Hv lpid vid (UReturn r0 r2 outs) Enter registers lpid vid ≡ entered_at (registers vid) r2
+taken_registers plan r0 r2 outs registers lpid vid = rw (same_test lpid, same_test vid) refl
 
 is_interrupted : (regs : Regs) (r2 : ℕ) → IsInterrupted r2 regs (entered_at regs r2)
 is_interrupted regs r2 = record { nip = nip (r2 == 0); srr0 = srr0 (r2 == 0) } where
@@ -77,30 +91,34 @@ put_elsewhere true registers regs lpid vid v h = by_test (vid == v) refl where
   by_test true t = h t refl
   by_test false t = refl
 
-others_stay : (c : Ctx) (l v : ℕ) (cmd : Cmd) (a : Answer) (registers : ℕ → Regs) (lpid vid : ℕ) →
+others_stay : (plan : Plan) (c : Ctx) (l v : ℕ) (cmd : Cmd) (a : Answer) (registers : ℕ → Regs) (lpid vid : ℕ) →
     ((run : Run) → c ≡ ctx.Guest run → run.lpid ≡ lpid → run.vid ≡ vid → ⊥) →
     ((r0 r2 : ℕ) (outs : List ℕ) → c ≡ ctx.Hv → cmd ≡ UReturn r0 r2 outs → a ≡ Enter → l ≡ lpid → v ≡ vid → ⊥) →
-    registers_by c l v cmd a registers lpid vid ≡ registers vid
-others_stay ctx.Hv l v (UReturn r0 r2 outs) Enter registers lpid vid own taken =
+    registers_by plan c l v cmd a registers lpid vid ≡ registers vid
+others_stay plan ctx.Hv l v (HLd ra) a registers lpid vid own taken =
+    put_elsewhere (is_guest lpid (target_of_address plan ra)) registers (registers v) lpid vid v (λ t u. ap registers (sym (test_same vid v t)))
+others_stay plan ctx.Hv l v (HSt ra value) a registers lpid vid own taken =
+    put_elsewhere (is_guest lpid (target_of_address plan ra)) registers (registers v) lpid vid v (λ t u. ap registers (sym (test_same vid v t)))
+others_stay plan ctx.Hv l v (UReturn r0 r2 outs) Enter registers lpid vid own taken =
     put_elsewhere (l == lpid) registers (entered_at (registers v) r2) lpid vid v
     (λ t u. absurd (taken r0 r2 outs refl refl refl (test_same l lpid u) (sym (test_same vid v t))))
-others_stay ctx.Hv l v (UReturn r0 r2 outs) a registers lpid vid own taken =
+others_stay plan ctx.Hv l v (UReturn r0 r2 outs) a registers lpid vid own taken =
     put_elsewhere (l == lpid) registers (registers v) lpid vid v (λ t u. ap registers (sym (test_same vid v t)))
-others_stay ctx.Hv l v (GLi rd value) a registers lpid vid own taken = refl
-others_stay ctx.Hv l v (GLd rd gpa) a registers lpid vid own taken = refl
-others_stay ctx.Hv l v (GSt rs gpa) a registers lpid vid own taken = refl
-others_stay (ctx.Guest run) l v cmd a registers lpid vid own taken =
-    put_elsewhere (run.lpid == lpid) registers (registers_after_command (registers run.vid) cmd a) lpid vid run.vid
-    (λ t u. absurd (own run refl (test_same run.lpid lpid u) (sym (test_same vid run.vid t))))
+others_stay plan ctx.Hv l v (GLi rd value) a registers lpid vid own taken = refl
+others_stay plan ctx.Hv l v (GLd rd gpa) a registers lpid vid own taken = refl
+others_stay plan ctx.Hv l v (GSt rs gpa) a registers lpid vid own taken = refl
+others_stay plan (ctx.Guest run) l v cmd a registers lpid vid own taken =
+    put_elsewhere (is_guest lpid (target_in plan (ctx.Guest run) l cmd)) registers (registers_after_command (registers run.vid) cmd a) lpid vid run.vid
+    (λ t u. absurd (own run refl (own_guest plan run l lpid cmd u) (sym (test_same vid run.vid t))))
 
-gpr_stays : (c : Ctx) (l v : ℕ) (cmd : Cmd) (a : Answer) (registers : ℕ → Regs) (lpid vid : ℕ) →
-    ((run : Run) → c ≡ ctx.Guest run → run.lpid ≡ lpid → run.vid ≡ vid → ⊥) → (registers_by c l v cmd a registers lpid vid).gpr ≡ (registers vid).gpr
-gpr_stays ctx.Hv l v cmd a registers lpid vid own = by_test (is_guest lpid (target_in ctx.Hv l cmd)) where
+gpr_stays : (plan : Plan) (c : Ctx) (l v : ℕ) (cmd : Cmd) (a : Answer) (registers : ℕ → Regs) (lpid vid : ℕ) →
+    ((run : Run) → c ≡ ctx.Guest run → run.lpid ≡ lpid → run.vid ≡ vid → ⊥) → (registers_by plan c l v cmd a registers lpid vid).gpr ≡ (registers vid).gpr
+gpr_stays plan ctx.Hv l v cmd a registers lpid vid own = by_test (is_guest lpid (target_in plan ctx.Hv l cmd)) where
   by_test : (b : Bool) → (if b then registers_after_in ctx.Hv registers v cmd a vid else registers vid).gpr ≡ (registers vid).gpr
   by_test true = gpr_in_hypervisor registers v cmd a vid
   by_test false = refl
-gpr_stays (ctx.Guest run) l v cmd a registers lpid vid own =
-    ap (λ (x : Regs). x.gpr) (others_stay (ctx.Guest run) l v cmd a registers lpid vid own (λ r0 r2 outs h cmd_is answer_is here this. let no : ⊥ = cc in no))
+gpr_stays plan (ctx.Guest run) l v cmd a registers lpid vid own =
+    ap (λ (x : Regs). x.gpr) (others_stay plan (ctx.Guest run) l v cmd a registers lpid vid own (λ r0 r2 outs h cmd_is answer_is here this. let no : ⊥ = cc in no))
 
 pub each_entry_leaves_registers : EachEntryLeavesRegisters
 each_entry_leaves_registers plan past e lpid vid extends =
@@ -109,24 +127,24 @@ each_entry_leaves_registers plan past e lpid vid extends =
     record {
       own = λ (run : Run) (step : IsStepOf lpid vid run e).
           subst (λ (x : Regs). Steps e.trace.answer (registers vid) x)
-          (sym (is ∙ ap (λ (c : Ctx). registers_by c e.saw.lpid e.saw.vid e.trace.cmd e.trace.answer registers lpid vid) step.before
-          ∙ own_registers run e.saw.lpid e.saw.vid e.trace.cmd e.trace.answer registers lpid vid step.guest_is step.vcpu_is))
+          (sym (is ∙ ap (λ (c : Ctx). registers_by plan c e.saw.lpid e.saw.vid e.trace.cmd e.trace.answer registers lpid vid) step.before
+          ∙ own_registers plan run e.saw.lpid e.saw.vid e.trace.cmd e.trace.answer registers lpid vid step.guest_is step.vcpu_is))
           (steps (registers vid) run e.trace.cmd e.trace.answer e.saw.after e.saw.shown
           (subst (λ (c : Ctx). Outcome c e.trace.cmd e.trace.answer e.saw.after e.saw.shown) step.before (outcome plan past e extends)));
       taken = λ (r0 r2 : ℕ) (outs : List ℕ) (takes : TakesUp lpid vid r0 r2 outs e).
           subst (λ (x : Regs). IsInterrupted r2 (registers vid) x)
-          (sym (is ∙ ap (λ (c : Ctx). registers_by c e.saw.lpid e.saw.vid e.trace.cmd e.trace.answer registers lpid vid) takes.before
-          ∙ ap (λ (cmd : Cmd). registers_by ctx.Hv e.saw.lpid e.saw.vid cmd e.trace.answer registers lpid vid) takes.cmd_is
-          ∙ ap (λ (a : Answer). registers_by ctx.Hv e.saw.lpid e.saw.vid (UReturn r0 r2 outs) a registers lpid vid) takes.answer_is
-          ∙ ap (λ (l : ℕ). registers_by ctx.Hv l e.saw.vid (UReturn r0 r2 outs) Enter registers lpid vid) takes.guest_is
-          ∙ ap (λ (v : ℕ). registers_by ctx.Hv lpid v (UReturn r0 r2 outs) Enter registers lpid vid) takes.vcpu_is
-          ∙ taken_registers r0 r2 outs registers lpid vid))
+          (sym (is ∙ ap (λ (c : Ctx). registers_by plan c e.saw.lpid e.saw.vid e.trace.cmd e.trace.answer registers lpid vid) takes.before
+          ∙ ap (λ (cmd : Cmd). registers_by plan ctx.Hv e.saw.lpid e.saw.vid cmd e.trace.answer registers lpid vid) takes.cmd_is
+          ∙ ap (λ (a : Answer). registers_by plan ctx.Hv e.saw.lpid e.saw.vid (UReturn r0 r2 outs) a registers lpid vid) takes.answer_is
+          ∙ ap (λ (l : ℕ). registers_by plan ctx.Hv l e.saw.vid (UReturn r0 r2 outs) Enter registers lpid vid) takes.guest_is
+          ∙ ap (λ (v : ℕ). registers_by plan ctx.Hv lpid v (UReturn r0 r2 outs) Enter registers lpid vid) takes.vcpu_is
+          ∙ taken_registers plan r0 r2 outs registers lpid vid))
           (is_interrupted (registers vid) r2);
       others = λ own taken.
-          is ∙ others_stay e.saw.before e.saw.lpid e.saw.vid e.trace.cmd e.trace.answer registers lpid vid
+          is ∙ others_stay plan e.saw.before e.saw.lpid e.saw.vid e.trace.cmd e.trace.answer registers lpid vid
           (λ run before here this. own run (record { before = before; guest_is = here; vcpu_is = this }))
           (λ r0 r2 outs before cmd_is answer_is here this. taken r0 r2 outs (record { before = before; cmd_is = cmd_is; answer_is = answer_is; guest_is = here; vcpu_is = this }));
       gpr = λ own.
-          ap (λ (x : Regs). x.gpr) is ∙ gpr_stays e.saw.before e.saw.lpid e.saw.vid e.trace.cmd e.trace.answer registers lpid vid
+          ap (λ (x : Regs). x.gpr) is ∙ gpr_stays plan e.saw.before e.saw.lpid e.saw.vid e.trace.cmd e.trace.answer registers lpid vid
           (λ run before here this. own run (record { before = before; guest_is = here; vcpu_is = this }));
     }

@@ -7,7 +7,7 @@ use Rattle.pef_model.specs.declared.state.Kind.TheVariants as kind
 use Rattle.pef_model.specs.declared.state.Ctx.{Ctx}
 use Rattle.pef_model.specs.declared.state.Ctx.TheVariants as ctx
 use Rattle.pef_model.specs.declared.command.Cmd.{Cmd}
-use Rattle.pef_model.specs.declared.command.Cmd.TheVariants.{UReturn, GLi, GLd, GSt}
+use Rattle.pef_model.specs.declared.command.Cmd.TheVariants.{HLd, HSt, UReturn, GLi, GLd, GSt}
 use Rattle.pef_model.specs.declared.entry.Answer.{Answer}
 use Rattle.pef_model.specs.declared.entry.Answer.TheVariants.{Done, Val, Enter}
 use Rattle.pef_model.specs.Plan.{Plan}
@@ -27,11 +27,15 @@ after_access P g gfn a h k = h
 
 after_entry : (P : GuestPart → Type 0) (plan : Plan) (g : GuestPart) (c : Ctx) (cmd : Cmd) (a : Answer) (v cpu : ℕ) → P g →
     ((new : GuestPart) → new.pages ≡ g.pages → new.order ≡ g.order → P new) → ((gfn : ℕ) → P (with_page_backed g gfn)) → P (part_by plan g c cmd a v cpu)
+after_entry P plan g ctx.Hv (HLd ra) a v cpu h taken access = h
+after_entry P plan g ctx.Hv (HSt ra value) a v cpu h taken access = h
 after_entry P plan g ctx.Hv (UReturn r0 r2 outs) Enter v cpu h taken access = taken (part_by plan g ctx.Hv (UReturn r0 r2 outs) Enter v cpu) refl refl
 after_entry P plan g ctx.Hv (UReturn r0 r2 outs) a v cpu h taken access = h
 after_entry P plan g ctx.Hv (GLi rd value) a v cpu h taken access = h
 after_entry P plan g ctx.Hv (GLd rd gpa) a v cpu h taken access = h
 after_entry P plan g ctx.Hv (GSt rs gpa) a v cpu h taken access = h
+after_entry P plan g (ctx.Guest run) (HLd ra) a v cpu h taken access = h
+after_entry P plan g (ctx.Guest run) (HSt ra value) a v cpu h taken access = h
 after_entry P plan g (ctx.Guest run) (UReturn r0 r2 outs) a v cpu h taken access = h
 after_entry P plan g (ctx.Guest run) (GLi rd value) a v cpu h taken access = h
 after_entry P plan g (ctx.Guest run) (GLd rd gpa) a v cpu h taken access = after_access P g (page_of plan gpa) a h (access (page_of plan gpa))
@@ -40,7 +44,7 @@ after_entry P plan g (ctx.Guest run) (GSt rs gpa) a v cpu h taken access = after
 holds_after : (P : GuestPart → Type 0) (plan : Plan) (past : List Event) (e : Event) (lpid : ℕ) → P (part_after plan past lpid) →
     ((new : GuestPart) → new.pages ≡ (part_after plan past lpid).pages → new.order ≡ (part_after plan past lpid).order → P new) →
     ((gfn : ℕ) → P (with_page_backed (part_after plan past lpid) gfn)) → P (part_after plan (e ∷ past) lpid)
-holds_after P plan past e lpid h taken access = subst P (sym (next_by_is plan past e lpid)) (by_test (touches_guest lpid e)) where
+holds_after P plan past e lpid h taken access = subst P (sym (next_by_is plan past e lpid)) (by_test (touches_guest plan lpid e)) where
   g : GuestPart
   g = part_after plan past lpid
 

@@ -8,8 +8,8 @@ use Rattle.std.specs.Str.Parse.{digits_value}
 use Rattle.std.proofs.lemmas.Bool.{ltb-true}
 use Rattle.std.proofs.lemmas.Option.{cond_some}
 use Rattle.pef_model.specs.declared.command.Cmd.{Cmd}
-use Rattle.pef_model.specs.declared.command.Cmd.TheVariants.{UReturn, GLi, GLd, GSt}
-use Rattle.pef_model.specs.Script.{Script, Reads, numeral_in, number_in, register_at, register_in, return_of, guest_command_of, command_of, command_in, words_of}
+use Rattle.pef_model.specs.declared.command.Cmd.TheVariants.{HLd, HSt, UReturn, GLi, GLd, GSt}
+use Rattle.pef_model.specs.Script.{Script, Reads, numeral_in, number_in, register_at, register_in, load_of, store_of, return_of, guest_command_of, short_command_of, command_of, command_in, words_of}
 use Rattle.pef_model.specs.Commands.{before_commands, commands_of, first_script}
 use Rattle.pef_model.specs.ScriptText.{CanBeWritten}
 use Rattle.pef_model.proofs.Grammar.{lines_of_read}
@@ -64,6 +64,20 @@ either_written : (test : Bool) (a b : Option Cmd) → AllWritten a → AllWritte
 either_written true a b written other = written
 either_written false a b written other = other
 
+load_written : (ra : Option ℕ) → AllBelow (2 ^ 64) ra → AllWritten (load_of ra)
+load_written None first cmd e = absurd (cc)
+load_written (Some n) first cmd e =
+    let same : HLd n ≡ cmd = cc in
+    subst CanBeWritten same (first n refl)
+
+store_written : (ra value : Option ℕ) → AllBelow (2 ^ 64) ra → AllBelow (2 ^ 64) value → AllWritten (store_of ra value)
+store_written None None first second cmd e = absurd (cc)
+store_written None (Some n) first second cmd e = absurd (cc)
+store_written (Some m) None first second cmd e = absurd (cc)
+store_written (Some m) (Some n) first second cmd e =
+    let same : HSt m n ≡ cmd = cc in
+    subst CanBeWritten same (first m refl, second n refl)
+
 return_written : (r0 r2 : Option ℕ) → AllBelow (2 ^ 64) r0 → AllBelow (2 ^ 64) r2 → AllWritten (return_of r0 r2)
 return_written None None first second cmd e = absurd (cc)
 return_written None (Some n) first second cmd e = absurd (cc)
@@ -81,18 +95,23 @@ guest_written make (Some i) (Some m) written first second cmd e =
     let same : make i m ≡ cmd = cc in
     subst CanBeWritten same (written i m (first i refl) (second m refl))
 
+short_command_of_written : (name operand : List ℕ) → AllWritten (short_command_of name operand)
+short_command_of_written name operand = either_written (bytes_eq name (codes "h.ld")) _ None (load_written (number_in operand) (number_below operand)) none_written
+
 command_of_written : (name first second : List ℕ) → AllWritten (command_of name first second)
 command_of_written name first second =
-    either_written (bytes_eq name (codes "u.return")) _ _ (return_written (number_in first) (number_in second) (number_below first) (number_below second))
+    either_written (bytes_eq name (codes "h.st")) _ _ (store_written (number_in first) (number_in second) (number_below first) (number_below second))
+    (either_written (bytes_eq name (codes "u.return")) _ _ (return_written (number_in first) (number_in second) (number_below first) (number_below second))
     (either_written (bytes_eq name (codes "g.li")) _ _ (guest_written GLi (register_in first) (number_in second) (λ i m r n. (r, n)) (register_below first) (number_below second))
     (either_written (bytes_eq name (codes "g.ld")) _ _ (guest_written GLd (register_in first) (number_in second) (λ i m r n. (r, n)) (register_below first) (number_below second))
-    (either_written (bytes_eq name (codes "g.st")) _ None (guest_written GSt (register_in first) (number_in second) (λ i m r n. (r, n)) (register_below first) (number_below second)) none_written)))
+    (either_written (bytes_eq name (codes "g.st")) _ None (guest_written GSt (register_in first) (number_in second) (λ i m r n. (r, n)) (register_below first) (number_below second)) none_written))))
 
 command_in_written : (words : List (List ℕ)) → AllWritten (command_in words)
 command_in_written [] = none_written
 command_in_written (a ∷ []) = none_written
 command_in_written (a ∷ b ∷ []) = none_written
-command_in_written (a ∷ b ∷ c ∷ []) = none_written
+command_in_written (cpu ∷ name ∷ operand ∷ []) =
+    either_written (bytes_eq cpu (codes "0")) _ None (short_command_of_written name operand) none_written
 command_in_written (cpu ∷ name ∷ first ∷ second ∷ []) =
     either_written (bytes_eq cpu (codes "0")) _ None (command_of_written name first second) none_written
 command_in_written (a ∷ b ∷ c ∷ d ∷ e ∷ more) = none_written

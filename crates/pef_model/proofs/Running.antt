@@ -7,12 +7,12 @@ use Rattle.pef_model.specs.declared.state.Ctx.{Ctx}
 use Rattle.pef_model.specs.declared.state.Ctx.TheVariants as ctx
 use Rattle.pef_model.specs.declared.command.Code.TheVariants.{UInvalid}
 use Rattle.pef_model.specs.declared.command.Cmd.{Cmd}
-use Rattle.pef_model.specs.declared.command.Cmd.TheVariants.{UReturn, GLi, GLd, GSt}
+use Rattle.pef_model.specs.declared.command.Cmd.TheVariants.{HLd, HSt, UReturn, GLi, GLd, GSt}
 use Rattle.pef_model.specs.declared.entry.Answer.{Answer}
-use Rattle.pef_model.specs.declared.entry.Answer.TheVariants.{Done, Val, Ret, Enter, Gone, Context}
+use Rattle.pef_model.specs.declared.entry.Answer.TheVariants.{Done, Val, Ret, Enter, Gone, Hole, Context}
 use Rattle.pef_model.specs.Plan.{Plan}
 use Rattle.pef_model.specs.Event.{Event}
-use Rattle.pef_model.specs.Target.{Ask, target_in, is_guest, touches_cpu, touches_guest}
+use Rattle.pef_model.specs.Target.{Ask, Alone, AtFrame, frame_of, has_real_place, target_of_address, target_in, is_guest, touches_cpu, touches_guest}
 use Rattle.pef_model.specs.Cpu.{start_cpu, next_cpu}
 use Rattle.pef_model.specs.GuestPart.{GuestPart, VcpuPart, start_part, start_part_of, page_of, is_invalid, with_secure_page, with_page_backed, with_running_vcpu, part_after_access, part_after_guest}
 use Rattle.pef_model.specs.Guest.{Guest, next_guest}
@@ -55,9 +55,24 @@ return_takes g lpid vid last = by_test (may_return_in g.phase && is_waiting (g.v
       record { allowed = parts.0; waits = parts.1; after_is = refl }
   by_test false h = tt
 
+-- a load or store of the hypervisor takes up no vCPU, whether its address has a place in a normal frame or not
+normal_load_takes : (plan : Plan) (past : List Event) (g : GuestPart) (lpid vid : ℕ) (last : Answer) (ra : ℕ) (b : Bool) →
+    let deed : Deed = deed_after plan past (record { before = ctx.Hv; lpid = lpid; vid = vid; last = last }) (HLd ra) (if b then AtFrame (frame_of plan ra) else Alone) in
+    Taking g ctx.Hv lpid vid deed.answer deed.after
+normal_load_takes plan past g lpid vid last ra true = tt
+normal_load_takes plan past g lpid vid last ra false = tt
+
+normal_store_takes : (plan : Plan) (past : List Event) (g : GuestPart) (lpid vid : ℕ) (last : Answer) (ra value : ℕ) (b : Bool) →
+    let deed : Deed = deed_after plan past (record { before = ctx.Hv; lpid = lpid; vid = vid; last = last }) (HSt ra value) (if b then AtFrame (frame_of plan ra) else Alone) in
+    Taking g ctx.Hv lpid vid deed.answer deed.after
+normal_store_takes plan past g lpid vid last ra value true = tt
+normal_store_takes plan past g lpid vid last ra value false = tt
+
 deed_takes : (plan : Plan) (past : List Event) (c : Ctx) (lpid vid : ℕ) (last : Answer) (cmd : Cmd) →
-    let deed : Deed = deed_after plan past (record { before = c; lpid = lpid; vid = vid; last = last }) cmd (target_in c lpid cmd) in
+    let deed : Deed = deed_after plan past (record { before = c; lpid = lpid; vid = vid; last = last }) cmd (target_in plan c lpid cmd) in
     Taking (part_after plan past lpid) c lpid vid deed.answer deed.after
+deed_takes plan past ctx.Hv lpid vid last (HLd ra) = normal_load_takes plan past (part_after plan past lpid) lpid vid last ra (has_real_place plan ra)
+deed_takes plan past ctx.Hv lpid vid last (HSt ra value) = normal_store_takes plan past (part_after plan past lpid) lpid vid last ra value (has_real_place plan ra)
 deed_takes plan past ctx.Hv lpid vid last (UReturn r0 r2 outs) = return_takes (part_after plan past lpid) lpid vid last
 deed_takes plan past ctx.Hv lpid vid last (GLi rd value) = tt
 deed_takes plan past ctx.Hv lpid vid last (GLd rd gpa) = tt
@@ -73,11 +88,11 @@ takes plan past e extends =
 
 -- a guest's public part after an entry, by the fields of the entry
 abbrev pub next_by : Plan → Ctx → ℕ → ℕ → ℕ → Cmd → Answer → GuestPart → ℕ → GuestPart
-next_by plan c l v cpu cmd a g lpid = if is_guest lpid (target_in c l cmd) then part_by plan g c cmd a v cpu else g
+next_by plan c l v cpu cmd a g lpid = if is_guest lpid (target_in plan c l cmd) then part_by plan g c cmd a v cpu else g
 
 pub next_by_is : (plan : Plan) (past : List Event) (e : Event) (lpid : ℕ) →
     part_after plan (e ∷ past) lpid ≡ next_by plan e.saw.before e.saw.lpid e.saw.vid e.trace.cpu e.trace.cmd e.trace.answer (part_after plan past lpid) lpid
-next_by_is plan past e lpid = by_test (touches_guest lpid e) where
+next_by_is plan past e lpid = by_test (touches_guest plan lpid e) where
   g : Guest
   g = guest_after plan lpid past
 
@@ -103,6 +118,8 @@ keeps_access g gfn (Val value) = keeps_accessed g gfn
 keeps_access g gfn a = record { phase = refl; generation = refl; vcpus = refl }
 
 keeps_guest : (plan : Plan) (g : GuestPart) (cmd : Cmd) (a : Answer) → KeepsRest g (part_after_guest plan g cmd a)
+keeps_guest plan g (HLd ra) a = record { phase = refl; generation = refl; vcpus = refl }
+keeps_guest plan g (HSt ra value) a = record { phase = refl; generation = refl; vcpus = refl }
 keeps_guest plan g (UReturn r0 r2 outs) a = record { phase = refl; generation = refl; vcpus = refl }
 keeps_guest plan g (GLi rd value) a = record { phase = refl; generation = refl; vcpus = refl }
 keeps_guest plan g (GLd rd gpa) a = keeps_access g (page_of plan gpa) a
@@ -114,6 +131,8 @@ record KeepsLife (old new : GuestPart) : Type 0 where
   generation : new.generation ≡ old.generation
 
 keeps_life : (plan : Plan) (g : GuestPart) (c : Ctx) (cmd : Cmd) (a : Answer) (v cpu : ℕ) → KeepsLife g (part_by plan g c cmd a v cpu)
+keeps_life plan g ctx.Hv (HLd ra) a v cpu = record { phase = refl; generation = refl }
+keeps_life plan g ctx.Hv (HSt ra value) a v cpu = record { phase = refl; generation = refl }
 keeps_life plan g ctx.Hv (UReturn r0 r2 outs) Enter v cpu = record { phase = refl; generation = refl }
 keeps_life plan g ctx.Hv (UReturn r0 r2 outs) a v cpu = record { phase = refl; generation = refl }
 keeps_life plan g ctx.Hv (GLi rd value) a v cpu = record { phase = refl; generation = refl }
@@ -123,7 +142,7 @@ keeps_life plan g (ctx.Guest run) cmd a v cpu = let kept = keeps_guest plan g cm
 
 life_stays : (plan : Plan) (past : List Event) (e : Event) (lpid : ℕ) → KeepsLife (part_after plan past lpid) (part_after plan (e ∷ past) lpid)
 life_stays plan past e lpid =
-    subst (λ (g : GuestPart). KeepsLife (part_after plan past lpid) g) (sym (next_by_is plan past e lpid)) (by_test (touches_guest lpid e)) where
+    subst (λ (g : GuestPart). KeepsLife (part_after plan past lpid) g) (sym (next_by_is plan past e lpid)) (by_test (touches_guest plan lpid e)) where
       g : GuestPart
       g = part_after plan past lpid
 
@@ -148,6 +167,8 @@ if_same false g vid = refl
 -- a vCPU that runs is left as it is
 vcpu_stays_by : (plan : Plan) (guests : ℕ → GuestPart) (c : Ctx) (l v cpu : ℕ) (cmd : Cmd) (a : Answer) (after : Ctx) (lpid vid m : ℕ) →
     Taking (guests l) c l v a after → ((guests lpid).vcpus vid).state ≡ Running m → (next_by plan c l v cpu cmd a (guests lpid) lpid).vcpus vid ≡ (guests lpid).vcpus vid
+vcpu_stays_by plan guests ctx.Hv l v cpu (HLd ra) a after lpid vid m taking runs = if_same (is_guest lpid (target_of_address plan ra)) (guests lpid) vid
+vcpu_stays_by plan guests ctx.Hv l v cpu (HSt ra value) a after lpid vid m taking runs = if_same (is_guest lpid (target_of_address plan ra)) (guests lpid) vid
 vcpu_stays_by plan guests ctx.Hv l v cpu (UReturn r0 r2 outs) Enter after lpid vid m taking runs = by_guest (l == lpid) refl where
   g : GuestPart
   g = guests lpid
@@ -166,7 +187,7 @@ vcpu_stays_by plan guests ctx.Hv l v cpu (UReturn r0 r2 outs) a after lpid vid m
 vcpu_stays_by plan guests ctx.Hv l v cpu (GLi rd value) a after lpid vid m taking runs = refl
 vcpu_stays_by plan guests ctx.Hv l v cpu (GLd rd gpa) a after lpid vid m taking runs = refl
 vcpu_stays_by plan guests ctx.Hv l v cpu (GSt rs gpa) a after lpid vid m taking runs = refl
-vcpu_stays_by plan guests (ctx.Guest run) l v cpu cmd a after lpid vid m taking runs = by_guest (run.lpid == lpid) where
+vcpu_stays_by plan guests (ctx.Guest run) l v cpu cmd a after lpid vid m taking runs = by_guest (is_guest lpid (target_in plan (ctx.Guest run) l cmd)) where
   g : GuestPart
   g = guests lpid
 
@@ -236,6 +257,10 @@ runs_after_own plan past e run extends ih after =
 
       by_ctx : (c : Ctx) (cmd : Cmd) (a : Answer) → e.saw.before ≡ c → e.trace.cmd ≡ cmd → e.trace.answer ≡ a → Outcome c cmd a e.saw.after e.saw.shown →
           Taking (part_after plan past e.saw.lpid) c e.saw.lpid e.saw.vid a e.saw.after → RunsItsVcpu plan (e ∷ past) e.trace.cpu run
+      by_ctx ctx.Hv (HLd ra) (Val value) before cmd_is answer_is o taking = stuck o.0
+      by_ctx ctx.Hv (HLd ra) Hole before cmd_is answer_is o taking = stuck o.0
+      by_ctx ctx.Hv (HSt ra value) Done before cmd_is answer_is o taking = stuck o.0
+      by_ctx ctx.Hv (HSt ra value) Hole before cmd_is answer_is o taking = stuck o.0
       by_ctx ctx.Hv (UReturn r0 r2 outs) Enter before cmd_is answer_is o taking =
           let same : record { lpid = e.saw.lpid; vid = e.saw.vid; generation = (part_after plan past e.saw.lpid).generation } ≡ run =
           let k = taking.after_is in cc in

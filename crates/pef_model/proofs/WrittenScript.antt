@@ -10,8 +10,8 @@ use Rattle.std.proofs.lemmas.Bool.Decides.{nat_tests}
 use Rattle.std.proofs.lemmas.Fmt.{digits_is_IsNumeral, decimal_is_IsNumeral}
 use Rattle.std.proofs.lemmas.List.Splits.{slice_split-cons_yes, slice_split-cons_no}
 use Rattle.pef_model.specs.declared.command.Cmd.{Cmd}
-use Rattle.pef_model.specs.declared.command.Cmd.TheVariants.{UReturn, GLi, GLd, GSt}
-use Rattle.pef_model.specs.Script.{words_of, command_in, return_of, guest_command_of, number_in, register_in, lines_of, Reads}
+use Rattle.pef_model.specs.declared.command.Cmd.TheVariants.{HLd, HSt, UReturn, GLi, GLd, GSt}
+use Rattle.pef_model.specs.Script.{words_of, command_in, load_of, store_of, return_of, guest_command_of, number_in, register_in, lines_of, Reads}
 use Rattle.pef_model.specs.Commands.{before_commands, commands_in, first_script}
 use Rattle.pef_model.specs.ScriptText.{number_text, register_text, command_text, line_text, script_text, CanBeWritten}
 use Rattle.pef_model.proofs.ScriptLines.{commands_first, script_of-header}
@@ -82,6 +82,11 @@ words_again name first second n f s =
     ap (λ words. codes "0" ∷ words) (split_above 32 name (first ++ 32 ∷ second) n
     ∙ ap (λ words. name ∷ words) (split_above 32 first second f ∙ ap (λ words. first ∷ words) (whole_above 32 second s)))
 
+-- the words of a line with one operand
+short_words_again : (name operand : List ℕ) → AllAbove 32 name → AllAbove 32 operand →
+    words_of (join_with_byte 32 (codes "0" ∷ name ∷ operand ∷ [])) ≡ codes "0" ∷ name ∷ operand ∷ []
+short_words_again name operand n o = ap (λ words. codes "0" ∷ words) (split_above 32 name operand n ∙ ap (λ words. name ∷ words) (whole_above 32 operand o))
+
 line_above : (name first second : List ℕ) → AllAbove 32 name → AllAbove 32 first → AllAbove 32 second →
     AllAbove 10 (join_with_byte 32 (codes "0" ∷ name ∷ first ∷ second ∷ []))
 line_above name first second n f s = (
@@ -92,6 +97,10 @@ line_above name first second n f s = (
         (omega arith, above_append 10 first (32 ∷ second) (above_less 10 first (omega arith) f) (omega arith, above_less 10 second (omega arith) s)),
   ),
 )
+
+short_line_above : (name operand : List ℕ) → AllAbove 32 name → AllAbove 32 operand → AllAbove 10 (join_with_byte 32 (codes "0" ∷ name ∷ operand ∷ []))
+short_line_above name operand n o =
+    (omega arith, (omega arith, above_append 10 name (32 ∷ operand) (above_less 10 name (omega arith) n) (omega arith, above_less 10 operand (omega arith) o)))
 
 -- a line that is written is read as its command, and ends at its end
 record IsReadAgain (line : List ℕ) (cmd : Cmd) : Type 0 where
@@ -110,6 +119,17 @@ guest_line hex name cmd r n above register fits named = record {
 }
 
 line_again : (hex : Bool) (cmd : Cmd) → CanBeWritten cmd → IsReadAgain (join_with_byte 32 (codes "0" ∷ command_text hex cmd)) cmd
+line_again hex (HLd ra) h = record {
+  reads = ap command_in (short_words_again (codes "h.ld") (number_text hex ra) (above_tested 32 (codes "h.ld") refl) (number_above hex ra h))
+      ∙ ap load_of (number_reads hex ra h);
+  above = short_line_above (codes "h.ld") (number_text hex ra) (above_tested 32 (codes "h.ld") refl) (number_above hex ra h);
+}
+line_again hex (HSt ra value) h = record {
+  reads = ap command_in (words_again (codes "h.st") (number_text hex ra) (number_text hex value) (above_tested 32 (codes "h.st") refl) (number_above hex ra h.0) (number_above hex value h.1))
+      ∙ ap (λ first. store_of first (number_in (number_text hex value))) (number_reads hex ra h.0)
+      ∙ ap (store_of (Some ra)) (number_reads hex value h.1);
+  above = line_above (codes "h.st") (number_text hex ra) (number_text hex value) (above_tested 32 (codes "h.st") refl) (number_above hex ra h.0) (number_above hex value h.1);
+}
 line_again hex (UReturn r0 r2 outs) h = record {
   reads = ap command_in (words_again (codes "u.return") (number_text hex r0) (number_text hex r2) (above_tested 32 (codes "u.return") refl) (number_above hex r0 h.0) (number_above hex r2 h.1))
       ∙ ap (λ first. return_of first (number_in (number_text hex r2))) (number_reads hex r0 h.0)
