@@ -1,6 +1,7 @@
 pub mod Folds
 pub mod Runs
 pub mod NextValues
+pub mod Opened
 pub mod Secrets
 pub mod Stores
 pub mod Loads

@@ -21,6 +21,7 @@ use Rattle.pef_model.specs.History.{cpu_after, frame_after, ask_of, deed_after, 
 use Rattle.pef_model.specs.SearchLaw.{IsCommand}
 use Rattle.pef_model.specs.NormalLaw.{FramesHoldLastNorm, GuestLeavesFrames, StoreLeavesGuests}
 use Rattle.pef_model.proofs.Folds.{same_test, test_same, counts, skips}
+use Rattle.pef_model.proofs.Aims.{address_is_no_guest}
 use Rattle.pef_model.proofs.Doublewords.{length-with_doubleword, doubleword-put, doubleword-other, doubleword-zeros}
 use Rattle.pef_model.proofs.Places.{room_at, apart_at}
 
@@ -35,10 +36,7 @@ guest_leaves_frames plan past e run n before = by_test (touches_frame n e) refl 
 
 -- the hypervisor's store aims at no guest, in whatever context
 store_aims_at_none : (plan : Plan) (c : Ctx) (l ra value lpid : ℕ) → is_guest lpid (target_in plan c l (HSt ra value)) ≡ false
-store_aims_at_none plan ctx.Hv l ra value lpid = by_place (has_real_place plan ra) where
-  by_place : (b : Bool) → is_guest lpid (if b then AtFrame (frame_of plan ra) else Alone) ≡ false
-  by_place true = refl
-  by_place false = refl
+store_aims_at_none plan ctx.Hv l ra value lpid = address_is_no_guest plan ra lpid
 store_aims_at_none plan (ctx.Guest run) l ra value lpid = refl
 
 pub store_leaves_guests : StoreLeavesGuests

@@ -99,14 +99,14 @@ guest_comes plan past run lpid vid last cmd gone = by_test (run.generation == (g
 -- a load of the hypervisor, whether its address has a place in a normal frame or not
 normal_load_comes : (plan : Plan) (past : List Event) (lpid vid : ℕ) (last : Answer) (ra : ℕ) (b : Bool) →
     Comes ctx.Hv (HLd ra)
-        (deed_after plan past (record { before = ctx.Hv; lpid = lpid; vid = vid; last = last }) (HLd ra) (if b then AtFrame (frame_of plan ra) else Alone))
+    (deed_after plan past (record { before = ctx.Hv; lpid = lpid; vid = vid; last = last }) (HLd ra) (if b then AtFrame (frame_of plan ra) else Alone))
 normal_load_comes plan past lpid vid last ra true = (refl, refl)
 normal_load_comes plan past lpid vid last ra false = (refl, refl)
 
 -- a store of the hypervisor likewise
 normal_store_comes : (plan : Plan) (past : List Event) (lpid vid : ℕ) (last : Answer) (ra value : ℕ) (b : Bool) →
     Comes ctx.Hv (HSt ra value)
-        (deed_after plan past (record { before = ctx.Hv; lpid = lpid; vid = vid; last = last }) (HSt ra value) (if b then AtFrame (frame_of plan ra) else Alone))
+    (deed_after plan past (record { before = ctx.Hv; lpid = lpid; vid = vid; last = last }) (HSt ra value) (if b then AtFrame (frame_of plan ra) else Alone))
 normal_store_comes plan past lpid vid last ra value true = (refl, refl)
 normal_store_comes plan past lpid vid last ra value false = (refl, refl)
 

@@ -15,9 +15,10 @@ use Rattle.pef_model.specs.Memory.{start_pool, next_pool, start_frame, next_fram
 use Rattle.pef_model.specs.Guest.{Guest, start_guest, next_guest, private_doubleword}
 use Rattle.pef_model.specs.Registers.{fresh_registers}
 use Rattle.pef_model.specs.declared.state.Run.{Run}
-use Rattle.pef_model.specs.Deed.{Deed, Reach, NoPage, InFrame, Backs, NoFrame, answer_alone, deed_access, deed_running, deed_gone, deed_hypervisor, deed_guest_in, deed_guest, reach}
+use Rattle.pef_model.specs.Deed.{Deed, Reach, NoPage, InFrame, Backs, NoFrame, deed_access, deed_running, deed_gone, deed_hypervisor, deed_guest_in, deed_guest, reach}
 use Rattle.pef_model.specs.History.{cpu_after, guest_after, pool_after, frame_after}
 use Rattle.pef_model.proofs.Folds.{counts, skips}
+use Rattle.pef_model.proofs.Opened.{alone_open}
 use Rattle.pef_model.specs.SecretLaw.{AgreeButValue, SecretsStayIn, NoSecretInOneEntry, NoSecretInDeeds, open_cmd, open_answer, open_answer_of_guest, open_entry, NoSecretInPublicState}
 
 pub target_open : (plan : Plan) (c : Ctx) (lpid : ℕ) (cmd : Cmd) → target_in plan c lpid cmd ≡ target_in plan c lpid (open_cmd cmd)
@@ -211,17 +212,12 @@ running_agrees plan g any run ask (GLi rd value) = same_deed (ctx.Guest run) (de
 running_agrees plan g any run ask (GLd rd gpa) = access_agrees run ask (private_doubleword plan g gpa) (private_doubleword plan (bare g.part) gpa) (reach plan g.part any gpa)
 running_agrees plan g any run ask (GSt rs gpa) = same_deed (ctx.Guest run) (deed_running plan g any ask (GSt rs gpa))
 
--- the answer of a g.li that aims at nothing doesn't depend on its value
-alone_open : (c : Ctx) (rd value : ℕ) → answer_alone c (GLi rd value) ≡ answer_alone c (open_cmd (GLi rd value))
-alone_open ctx.Hv rd value = refl
-alone_open (ctx.Guest run) rd value = refl
-
 hypervisor_agrees : (g : GuestPart) (ask : Ask) (cmd : Cmd) → AgreeButValue ctx.Hv (deed_hypervisor g ask cmd) (deed_hypervisor g ask (open_cmd cmd))
 hypervisor_agrees g ask (HLd ra) = same_deed ctx.Hv (deed_hypervisor g ask (HLd ra))
 hypervisor_agrees g ask (HSt ra value) = same_deed ctx.Hv (deed_hypervisor g ask (HSt ra value))
 hypervisor_agrees g ask (UReturn r0 r2 outs) = same_deed ctx.Hv (deed_hypervisor g ask (UReturn r0 r2 outs))
 hypervisor_agrees g ask (GLi rd value) = record {
-  answer = alone_open ask.before rd value;
+  answer = alone_open ask.before (GLi rd value);
   after = refl;
   shown = refl;
   pool = refl;

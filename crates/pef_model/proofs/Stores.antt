@@ -212,23 +212,11 @@ decides_nothing plan g lpid gpa l (ctx.Guest run) cmd a h touched other = by_com
   by_command (UReturn r0 r2 outs) a t k = refl
   by_command (GLi rd value) a t k = refl
   by_command (GLd rd at) (Val value) t k = backs_nothing plan g at gpa h
-  by_command (GLd rd at) Done t k = refl
-  by_command (GLd rd at) (Ret code) t k = refl
-  by_command (GLd rd at) Enter t k = refl
-  by_command (GLd rd at) Gone t k = refl
-  by_command (GLd rd at) Hole t k = refl
-  by_command (GLd rd at) Context t k = refl
-  by_command (GLd rd at) Nothing t k = refl
+  by_command (GLd rd at) a t k = refl
   by_command (GSt rs at) Done t k =
       ap (λ (b : Bool). if b then Some (slice_index (g.registers run.vid).gpr rs) else backed_by plan g at gpa) (second_is_false _ _ t k)
       ∙ backs_nothing plan g at gpa h
-  by_command (GSt rs at) (Val value) t k = refl
-  by_command (GSt rs at) (Ret code) t k = refl
-  by_command (GSt rs at) Enter t k = refl
-  by_command (GSt rs at) Gone t k = refl
-  by_command (GSt rs at) Hole t k = refl
-  by_command (GSt rs at) Context t k = refl
-  by_command (GSt rs at) Nothing t k = refl
+  by_command (GSt rs at) a t k = refl
 
 kept_holds : (plan : Plan) (g : Guest) (e : Event) (lpid gpa value : ℕ) → touches_guest plan lpid e ≡ true → is_store lpid gpa e ≡ false →
     Holds plan g gpa value → Holds plan (next_guest plan g e) gpa value
@@ -279,23 +267,11 @@ zero_by_entry plan g lpid gpa l (ctx.Guest run) cmd a touched other = by_command
   by_command (UReturn r0 r2 outs) a t k = refl
   by_command (GLi rd value) a t k = refl
   by_command (GLd rd at) (Val value) t k = zero_by_backing plan g at gpa
-  by_command (GLd rd at) Done t k = refl
-  by_command (GLd rd at) (Ret code) t k = refl
-  by_command (GLd rd at) Enter t k = refl
-  by_command (GLd rd at) Gone t k = refl
-  by_command (GLd rd at) Hole t k = refl
-  by_command (GLd rd at) Context t k = refl
-  by_command (GLd rd at) Nothing t k = refl
+  by_command (GLd rd at) a t k = refl
   by_command (GSt rs at) Done t k =
       ap (λ (b : Bool). unwrap_or (if b then Some (slice_index (g.registers run.vid).gpr rs) else backed_by plan g at gpa) 0) (second_is_false _ _ t k)
       ∙ zero_by_backing plan g at gpa
-  by_command (GSt rs at) (Val value) t k = refl
-  by_command (GSt rs at) (Ret code) t k = refl
-  by_command (GSt rs at) Enter t k = refl
-  by_command (GSt rs at) Gone t k = refl
-  by_command (GSt rs at) Hole t k = refl
-  by_command (GSt rs at) Context t k = refl
-  by_command (GSt rs at) Nothing t k = refl
+  by_command (GSt rs at) a t k = refl
 
 content_zero : (plan : Plan) (past : List Event) (lpid gpa : ℕ) → HasNoStore lpid gpa past → (guest_after plan lpid past).content gpa ≡ 0
 content_zero plan [] lpid gpa none = refl

@@ -1,29 +1,29 @@
 -- Two histories that are alike show the same.
-use Rattle.std.proofs.Common.{◌≡◌, ℕ, zero, suc, ◌+◌, ◌-◌, ◌<◌, ◌≤◌, List, [], ◌∷◌, length, drop, Bool, true, false, refl, ap, sym, subst, ◌∙◌, ◌==◌, nat_lt, if◌then◌else◌, Option, Some, None, arith}
+use Rattle.std.proofs.Common.{◌≡◌, ℕ, zero, suc, ◌-◌, List, [], ◌∷◌, length, drop, Bool, true, false, refl, ap, sym, subst, ◌∙◌, ◌==◌, nat_lt, if◌then◌else◌, Some}
 use Rattle.std.specs.List.{list_any}
 use Rattle.pef_model.specs.declared.config.Config.{Config}
-use Rattle.pef_model.specs.declared.config.EntropyWord.{EntropyWord}
 use Rattle.pef_model.specs.declared.state.Run.{Run}
 use Rattle.pef_model.specs.declared.state.Ctx.{Ctx}
 use Rattle.pef_model.specs.declared.state.Ctx.TheVariants as ctx
 use Rattle.pef_model.specs.declared.command.Cmd.{Cmd}
 use Rattle.pef_model.specs.declared.command.Cmd.TheVariants.{HLd, HSt, UReturn, GLi, GLd, GSt}
 use Rattle.pef_model.specs.declared.entry.Answer.{Answer}
-use Rattle.pef_model.specs.declared.entry.Answer.TheVariants.{Done, Val, Ret, Enter, Gone, Hole, Context, Nothing}
+use Rattle.pef_model.specs.declared.entry.Answer.TheVariants.{Done}
 use Rattle.pef_model.specs.Plan.{Plan, plan_of}
-use Rattle.pef_model.specs.Event.{Event, Mark, mark_of, value_after}
+use Rattle.pef_model.specs.Event.{Event, mark_of}
 use Rattle.pef_model.specs.Target.{Ask, Target, Alone, AtGuest, AtFrame, target_in, target_of_running, touches_cpu, touches_guest, touches_pool, touches_frame}
 use Rattle.pef_model.specs.Cpu.{CpuPart, start_cpu, next_cpu}
 use Rattle.pef_model.specs.GuestPart.{GuestPart, start_part, next_part}
 use Rattle.pef_model.specs.Memory.{start_pool, next_pool, start_frame, next_frame}
 use Rattle.pef_model.specs.Guest.{Guest}
-use Rattle.pef_model.specs.Deed.{Deed, Reach, NoPage, InFrame, Backs, NoFrame, answer_alone, answer_frame, deed_alone, deed_frame, deed_access, deed_running, deed_gone, deed_guest_in, deed_guest, reach}
-use Rattle.pef_model.specs.History.{public_state, cpu_after, guest_after, pool_after, frame_after, ask_of, entry_of, deed_after, next_entry, next_entry_by, Extends, IsLegal}
+use Rattle.pef_model.specs.Deed.{Reach, NoPage, InFrame, Backs, NoFrame, answer_alone, answer_frame, deed_access, deed_running, deed_gone, deed_guest, reach}
+use Rattle.pef_model.specs.History.{public_state, cpu_after, guest_after, pool_after, frame_after, ask_of, entry_of, deed_after, next_entry_by, Extends, IsLegal}
 use Rattle.pef_model.specs.Report.{command_name}
 use Rattle.pef_model.specs.SecretLaw.{open_cmd, open_answer, open_answer_of_guest, open_entry, SecretsStayIn, AgreeButValue}
-use Rattle.pef_model.specs.View.{Step, Write, Sight, if_hypervisor, either_of, writes_of, sight, view}
-use Rattle.pef_model.specs.Alike.{AgreeButWords, AreAlikeOpen, AllAlikeOpen, IsAlikeOpen, SealedBytesAgree, IsAlike, first, ShowTheSame, AlikeShowTheSame, OpenIsAlike}
+use Rattle.pef_model.specs.View.{Step, Sight, if_hypervisor, either_of, writes_of, sight, view}
+use Rattle.pef_model.specs.Alike.{AgreeButWords, AreAlikeOpen, AllAlikeOpen, SealedBytesAgree, first, AlikeShowTheSame, OpenIsAlike}
 use Rattle.pef_model.proofs.NextValues.{these_fields_decide}
+use Rattle.pef_model.proofs.Opened.{alone_open, frame_answer_open, name_open, writes_open}
 use Rattle.pef_model.proofs.Secrets.{no_secret_in_one_entry, no_secret_in_deeds, target_open, agree_more, part_after}
 
 -- an entry without its stamp
@@ -33,40 +33,6 @@ unstamped e = record e { trace = record e.trace { stamp = 0 } }
 -- an entry as an onlooker may know it
 abbrev opened : Event → Event
 opened e = open_entry (unstamped e)
-
-alone_open : (c : Ctx) (cmd : Cmd) → answer_alone c cmd ≡ answer_alone c (open_cmd cmd)
-alone_open ctx.Hv (HLd ra) = refl
-alone_open ctx.Hv (HSt ra value) = refl
-alone_open ctx.Hv (UReturn r0 r2 outs) = refl
-alone_open ctx.Hv (GLi rd value) = refl
-alone_open ctx.Hv (GLd rd gpa) = refl
-alone_open ctx.Hv (GSt rs gpa) = refl
-alone_open (ctx.Guest run) cmd = refl
-
-frame_answer_open : (plan : Plan) (bytes : List ℕ) (cmd : Cmd) → answer_frame plan bytes cmd ≡ answer_frame plan bytes (open_cmd cmd)
-frame_answer_open plan bytes (HLd ra) = refl
-frame_answer_open plan bytes (HSt ra value) = refl
-frame_answer_open plan bytes (UReturn r0 r2 outs) = refl
-frame_answer_open plan bytes (GLi rd value) = refl
-frame_answer_open plan bytes (GLd rd gpa) = refl
-frame_answer_open plan bytes (GSt rs gpa) = refl
-
-name_open : (cmd : Cmd) → command_name cmd ≡ command_name (open_cmd cmd)
-name_open (HLd ra) = refl
-name_open (HSt ra value) = refl
-name_open (UReturn r0 r2 outs) = refl
-name_open (GLi rd value) = refl
-name_open (GLd rd gpa) = refl
-name_open (GSt rs gpa) = refl
-
-writes_open : (plan : Plan) (c : Ctx) (cmd : Cmd) (a : Answer) → writes_of plan c cmd a ≡ writes_of plan c (open_cmd cmd) (open_answer c a)
-writes_open plan ctx.Hv (HLd ra) a = refl
-writes_open plan ctx.Hv (HSt ra value) a = refl
-writes_open plan ctx.Hv (UReturn r0 r2 outs) a = refl
-writes_open plan ctx.Hv (GLi rd value) a = refl
-writes_open plan ctx.Hv (GLd rd gpa) a = refl
-writes_open plan ctx.Hv (GSt rs gpa) a = refl
-writes_open plan (ctx.Guest run) cmd a = refl
 
 -- what two runs have in common so far
 record Same (plan : Plan) (past history : List Event) : Type 0 where
@@ -81,14 +47,14 @@ deeds_agree : (plan : Plan) (past history : List Event) (ask : Ask) (cmd other :
     AgreeButValue ask.before (deed_after plan past ask cmd t) (deed_after plan history ask other t)
 deeds_agree plan past history ask cmd other Alone same cmds =
     let answer : answer_alone ask.before cmd ≡ answer_alone ask.before other =
-      alone_open ask.before cmd ∙ ap (answer_alone ask.before) cmds ∙ sym (alone_open ask.before other) in
+    alone_open ask.before cmd ∙ ap (answer_alone ask.before) cmds ∙ sym (alone_open ask.before other) in
     record { answer = ap (open_answer ask.before) answer; after = refl; shown = refl; pool = refl; frame = refl; bytes = refl }
 deeds_agree plan past history ask cmd other (AtFrame n) same cmds =
     let answer : answer_frame plan (frame_after plan n past) cmd ≡ answer_frame plan (frame_after plan n history) other =
-      frame_answer_open plan (frame_after plan n past) cmd
-      ∙ ap (answer_frame plan (frame_after plan n past)) cmds
-      ∙ sym (frame_answer_open plan (frame_after plan n past) other)
-      ∙ ap (λ (bytes : List ℕ). answer_frame plan bytes other) (same.frame n) in
+    frame_answer_open plan (frame_after plan n past) cmd
+    ∙ ap (answer_frame plan (frame_after plan n past)) cmds
+    ∙ sym (frame_answer_open plan (frame_after plan n past) other)
+    ∙ ap (λ (bytes : List ℕ). answer_frame plan bytes other) (same.frame n) in
     record { answer = ap (open_answer ask.before) answer; after = refl; shown = refl; pool = refl; frame = refl; bytes = refl }
 deeds_agree plan past history ask cmd other (AtGuest lpid) same cmds =
     subst (λ (free : ℕ). AgreeButValue ask.before (deed_guest plan (guest_after plan lpid past) (nat_lt 0 (pool_after plan past)) ask cmd)
@@ -101,18 +67,18 @@ entries_agree : (plan : Plan) (past history : List Event) (e f : Event) → Same
 entries_agree plan past history e f same p q alike =
     let ask : Ask = ask_of (cpu_after plan f.trace.cpu history) in
     let asks : ask_of (cpu_after plan e.trace.cpu past) ≡ ask =
-      ap ask_of (same.cpu e.trace.cpu ∙ ap (λ (n : ℕ). cpu_after plan n history) alike.cpu) in
+    ap ask_of (same.cpu e.trace.cpu ∙ ap (λ (n : ℕ). cpu_after plan n history) alike.cpu) in
     let t : Target = target_in plan ask.before ask.lpid f.trace.cmd in
     let targets : target_in plan ask.before ask.lpid e.trace.cmd ≡ t =
-      target_open plan ask.before ask.lpid e.trace.cmd ∙ ap (target_in plan ask.before ask.lpid) alike.cmd ∙ sym (target_open plan ask.before ask.lpid f.trace.cmd) in
+    target_open plan ask.before ask.lpid e.trace.cmd ∙ ap (target_in plan ask.before ask.lpid) alike.cmd ∙ sym (target_open plan ask.before ask.lpid f.trace.cmd) in
     let agree : AgreeButValue ask.before (deed_after plan past ask e.trace.cmd t) (deed_after plan history ask f.trace.cmd t) =
-      deeds_agree plan past history ask e.trace.cmd f.trace.cmd t same alike.cmd in
+    deeds_agree plan past history ask e.trace.cmd f.trace.cmd t same alike.cmd in
     ap opened (p.is ∙ ap (λ (a : Ask). next_entry_by plan past a (mark_of e) e.trace.cmd) asks ∙ ap (λ (x : Target). entry_of ask (mark_of e) e.trace.cmd (deed_after plan past ask e.trace.cmd x)) targets)
     ∙ (λ i. record {
-        trace = record { line = alike.line i; cpu = alike.cpu i; place = alike.place i; stamp = 0; cmd = alike.cmd i; answer = agree.answer i };
-        saw = record { before = ask.before; after = agree.after i; lpid = ask.lpid; vid = ask.vid; last = ask.last; pool = agree.pool i; frame = agree.frame i; shown = agree.shown i };
-        bytes = agree.bytes i;
-      })
+      trace = record { line = alike.line i; cpu = alike.cpu i; place = alike.place i; stamp = 0; cmd = alike.cmd i; answer = agree.answer i };
+      saw = record { before = ask.before; after = agree.after i; lpid = ask.lpid; vid = ask.vid; last = ask.last; pool = agree.pool i; frame = agree.frame i; shown = agree.shown i };
+      bytes = agree.bytes i;
+    })
     ∙ sym (ap opened q.is)
 
 -- a step of a guest after which the hypervisor runs gives no value
@@ -240,17 +206,17 @@ module _ (plan : Plan) (past history : List Event) (e f : Event) (same : Same pl
   unfolding step
   sights =
       let shown = shown_alike e.saw.before e.saw.after (step e) (step f) from_hypervisor to_hypervisor
-        ∙ ap (λ (c : Ctx). either_of (if_hypervisor c (step f)) (if_hypervisor e.saw.after (step f))) before
-        ∙ ap (λ (c : Ctx). either_of (if_hypervisor f.saw.before (step f)) (if_hypervisor c (step f))) after in
+      ∙ ap (λ (c : Ctx). either_of (if_hypervisor c (step f)) (if_hypervisor e.saw.after (step f))) before
+      ∙ ap (λ (c : Ctx). either_of (if_hypervisor f.saw.before (step f)) (if_hypervisor c (step f))) after in
       let registers : if_hypervisor e.saw.after (cpu_after plan e.trace.cpu (e ∷ past)).own ≡ if_hypervisor f.saw.after (cpu_after plan f.trace.cpu (f ∷ history)).own =
-        ap (λ (cpu : CpuPart). if_hypervisor e.saw.after cpu.own) (cpu_more e.trace.cpu ∙ ap (λ (n : ℕ). cpu_after plan n (f ∷ history)) alike.cpu)
-        ∙ ap (λ (c : Ctx). if_hypervisor c (cpu_after plan f.trace.cpu (f ∷ history)).own) after in
+      ap (λ (cpu : CpuPart). if_hypervisor e.saw.after cpu.own) (cpu_more e.trace.cpu ∙ ap (λ (n : ℕ). cpu_after plan n (f ∷ history)) alike.cpu)
+      ∙ ap (λ (c : Ctx). if_hypervisor c (cpu_after plan f.trace.cpu (f ∷ history)).own) after in
       let writes : writes_of plan e.saw.before e.trace.cmd e.trace.answer ≡ writes_of plan f.saw.before f.trace.cmd f.trace.answer =
-        writes_open plan e.saw.before e.trace.cmd e.trace.answer
-        ∙ ap (λ (c : Ctx). writes_of plan c (open_cmd e.trace.cmd) (open_answer e.saw.before e.trace.answer)) before
-        ∙ ap (λ (cmd : Cmd). writes_of plan f.saw.before cmd (open_answer e.saw.before e.trace.answer)) cmds
-        ∙ ap (writes_of plan f.saw.before (open_cmd f.trace.cmd)) answers
-        ∙ sym (writes_open plan f.saw.before f.trace.cmd f.trace.answer) in
+      writes_open plan e.saw.before e.trace.cmd e.trace.answer
+      ∙ ap (λ (c : Ctx). writes_of plan c (open_cmd e.trace.cmd) (open_answer e.saw.before e.trace.answer)) before
+      ∙ ap (λ (cmd : Cmd). writes_of plan f.saw.before cmd (open_answer e.saw.before e.trace.answer)) cmds
+      ∙ ap (writes_of plan f.saw.before (open_cmd f.trace.cmd)) answers
+      ∙ sym (writes_open plan f.saw.before f.trace.cmd f.trace.answer) in
       (λ i. record { step = shown i; registers = registers i; writes = writes i })
 
   one_more : Same plan (e ∷ past) (f ∷ history)
@@ -290,17 +256,17 @@ length_alike (e ∷ past) (f ∷ history) h = ap suc (length_alike past history 
 
 one_plan : (one other : Config) → AgreeButWords one other → plan_of one ≡ plan_of other
 one_plan one other agree = (λ i. record {
-    shift = (agree.same i).shift;
-    normal = (agree.same i).normal;
-    secure = (agree.same i).secure;
-    cpus = (agree.same i).cpus;
-    guests = (agree.same i).guests;
-    vcpus = (agree.same i).vcpus;
-    pages = (agree.same i).pages;
-    vault = (agree.same i).vault;
-    is_born = λ lpid. list_any (λ born. born == lpid) (agree.same i).born;
-    words = λ lpid. agree.words lpid i;
-  })
+  shift = (agree.same i).shift;
+  normal = (agree.same i).normal;
+  secure = (agree.same i).secure;
+  cpus = (agree.same i).cpus;
+  guests = (agree.same i).guests;
+  vcpus = (agree.same i).vcpus;
+  pages = (agree.same i).pages;
+  vault = (agree.same i).vault;
+  is_born = λ lpid. list_any (λ born. born == lpid) (agree.same i).born;
+  words = λ lpid. agree.words lpid i;
+})
 
 pub alike_show_the_same : AlikeShowTheSame
 alike_show_the_same one other past history k alike legal legal_too =
@@ -309,12 +275,12 @@ alike_show_the_same one other past history k alike legal legal_too =
     let n : ℕ = length past - k in
     let there : first k history ≡ drop n history = ap (λ (m : ℕ). drop (m - k) history) (sym (length_alike past history alike.open_.entries)) in
     let same : Same plan (drop n past) (drop n history) =
-      same_so_far plan (drop n past) (drop n history) (legal_prefix plan n past legal)
-      (legal_prefix plan n history (subst (λ (x : Plan). IsLegal x history) (sym plans) legal_too))
-      (alike_prefix n past history alike.open_.entries) in
+    same_so_far plan (drop n past) (drop n history) (legal_prefix plan n past legal)
+    (legal_prefix plan n history (subst (λ (x : Plan). IsLegal x history) (sym plans) legal_too))
+    (alike_prefix n past history alike.open_.entries) in
     record {
       state = (λ i. record { cpus = λ m. same.cpu m i; guests = λ lpid. same.part lpid i; pool = same.pool i; frames = λ m. same.frame m i })
-        ∙ ap (λ (x : Plan). public_state x (drop n history)) plans ∙ ap (public_state (plan_of other)) (sym there);
+          ∙ ap (λ (x : Plan). public_state x (drop n history)) plans ∙ ap (public_state (plan_of other)) (sym there);
       seen = same.seen ∙ ap (λ (x : Plan). view x (drop n history)) plans ∙ ap (view (plan_of other)) (sym there);
     }
 

@@ -104,30 +104,25 @@ pub fn asked_is_told()
 /// The frames of the public state hold what was last stored at each real address.
 pub fn frames_hold_last_norm()
     ensures { FramesHoldLastNorm }
-{
-}
+{}
 
 /// A guest's step changes no normal frame.
 pub fn guest_leaves_frames()
     ensures { GuestLeavesFrames }
-{
-}
+{}
 
 /// The hypervisor's store changes no guest.
 pub fn store_leaves_guests()
     ensures { StoreLeavesGuests }
-{
-}
+{}
 
 /// Two legal histories that agree but on secrets show the hypervisor the same at every prefix: equal public states, equal
 /// views. It says nothing of histories whose guests let out different values, nor of time.
 pub fn alike_show_the_same()
     ensures { AlikeShowTheSame }
-{
-}
+{}
 
 /// No command seals a page, so histories that are alike but for sealed bytes are alike.
 pub fn open_is_alike()
     ensures { OpenIsAlike }
-{
-}
+{}
