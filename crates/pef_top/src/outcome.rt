@@ -27,8 +27,8 @@ pub struct RunOutcome {
 impl RunOutcome {
     ghost use Rattle.pef_top.specs.Outcome.{plain, limit_passed};
 
-    /// A status that says no more.
-    pub(crate) fn plain(status: u8) -> RunOutcome
+    /// An outcome that says no more than its status, from 0 to 5.
+    pub fn plain(status: u8) -> RunOutcome
         ensures { result ≡ plain status }
     {
         RunOutcome {
