@@ -12,7 +12,8 @@ use Rattle.pef_model.specs.Guest.{Guest}
 use Rattle.pef_model.specs.Deed.{Reach, NoPage, InFrame, Backs, NoFrame, reach_of, reach}
 use Rattle.pef_model.proofs.Folds.{same_test}
 use Rattle.pef_model.proofs.Rows.{with_access, with_store, private_doubleword-access, private_doubleword-store}
-use Rattle.pef_core.specs.Pages.{PageState, PagesState, AreWhole, page_at, gfn_of, has_place, with_page, with_value, is_invalid_page, zeroed, reach_page, reach_at, is_in_frame, pages_after}
+use Rattle.pef_core.specs.Places.{has_place}
+use Rattle.pef_core.specs.Pages.{PageState, PagesState, AreWhole, page_at, gfn_of, with_page, with_value, is_invalid_page, zeroed, reach_page, reach_at, is_in_frame, pages_after}
 use Rattle.pef_core.specs.Shows.{ShowsPages}
 use Rattle.pef_core.proofs.PagesLemmas.{page_at-with_same, page_at-with_other, shown_at-backed, with_stored, shown_at-stored}
 
@@ -41,8 +42,8 @@ pub record Found (pages : PagesState) (gpa free : ℕ) (r : Reach) : Type 0 wher
   pub page : reach_page pages (gfn_of pages gpa) free ≡ r
 
 pub found : (pages : PagesState) (gpa free : ℕ) (r : Reach) → reach_at pages gpa free ≡ r → is_in_frame r ≡ true → Found pages gpa free r
-found pages gpa free r met in_frame = by_test (has_place pages gpa) refl met where
-  by_test : (b : Bool) → has_place pages gpa ≡ b → (if b then reach_page pages (gfn_of pages gpa) free else NoPage) ≡ r → Found pages gpa free r
+found pages gpa free r met in_frame = by_test (has_place pages.shift (length pages.pages) gpa) refl met where
+  by_test : (b : Bool) → has_place pages.shift (length pages.pages) gpa ≡ b → (if b then reach_page pages (gfn_of pages gpa) free else NoPage) ≡ r → Found pages gpa free r
   by_test true test met =
       let place = placed pages.shift (length pages.pages) gpa test in
       record { aligned = place.0; below = place.1; page = met }

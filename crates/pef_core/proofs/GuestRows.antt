@@ -13,8 +13,8 @@ use Rattle.pef_model.specs.Deed.{Reach, NoPage, InFrame, Backs, NoFrame, deed_ac
 use Rattle.pef_model.specs.History.{entry_of}
 use Rattle.pef_model.proofs.Rows.{with_access, with_store, private_doubleword-access}
 use Rattle.pef_core.specs.declared.guest.Guest.{Guest}
-use Rattle.pef_core.specs.declared.pages.Place.{Place}
-use Rattle.pef_core.specs.Doubleword.{doubleword}
+use Rattle.pef_core.specs.declared.place.Place.{Place}
+use Rattle.pef_model.specs.Doubleword.{doubleword}
 use Rattle.pef_core.specs.Pages.{PagesState, AreWhole, page_at, gfn_of, is_invalid_page, shown_by, with_page, with_value, reach_at, is_in_frame, pages_after, free_after}
 use Rattle.pef_core.specs.Shows.{ShowsPages, Shows}
 use Rattle.pef_core.specs.Rows.{ask_running, RowRunning, DoesCommand}

@@ -1,9 +1,7 @@
-pub mod Doublewords
-pub mod Places
 pub mod PagesLemmas
 pub mod Accesses
 pub mod GuestRows
 pub mod Loading
+pub mod NormalRows
 pub mod StepLemmas
-pub mod RefusedLemmas
 pub mod StartLemmas

@@ -3,10 +3,10 @@ use Rattle.std.proofs.Common.{◌≡◌, ◌≢◌, ℕ, ◌+◌, ◌%◌, ◌^�
 use Rattle.std.proofs.lemmas.List.{get_or-set_same, get_or-set_other}
 use Rattle.std.proofs.lemmas.Bool.{cases_eq}
 use Rattle.std.proofs.lemmas.Bool.Decides.{nat_tests}
-use Rattle.pef_core.specs.Doubleword.{doubleword, with_doubleword}
+use Rattle.pef_model.specs.Doubleword.{doubleword, with_doubleword}
 use Rattle.pef_core.specs.Pages.{PageState, PagesState, AreWhole, page_at, gfn_of, with_page, with_value, invalid_page, is_invalid_page, shown_by, shown_at, zeroed}
-use Rattle.pef_core.proofs.Doublewords.{doubleword-put, doubleword-other, doubleword-zeros}
-use Rattle.pef_core.proofs.Places.{room_at, apart_at}
+use Rattle.pef_model.proofs.Doublewords.{doubleword-put, doubleword-other, doubleword-zeros}
+use Rattle.pef_model.proofs.Places.{room_at, apart_at}
 
 -- the page that was written is read again
 pub page_at-with_same : (pages : PagesState) (gfn : ℕ) (page : PageState) → gfn < length pages.pages → page_at (with_page pages gfn page) gfn ≡ page

@@ -1,5 +1,5 @@
 -- The machine as it begins shows the objects as they begin.
-use Rattle.std.proofs.Common.{◌≡◌, ℕ, ◌%◌, ◌^◌, ◌<◌, Bool, true, false, [], refl, ap}
+use Rattle.std.proofs.Common.{◌≡◌, ℕ, ◌%◌, ◌^◌, ◌<◌, Bool, true, false, [], replicate, refl, ap}
 use Rattle.std.proofs.lemmas.List.{get_or-replicate, length-replicate}
 use Rattle.pef_model.specs.declared.state.Ctx.TheVariants as ctx
 use Rattle.pef_model.specs.declared.entry.Answer.TheVariants as answer
@@ -43,6 +43,8 @@ pub build_fits : (config : Config) → HasOneOfEach config →
     Fits (plan_of config) (record {
       cpu = record { ctx = ctx.Hv; regs = zero_registers; lpid = 1; vid = 0; last = answer.Nothing };
       guest = start_of ((plan_of config).is_born 1) (invalid_pages config.shift config.pages);
+      shift = config.shift;
+      normal = replicate config.normal (replicate (2 ^ config.shift) 0);
       free = config.secure;
       steps = 0;
     }) []
@@ -52,5 +54,10 @@ build_fits config one = record {
   vcpus = one.vcpus;
   cpu = record { ctx = refl; own = refl; lpid = refl; vid = refl; last = refl };
   guest = shows_start (plan_of config) ((plan_of config).is_born 1);
+  normal = record {
+    shift = refl;
+    count = length-replicate config.normal (replicate (2 ^ config.shift) 0);
+    bytes = λ n below. get_or-replicate config.normal n (replicate (2 ^ config.shift) 0) [] below;
+  };
   free = refl;
 }

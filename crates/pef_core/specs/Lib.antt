@@ -1,5 +1,6 @@
-pub mod Doubleword
+pub mod Places
 pub mod Pages
+pub mod Normal
 pub mod Loads
 pub mod Shows
 pub mod Rows

@@ -5,8 +5,8 @@ use Rattle.pef_model.specs.declared.state.Kind.TheVariants as kind
 use Rattle.pef_model.specs.Plan.{IsWithin}
 use Rattle.pef_model.specs.GuestPart.{is_invalid}
 use Rattle.pef_model.specs.Deed.{Reach, NoPage, InFrame, Backs, NoFrame, reach_of}
-use Rattle.pef_core.specs.declared.pages.Place.{Place}
-use Rattle.pef_core.specs.Doubleword.{doubleword, with_doubleword}
+use Rattle.pef_core.specs.Places.{has_place}
+use Rattle.pef_model.specs.Doubleword.{doubleword, with_doubleword}
 
 -- a page: its kind, and the bytes of its frame
 pub record PageState : Type 0 where
@@ -38,19 +38,6 @@ pub record AreWhole (pages : PagesState) : Type 0 where
 -- the page of a guest address
 abbrev pub gfn_of : PagesState → ℕ → ℕ
 gfn_of pages gpa = gpa / 2 ^ pages.shift
-
--- whether a guest address is that of a doubleword in a page
-abbrev pub has_place : PagesState → ℕ → Bool
-has_place pages gpa = (gpa % 8 == 0) && nat_lt (gfn_of pages gpa) (length pages.pages)
-
--- where a guest address lies
-abbrev pub place_at : PagesState → ℕ → Place
-place_at pages gpa = record { gfn = gfn_of pages gpa; offset = gpa % 2 ^ pages.shift }
-
--- a place is one of a doubleword in a page
-pub record IsPlace (pages : PagesState) (place : Place) : Type 0 where
-  pub page : place.gfn < length pages.pages
-  pub room : place.offset + 8 ≤ 2 ^ pages.shift
 
 -- whether a page has no frame
 abbrev pub is_invalid_page : PageState → Bool
@@ -99,7 +86,7 @@ reach_page pages gfn free = reach_of (is_invalid_page (page_at pages gfn)) (nat_
 
 -- what an access to a guest address meets
 abbrev pub reach_at : PagesState → ℕ → ℕ → Reach
-reach_at pages gpa free = if has_place pages gpa then reach_page pages (gfn_of pages gpa) free else NoPage
+reach_at pages gpa free = if has_place pages.shift (length pages.pages) gpa then reach_page pages (gfn_of pages gpa) free else NoPage
 
 -- a page with a doubleword at an offset
 abbrev pub with_value : PageState → ℕ → ℕ → PageState

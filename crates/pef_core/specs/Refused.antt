@@ -9,6 +9,7 @@ use Rattle.pef_model.specs.Registers.{number_of}
 use Rattle.pef_core.specs.declared.cpu.Cpu.{Cpu}
 use Rattle.pef_core.specs.declared.guest.Guest.{Guest}
 use Rattle.pef_core.specs.Loads.{LoadsCall}
+use Rattle.pef_core.specs.Normal.{NormalState}
 use Rattle.pef_core.specs.State.{State}
 
 -- a call came back with a code in R3, and changed no register but those that it loads
@@ -35,12 +36,13 @@ pub record RefusesGuest (old new : Guest) (code : Code) : Type 0 where
   pub nip : new.vcpu.regs.nip ≡ (old.vcpu.regs.nip + 4) % 2 ^ 64
   pub srr0 : new.vcpu.regs.srr0 ≡ old.vcpu.regs.srr0
 
--- a command of the hypervisor that comes back with a code changes the CPU's registers and the last answer alone; one of a guest changes nothing
-abbrev pub LeavesHypervisor : Cpu → Cpu → Guest → Guest → Answer → Type 0
-LeavesHypervisor cpu_old cpu_new old new (answer.Ret code) = RefusesHypervisor cpu_old cpu_new code × (new ≡ old)
-LeavesHypervisor cpu_old cpu_new old new answer.Hole = (cpu_new ≡ cpu_old) × (new ≡ old)
-LeavesHypervisor cpu_old cpu_new old new answer.Context = (cpu_new ≡ cpu_old) × (new ≡ old)
-LeavesHypervisor cpu_old cpu_new old new other = Unit {0}
+-- a command of the hypervisor that comes back with a code changes the CPU's registers and the last answer alone; one that met a hole changes the
+-- last answer alone; one of a guest changes nothing
+abbrev pub LeavesHypervisor : Cpu → Cpu → Guest → Guest → NormalState → NormalState → Answer → Type 0
+LeavesHypervisor cpu_old cpu_new old new normal_old normal_new (answer.Ret code) = RefusesHypervisor cpu_old cpu_new code × (new ≡ old) × (normal_new ≡ normal_old)
+LeavesHypervisor cpu_old cpu_new old new normal_old normal_new answer.Hole = (cpu_new ≡ record cpu_old { last = answer.Hole }) × (new ≡ old) × (normal_new ≡ normal_old)
+LeavesHypervisor cpu_old cpu_new old new normal_old normal_new answer.Context = (cpu_new ≡ cpu_old) × (new ≡ old) × (normal_new ≡ normal_old)
+LeavesHypervisor cpu_old cpu_new old new normal_old normal_new other = Unit {0}
 
 -- a guest's command that comes back with a code changes the guest's registers alone; one that met a hole changes nothing
 abbrev pub LeavesGuest : Guest → Guest → ℕ → ℕ → Answer → Type 0
@@ -49,28 +51,44 @@ LeavesGuest old new free_old free_new answer.Hole = (new ≡ old) × (free_new �
 LeavesGuest old new free_old free_new answer.Context = (new ≡ old) × (free_new ≡ free_old)
 LeavesGuest old new free_old free_new other = Unit {0}
 
--- a refused call in the hypervisor: the guest and the number of free frames stay
+-- a refused call in the hypervisor: the guest and the frames stay
 pub record IsRefusedInHypervisor (old new : State) (code : Code) : Type 0 where
   pub cpu : RefusesHypervisor old.cpu new.cpu code
   pub guest : new.guest ≡ old.guest
+  pub shift : new.shift ≡ old.shift
+  pub normal : new.normal ≡ old.normal
   pub free : new.free ≡ old.free
 
--- a refused call in a guest: the CPU and the number of free frames stay
+-- the hypervisor met a hole: the last answer alone changes
+pub record IsHoleInHypervisor (old new : State) : Type 0 where
+  pub cpu : new.cpu ≡ record old.cpu { last = answer.Hole }
+  pub guest : new.guest ≡ old.guest
+  pub shift : new.shift ≡ old.shift
+  pub normal : new.normal ≡ old.normal
+  pub free : new.free ≡ old.free
+
+-- a refused call in a guest: the CPU and the frames stay
 pub record IsRefusedInGuest (old new : State) (code : Code) : Type 0 where
   pub guest : RefusesGuest old.guest new.guest code
   pub cpu : new.cpu ≡ old.cpu
+  pub shift : new.shift ≡ old.shift
+  pub normal : new.normal ≡ old.normal
   pub free : new.free ≡ old.free
 
 -- nothing at all changes
 pub record IsUnchanged (old new : State) : Type 0 where
   pub cpu : new.cpu ≡ old.cpu
   pub guest : new.guest ≡ old.guest
+  pub shift : new.shift ≡ old.shift
+  pub normal : new.normal ≡ old.normal
   pub free : new.free ≡ old.free
 
--- a command that comes back with a code changes its caller's registers alone; one that met a hole, or another context, changes nothing
+-- a command that comes back with a code changes its caller's registers alone; one that met a hole, or another context, changes nothing but the
+-- hypervisor's last answer
 abbrev pub LeavesRest : Ctx → State → State → Answer → Type 0
 LeavesRest ctx.Hv old new (answer.Ret code) = IsRefusedInHypervisor old new code
 LeavesRest (ctx.Guest run) old new (answer.Ret code) = IsRefusedInGuest old new code
-LeavesRest before old new answer.Hole = IsUnchanged old new
+LeavesRest ctx.Hv old new answer.Hole = IsHoleInHypervisor old new
+LeavesRest (ctx.Guest run) old new answer.Hole = IsUnchanged old new
 LeavesRest before old new answer.Context = IsUnchanged old new
 LeavesRest before old new other = Unit {0}

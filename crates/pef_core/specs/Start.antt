@@ -18,6 +18,7 @@ pub record HasOneOfEach (config : Config) : Type 0 where
   pub guests : config.guests ≡ 1
   pub vcpus : config.vcpus ≡ 1
 
--- the private pages of a guest are at most 64 MiB
+-- the private pages of a guest are at most 64 MiB, and so are the normal frames
 pub record IsWithinMemory (config : Config) : Type 0 where
   pub pages : config.pages * 2 ^ config.shift ≤ 67108864
+  pub normal : config.normal * 2 ^ config.shift ≤ 67108864

@@ -1,6 +1,6 @@
 //! A CPU goes into a guest and comes back, and between two steps it is in one context.
 
-ghost use Rattle.std.specs.Prelude.{◌≡◌};
+ghost use Rattle.std.specs.Prelude.{◌≡◌, slice_set};
 ghost use Rattle.pef_model.specs.Registers.{zero_registers, with_code};
 
 use crate::registers;
@@ -57,6 +57,24 @@ impl Cpu {
         registers::give_code(&mut self.regs, code);
         self.last = Answer::Ret(code);
         self.last
+    }
+
+    /// A step of the hypervisor answers this, and changes nothing else of the CPU.
+    pub fn answer(&mut self, answer: Answer) -> Answer
+        ensures answer { result ≡ answer }
+        ensures cpu { self.new ≡ record self.old { last = answer } }
+    {
+        self.last = answer;
+        answer
+    }
+
+    /// The hypervisor loads a value into R3.
+    pub fn load(&mut self, value: u64) -> Answer
+        ensures answer { result ≡ Answer.Val value }
+        ensures cpu { self.new ≡ record self.old { regs = slice_set self.old.regs 3 value; last = Answer.Val value } }
+    {
+        self.regs[3] = value;
+        self.answer(Answer::Val(value))
     }
 
     /// The guest that runs here has ended: it lets nothing out, and the hypervisor runs from now on.

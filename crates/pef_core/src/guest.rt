@@ -52,12 +52,14 @@ impl Guest {
         }
     }
 
-    /// A command of the guest that runs. free is the number of free secure frames.
+    /// A command on a CPU on which the guest runs; one of the hypervisor does nothing. free is the number of free secure
+    /// frames.
     pub fn command(&mut self, free: &mut u32, cmd: &Cmd) -> Answer
         ensures row { DoesCommand cmd.now self.old self.new free.old free.new result }
         ensures refused { LeavesGuest self.old self.new free.old free.new result }
     {
         match cmd {
+            Cmd::HLd { .. } | Cmd::HSt { .. } => Answer::Context,
             Cmd::UReturn { r0, r2, outs } => self.refuse_return(*r0, *r2, outs),
             Cmd::GLi { rd, value } => self.load_immediate(*rd, *value),
             Cmd::GLd { rd, gpa } => self.load(free, *rd, *gpa),

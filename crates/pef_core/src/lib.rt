@@ -3,11 +3,14 @@
 
 pub mod cpu;
 pub mod doubleword;
+pub mod frame;
 pub mod guest;
 pub mod hypervisor;
 pub mod machine;
+pub mod normal;
 pub mod page;
 pub mod pages;
+pub mod place;
 pub mod registers;
 pub mod vcpu;
 

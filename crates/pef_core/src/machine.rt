@@ -1,7 +1,8 @@
 //! The steps of the machine, one after another, are the history that the model gives.
 
-ghost use Rattle.std.specs.Prelude.{◌≡◌, ◌+◌, ◌^◌, ◌<◌, [], IfOk};
+ghost use Rattle.std.specs.Prelude.{◌≡◌, ◌+◌, ◌^◌, ◌<◌, [], length, IfOk};
 ghost use Rattle.pef_model.specs.Plan.{IsInRange, plan_of};
+ghost use Rattle.pef_core.specs.Normal.{frame_at};
 ghost use Rattle.pef_core.specs.Start.{HasOneOfEach, IsWithinMemory};
 ghost use Rattle.pef_core.specs.Refused.{LeavesRest};
 ghost use Rattle.pef_core.specs.Steps.{Fits, Continues};
@@ -9,6 +10,7 @@ ghost use Rattle.pef_core.specs.Steps.{Fits, Continues};
 use crate::cpu::Cpu;
 use crate::guest::Guest;
 use crate::hypervisor;
+use crate::normal::Normal;
 use crate::pages::Pages;
 use pef_model::{Answer, Cmd, Config, Ctx};
 use std::alloc::{AllocError, Global};
@@ -19,6 +21,8 @@ use std::marker::Model;
 pub struct Machine {
     cpu: Cpu,
     guest: Guest,
+    /// The memory that the hypervisor loads and stores.
+    normal: Normal,
     /// How many secure frames are free.
     free: u32,
     /// How many steps were done.
@@ -30,7 +34,7 @@ impl Model for Machine {
 
     ghost Value = { State };
 
-    ghost view = { λ m. record { cpu = m.cpu; guest = m.guest; free = m.free; steps = m.steps } };
+    ghost view = { λ m. record { cpu = m.cpu; guest = m.guest; shift = m.normal.shift; normal = m.normal.frames; free = m.free; steps = m.steps } };
 
     ghost invariant = { λ m. IsWhole m.cpu };
 }
@@ -44,7 +48,7 @@ fn is_born(config: &Config) -> bool
 
 impl Machine {
     /// The machine of a configuration, before its first step. Guest 1 is secure where the configuration says that it
-    /// is born so. The one error is that there is no memory for the guest's pages.
+    /// is born so. The one error is that there is no memory for the guest's pages and the normal frames.
     pub fn build(alloc: Global, config: &Config) -> Result<Machine, AllocError>
         requires range { IsInRange config.now }
         requires one { HasOneOfEach config.now }
@@ -54,9 +58,11 @@ impl Machine {
         ensures free { IfOk result (λ machine. machine.free ≡ config.now.secure) }
     {
         let pages = Pages::invalid(alloc, config.shift, config.pages)?;
+        let normal = Normal::zeroed(alloc, config.shift, config.normal)?;
         Ok(Machine {
             cpu: Cpu::new(),
             guest: Guest::start(is_born(config), pages),
+            normal,
             free: config.secure,
             steps: 0,
         })
@@ -72,9 +78,16 @@ impl Machine {
     {
         self.steps += 1;
         match self.cpu.ctx {
-            Ctx::Hv => hypervisor::command(&mut self.cpu, &mut self.guest, cpu, cmd),
+            Ctx::Hv => hypervisor::command(
+                &mut self.cpu,
+                &mut self.guest,
+                &mut self.normal,
+                cpu,
+                cmd,
+            ),
             Ctx::Guest(run) => {
-                if run.generation == self.guest.generation {
+                // A command of the hypervisor does nothing here, even where the guest has ended.
+                if hypervisor::has_real_address(cmd) || run.generation == self.guest.generation {
                     self.guest.command(&mut self.free, cmd)
                 } else {
                     self.cpu.gone()
@@ -88,6 +101,21 @@ impl Machine {
         ensures { result ≡ self.now.steps }
     {
         self.steps
+    }
+
+    /// How many normal frames there are.
+    pub fn normal(&self) -> u32
+        ensures { result ≡ length self.now.normal }
+    {
+        self.normal.count()
+    }
+
+    /// The bytes of a normal frame, which is numbered from 0: what the hypervisor has stored there, and else zeros.
+    pub fn frame(&self, number: u32) -> &[u8]
+        requires { number < length self.now.normal }
+        ensures { result.now ≡ frame_at self.now.normal number }
+    {
+        self.normal.frame(number)
     }
 
     /// How many secure frames are free.

@@ -1,7 +1,7 @@
 //! A page is its kind and the bytes of its frame; a page that is backed begins with zeros.
 
 ghost use Rattle.std.specs.Prelude.{◌≡◌, ◌+◌, ◌≤◌, length, IfOk, IsTrue, ◌↔◌};
-ghost use Rattle.pef_core.specs.Doubleword.{doubleword};
+ghost use Rattle.pef_model.specs.Doubleword.{doubleword};
 ghost use Rattle.pef_core.specs.Pages.{invalid_page, zeroed, with_value};
 
 use crate::doubleword;
@@ -59,7 +59,7 @@ impl Page {
     }
 
     /// Puts a doubleword at an offset in bytes.
-    #[tactic(auto, using(crate::proofs::Doublewords::lengths))]
+    #[tactic(auto, using(pef_model::proofs::Doublewords::lengths))]
     pub fn store(&mut self, offset: usize, value: u64)
         requires { offset + 8 ≤ length self.old.bytes }
         ensures page { self.new ≡ with_value self.old offset value }

@@ -2,21 +2,14 @@
 
 ghost use Rattle.std.specs.Prelude.{◌≡◌, ◌^◌, ◌<◌, length, IfOk, IfSome, if◌then◌else◌};
 ghost use Rattle.pef_model.specs.Plan.{IsWithin};
-ghost use Rattle.pef_core.specs.Doubleword.{doubleword};
-ghost use Rattle.pef_core.specs.Pages.{invalid_pages, page_at, gfn_of, has_place, place_at, IsPlace, AreWhole, reach_page, reach_at, is_in_frame, pages_after, free_after, with_page, with_value};
+ghost use Rattle.pef_model.specs.Doubleword.{doubleword};
+ghost use Rattle.pef_core.specs.Places.{has_place, place_at, IsPlace};
+ghost use Rattle.pef_core.specs.Pages.{invalid_pages, page_at, gfn_of, AreWhole, reach_page, reach_at, is_in_frame, pages_after, free_after, with_page, with_value};
 
 use crate::page::Page;
+use crate::place::{self, Place};
 use std::alloc::{AllocError, Global};
 use std::marker::Model;
-
-/// Where a doubleword of a guest lies.
-#[derive(Clone, Copy)]
-pub struct Place {
-    /// The number of its page, from 0.
-    pub gfn: usize,
-    /// Where it begins in the page, in bytes; a multiple of 8.
-    pub offset: usize,
-}
 
 /// The pages of a guest, each of 2^shift bytes.
 #[derive(Drop)]
@@ -51,14 +44,14 @@ impl Pages {
     /// Sees to it that the page of a guest address has a frame, and says where the address lies. None is a hole: the
     /// address is no multiple of 8, or past the last page; or its page is Invalid and no frame is free.
     pub fn reach(&mut self, gpa: u64, free: &mut u32) -> Option<Place>
-        ensures result { result ≡ (if is_in_frame (reach_at self.old gpa free.old) then Some (place_at self.old gpa) else None) }
-        ensures place { IfSome result (IsPlace self.new) }
+        ensures result { result ≡ (if is_in_frame (reach_at self.old gpa free.old) then Some (place_at self.old.shift gpa) else None) }
+        ensures place { IfSome result (IsPlace self.new.shift (length self.new.pages)) }
         ensures whole { AreWhole self.new }
         ensures pages { self.new ≡ pages_after self.old (gfn_of self.old gpa) (reach_at self.old gpa free.old) }
         ensures free { free.new ≡ free_after free.old (reach_at self.old gpa free.old) }
     {
         let place = self.place_of(gpa)?;
-        if self.back(place.gfn, free) {
+        if self.back(place.number, free) {
             Some(place)
         } else {
             None
@@ -67,44 +60,27 @@ impl Pages {
 
     /// The doubleword at a place.
     pub fn load(&self, place: Place) -> u64
-        requires { IsPlace self.now place }
-        ensures { result ≡ doubleword (page_at self.now place.gfn).bytes place.offset }
+        requires { IsPlace self.now.shift (length self.now.pages) place }
+        ensures { result ≡ doubleword (page_at self.now place.number).bytes place.offset }
     {
-        self.pages[place.gfn].load(place.offset)
+        self.pages[place.number].load(place.offset)
     }
 
     /// Puts a doubleword at a place.
     pub fn store(&mut self, place: Place, value: u64)
-        requires { IsPlace self.old place }
-        ensures { self.new ≡ with_page self.old place.gfn (with_value (page_at self.old place.gfn) place.offset value) }
+        requires { IsPlace self.old.shift (length self.old.pages) place }
+        ensures { self.new ≡ with_page self.old place.number (with_value (page_at self.old place.number) place.offset value) }
     {
-        self.pages[place.gfn].store(place.offset, value);
-    }
-
-    /// How many bytes a page has.
-    fn page_size(&self) -> u64
-        ensures { result ≡ 2 ^ self.now.shift }
-    {
-        1 << self.shift
+        self.pages[place.number].store(place.offset, value);
     }
 
     /// The place of a guest address, if it has one.
-    #[tactic(auto, using(crate::proofs::Places::room_at))]
     fn place_of(&self, gpa: u64) -> Option<Place>
-        ensures result { result ≡ (if has_place self.now gpa then Some (place_at self.now gpa) else None) }
-        ensures place { IfSome result (IsPlace self.now) }
+        ensures result { result ≡ (if has_place self.now.shift (length self.now.pages) gpa then Some (place_at self.now.shift gpa) else None) }
+        ensures place { IfSome result (IsPlace self.now.shift (length self.now.pages)) }
         ensures whole { AreWhole self.now }
     {
-        let size = self.page_size();
-        let gfn = gpa / size;
-        if gpa % 8 == 0 && gfn < self.pages.len() as u64 {
-            Some(Place {
-                gfn: gfn as usize,
-                offset: (gpa % size) as usize,
-            })
-        } else {
-            None
-        }
+        place::place_of(self.shift, self.pages.len(), gpa)
     }
 
     /// Takes a free frame for a page that is Invalid. False where it is Invalid and no frame is free.

@@ -132,3 +132,48 @@ fn keeps_a_guest_out_that_is_not_born_secure(rt: HostRuntime) -> Result<(), Fail
     assert_eq!(rt; machine.step(0, &u_return()), Answer::Ret(Code::UInvalid));
     Ok(())
 }
+
+#[test]
+fn loads_what_the_hypervisor_stored(rt: HostRuntime) -> Result<(), Fail> {
+    let config = Config::with_defaults(rt.alloc());
+    let mut machine = Machine::build(rt.alloc(), &config)?;
+    assert_eq!(rt; machine.normal(), 16);
+    let store = Cmd::HSt {
+        ra: 8,
+        value: 0x0102_0304_0506_0708,
+    };
+    assert_eq!(rt; machine.step(0, &store), Answer::Done);
+    assert_eq!(rt;
+        machine.step(0, &Cmd::HLd { ra: 8 }),
+        Answer::Val(0x0102_0304_0506_0708)
+    );
+    assert_eq!(rt; machine.step(0, &Cmd::HLd { ra: 0 }), Answer::Val(0));
+    assert_eq!(rt; machine.step(0, &Cmd::HLd { ra: 0xF_FFF8 }), Answer::Val(0));
+    assert_eq!(rt; machine.steps(), 4);
+    assert!(rt; machine.normal() > 15);
+    assert_eq!(rt; machine.frame(0).len(), 0x1_0000);
+    assert_eq!(rt;
+        &machine.frame(0)[..24],
+        [0, 0, 0, 0, 0, 0, 0, 0, 1, 2, 3, 4, 5, 6, 7, 8, 0, 0, 0, 0, 0, 0, 0, 0].as_slice()
+    );
+    assert_eq!(rt; &machine.frame(1)[..16], [0u8; 16].as_slice());
+    Ok(())
+}
+
+#[test]
+fn refuses_a_real_address_with_no_place(rt: HostRuntime) -> Result<(), Fail> {
+    let mut machine = secure_machine(rt.alloc())?;
+    // There are 16 normal frames of 64 KiB.
+    for ra in [4, 0x10_0000] {
+        assert_eq!(rt; machine.step(0, &Cmd::HLd { ra }), Answer::Hole);
+        assert_eq!(rt; machine.step(0, &Cmd::HSt { ra, value: 7 }), Answer::Hole);
+    }
+    assert_eq!(rt; machine.step(0, &u_return()), Answer::Enter);
+    // A guest has no such command, whatever the address.
+    for ra in [0, 4] {
+        assert_eq!(rt; machine.step(0, &Cmd::HLd { ra }), Answer::Context);
+        assert_eq!(rt; machine.step(0, &Cmd::HSt { ra, value: 7 }), Answer::Context);
+    }
+    assert_eq!(rt; machine.steps(), 9);
+    Ok(())
+}

@@ -3,4 +3,5 @@ pub mod Numerals
 pub mod Lines
 pub mod OneWord
 pub mod LineText
+pub mod FramesText
 pub mod RunText

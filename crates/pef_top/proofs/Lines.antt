@@ -4,7 +4,7 @@ use Rattle.std.specs.Prelude.{Option, Some, None, MatchOption, option_map, codes
 use Rattle.std.specs.Str.{bytes_eq}
 use Rattle.std.proofs.lemmas.List.Splits.{length-slice_split}
 use Rattle.pef_model.specs.declared.command.Cmd.{Cmd}
-use Rattle.pef_model.specs.Script.{command_in, command_of, words_of, lines_of, script_of, Reads}
+use Rattle.pef_model.specs.Script.{command_in, short_command_of, command_of, words_of, lines_of, script_of, Reads}
 use Rattle.pef_model.specs.Commands.{before_commands, commands_in, first_script}
 use Rattle.pef_model.proofs.ScriptLines.{header, script_of-header}
 
@@ -23,10 +23,11 @@ none_unless true cmd e = absurd (cc)
 none_unless false cmd e = refl
 
 -- a line that isn't CPU 0's is no command
-pub other_cpu : (cpu name first : List ℕ) (words : List (List ℕ)) → true ≡ not (bytes_eq cpu (codes "0")) → command_in (cpu ∷ name ∷ first ∷ words) ≡ None
-other_cpu cpu name first [] e = refl
-other_cpu cpu name first (second ∷ []) e = none_unless (bytes_eq cpu (codes "0")) (command_of name first second) e
-other_cpu cpu name first (second ∷ third ∷ more) e = refl
+pub other_cpu : (cpu name : List ℕ) (words : List (List ℕ)) → true ≡ not (bytes_eq cpu (codes "0")) → command_in (cpu ∷ name ∷ words) ≡ None
+other_cpu cpu name [] e = refl
+other_cpu cpu name (operand ∷ []) e = none_unless (bytes_eq cpu (codes "0")) (short_command_of name operand) e
+other_cpu cpu name (first ∷ second ∷ []) e = none_unless (bytes_eq cpu (codes "0")) (command_of name first second) e
+other_cpu cpu name (first ∷ second ∷ third ∷ more) e = refl
 
 -- a line of more than four words is no command
 pub more_words : (cpu name first second rest : List ℕ) → command_in (cpu ∷ name ∷ first ∷ second ∷ words_of rest) ≡ None

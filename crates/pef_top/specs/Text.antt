@@ -1,13 +1,14 @@
 -- The texts of a report.
-use Rattle.std.specs.Prelude.{ℕ, List, ◌++◌, reverse, codes, decimal}
+use Rattle.std.specs.Prelude.{ℕ, List, ◌++◌, length, reverse, codes, decimal}
 use Rattle.std.specs.List.{flat_map}
 use Rattle.pef_model.specs.declared.command.Cmd.{Cmd}
 use Rattle.pef_model.specs.declared.entry.Answer.{Answer}
 use Rattle.pef_model.specs.Commands.{first_script}
 use Rattle.pef_model.specs.Plan.{plan_of}
-use Rattle.pef_model.specs.Report.{command_name, answer_text, entry_line, report}
+use Rattle.pef_model.specs.Report.{command_name, answer_text, entry_line, frames_below, report}
 use Rattle.pef_model.specs.Run.{run_of}
 use Rattle.pef_model.specs.Script.{Script}
+use Rattle.pef_core.specs.Normal.{frame_at}
 
 -- the line of a step: the script's line, the CPU, the command's name, the answer
 abbrev pub line_text : ℕ → ℕ → Cmd → Answer → List ℕ
@@ -16,6 +17,10 @@ line_text line cpu cmd a = decimal line ++ (codes " " ++ (decimal cpu ++ (codes 
 -- the lines of the entries of a script's run, the oldest first
 abbrev pub entries_text : List Cmd → List ℕ
 entries_text cmds = flat_map entry_line (reverse (run_of (first_script cmds)))
+
+-- the lines of normal frames that hold these bytes, in order
+abbrev pub frames_text : List (List ℕ) → List ℕ
+frames_text frames = frames_below (length frames) (frame_at frames)
 
 -- the report of a script's run
 abbrev pub report_text : Script → List ℕ

@@ -1,20 +1,25 @@
 //! Each line of a report is written byte for byte as the definitions have it.
 
 ghost use Rattle.std.specs.Prelude.{◌≡◌, OnErr, OnOk};
+ghost use Rattle.hex.specs.Hex.{encode_lower};
+ghost use Rattle.sha2.specs.Sha256.{sha256};
 ghost use Rattle.pef_io.specs.Cause.{HasCause};
 ghost use Rattle.pef_io.specs.Sink.{appended, AppendsPrefix};
-ghost use Rattle.pef_model.specs.Report.{command_name, code_name, answer_text, free_text};
+ghost use Rattle.pef_model.specs.Report.{command_name, code_name, answer_text, is_zero, frame_line, free_text};
 ghost use Rattle.pef_top.specs.Text.{line_text};
 
 use itoa::Buffer;
 use pef_io::{Failed, Sink, put, put_all, put_value};
 use pef_model::{Answer, Cmd, Code};
+use sha2::{Digest, Sha256};
 
 /// A command's name in a report.
 fn name_of(cmd: &Cmd) -> &'static [u8]
     ensures { result.now ≡ command_name cmd.now }
 {
     match cmd {
+        Cmd::HLd { .. } => b"h.ld",
+        Cmd::HSt { .. } => b"h.st",
         Cmd::UReturn { .. } => b"u.return",
         Cmd::GLi { .. } => b"g.li",
         Cmd::GLd { .. } => b"g.ld",
@@ -77,6 +82,47 @@ pub fn put_entry<K: Sink>(
     put(sink, b"\n")
 }
 
+/// Whether a frame's bytes are all zero.
+fn is_blank(bytes: &[u8]) -> bool
+    ensures { result ≡ is_zero bytes.now }
+{
+    bytes.iter().all(|byte| *byte == 0)
+}
+
+/// Writes the SHA-256 of a frame's bytes over a text, in lower-case hexadecimal.
+fn write_digest(bytes: &[u8], text: &mut [u8; 64])
+    ensures { text.new ≡ encode_lower (sha256 bytes.now) }
+{
+    hex::encode_to_slice(Sha256::digest(bytes), text).unwrap();
+}
+
+/// Writes the line of a normal frame: its number and the SHA-256 of its bytes. Of a frame that is all zero it writes
+/// nothing. It fails as `put` does.
+pub fn put_frame<K: Sink>(sink: &mut K, number: u32, bytes: &[u8]) -> Result<(), Failed>
+    ensures all { OnOk result
+        (K.written sink.new ≡ appended (K.written sink.old) (frame_line number bytes.now)) }
+    ensures prefix { OnErr result
+        (AppendsPrefix (K.written sink.old) (K.written sink.new) (frame_line number bytes.now)) }
+    ensures cause { HasCause (K.faults sink.old) (K.faults sink.new) result }
+{
+    if is_blank(bytes) {
+        return Ok(());
+    }
+    let mut digits = Buffer::new();
+    let mut digest = [0; 64];
+    write_digest(bytes, &mut digest);
+    put_all(
+        sink,
+        &[
+            b"frame ",
+            digits.format(number).as_bytes(),
+            b" ",
+            &digest,
+            b"\n",
+        ],
+    )
+}
+
 /// Writes the end of a report: the number of free secure frames. It fails as `put` does.
 pub fn put_free<K: Sink>(sink: &mut K, free: u32) -> Result<(), Failed>
     ensures all { OnOk result
@@ -91,3 +137,6 @@ pub fn put_free<K: Sink>(sink: &mut K, free: u32) -> Result<(), Failed>
         &[b"free ", digits.format(free).as_bytes(), b"\nend\n"],
     )
 }
+
+#[cfg(test)]
+mod tests;

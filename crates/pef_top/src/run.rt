@@ -8,10 +8,10 @@ ghost use Rattle.pef_model.specs.Plan.{plan_of};
 ghost use Rattle.pef_model.specs.Run.{run_of};
 ghost use Rattle.pef_model.specs.Script.{born_one};
 ghost use Rattle.pef_core.specs.Steps.{Fits};
-ghost use Rattle.pef_top.specs.Text.{entries_text, report_text};
+ghost use Rattle.pef_top.specs.Text.{entries_text, frames_text, report_text};
 
 use crate::outcome::SCRIPT_LIMIT;
-use crate::report::{put_entry, put_free};
+use crate::report::{put_entry, put_frame, put_free};
 use pef_core::Machine;
 use pef_io::{Failed, Sink};
 use pef_model::{Cmd, Config};
@@ -49,6 +49,20 @@ fn run_commands<K: Sink>(machine: &mut Machine, cmds: &[Cmd], sink: &mut K) -> R
     Ok(())
 }
 
+/// Writes the lines of a machine's normal frames in order. It fails as `put` does.
+fn put_frames<K: Sink>(machine: &Machine, sink: &mut K) -> Result<(), Failed>
+    ensures all { OnOk result
+        (K.written sink.new ≡ appended (K.written sink.old) (frames_text machine.now.normal)) }
+    ensures prefix { OnErr result
+        (AppendsPrefix (K.written sink.old) (K.written sink.new) (frames_text machine.now.normal)) }
+    ensures cause { HasCause (K.faults sink.old) (K.faults sink.new) result }
+{
+    for number in 0..machine.normal() {
+        put_frame(sink, number, machine.frame(number))?;
+    }
+    Ok(())
+}
+
 /// Runs commands on a machine that has done nothing yet, and writes their report. It fails as `put` does.
 pub fn write_report<K: Sink>(
     machine: &mut Machine,
@@ -65,5 +79,6 @@ pub fn write_report<K: Sink>(
     ensures cause { HasCause (K.faults sink.old) (K.faults sink.new) result }
 {
     run_commands(machine, cmds, sink)?;
+    put_frames(machine, sink)?;
     put_free(sink, machine.free())
 }
