@@ -154,7 +154,10 @@ fn loads_what_the_hypervisor_stored(rt: HostRuntime) -> Result<(), Fail> {
     assert_eq!(rt; machine.frame(0).len(), 0x1_0000);
     assert_eq!(rt;
         &machine.frame(0)[..24],
-        [0, 0, 0, 0, 0, 0, 0, 0, 1, 2, 3, 4, 5, 6, 7, 8, 0, 0, 0, 0, 0, 0, 0, 0].as_slice()
+        [
+            0, 0, 0, 0, 0, 0, 0, 0, 1, 2, 3, 4, 5, 6, 7, 8, 0, 0, 0, 0, 0, 0, 0, 0
+        ]
+        .as_slice()
     );
     assert_eq!(rt; &machine.frame(1)[..16], [0u8; 16].as_slice());
     Ok(())
@@ -172,7 +175,10 @@ fn refuses_a_real_address_with_no_place(rt: HostRuntime) -> Result<(), Fail> {
     // A guest has no such command, whatever the address.
     for ra in [0, 4] {
         assert_eq!(rt; machine.step(0, &Cmd::HLd { ra }), Answer::Context);
-        assert_eq!(rt; machine.step(0, &Cmd::HSt { ra, value: 7 }), Answer::Context);
+        assert_eq!(rt;
+            machine.step(0, &Cmd::HSt { ra, value: 7 }),
+            Answer::Context
+        );
     }
     assert_eq!(rt; machine.steps(), 9);
     Ok(())

@@ -192,3 +192,35 @@ fn a_script_past_the_limit_is_read_one_byte_past_it(rt: HostRuntime) -> Result<(
     assert_eq!(rt; source.read(&mut rest), Ok(9));
     Ok(())
 }
+
+#[test]
+fn the_report_shows_each_frame_that_is_not_zero(rt: HostRuntime) -> Result<(), Fail> {
+    let alloc = rt.alloc();
+    // The digests are those of Python's hashlib over the bytes written down by hand.
+    for (lines, report) in [
+        (
+            "0 h.st 0 0x0102030405060708\n0 h.ld 0\n",
+            "4 0 h.st done\n5 0 h.ld val 0x102030405060708\nframe 0 ef0e2c4e17a614b9546566d1c7eea08a6aaadefcc8ea85eb720cc95375d65333\nfree 16\nend\n",
+        ),
+        (
+            "0 h.st 0xfff8 7\n0 h.st 0xf0008 0xffffffffffffffff\n0 h.st 0xf0010 1\n",
+            "4 0 h.st done\n5 0 h.st done\n6 0 h.st done\nframe 0 9f0d9fb12cfd8baaf0dcbd4f0a2b80708824a045954c09bf794f178951327687\nframe 15 0558b88dfecc5c2984e807a9c5ac04957a2c6d7cefcee49c430cb090b2e4b73a\nfree 16\nend\n",
+        ),
+        (
+            "0 h.ld 0xffff8\n0 h.ld 0x100000\n0 h.ld 1\n0 h.ld 0xfffffffffffffff8\n0 h.st 4 1\n0 h.st 0x100000 1\n",
+            "4 0 h.ld val 0x0\n5 0 h.ld hole\n6 0 h.ld hole\n7 0 h.ld hole\n8 0 h.st hole\n9 0 h.st hole\nfree 16\nend\n",
+        ),
+        (
+            "0 h.st 8 5\n0 h.st 8 0\n0 u.return 0 0\n0 h.ld 8\n0 h.st 8 1\n",
+            "4 0 h.st done\n5 0 h.st done\n6 0 u.return enter\n7 0 h.ld context\n8 0 h.st context\nfree 16\nend\n",
+        ),
+    ] {
+        let mut text = b"pef 1\nborn 1\nbegin\n".to_vec(alloc)?;
+        text.extend_from_slice(lines.as_bytes())?;
+        let mut source = MemSource::build(text, Vec::new(alloc));
+        let mut sink = MemSink::build(alloc, 1000, Vec::new(alloc))?;
+        assert_eq!(rt; call(alloc, "run", &mut source, &mut sink)?.status, 0);
+        assert_eq!(rt; sink.bytes(), report.as_bytes());
+    }
+    Ok(())
+}
