@@ -3,7 +3,6 @@ use Rattle.std.proofs.Common.{◌≡◌, ◌≢◌, ℕ, ◌/◌, ◌%◌, ◌^�
 use Rattle.std.proofs.lemmas.List.{get_or-set_same, get_or-set_other, length-set}
 use Rattle.std.proofs.lemmas.Bool.{cases_eq}
 use Rattle.std.proofs.lemmas.Bool.Decides.{nat_tests}
-use Rattle.pef_model.specs.declared.state.Ctx.TheVariants as ctx
 use Rattle.pef_model.specs.declared.command.Cmd.{Cmd}
 use Rattle.pef_model.specs.declared.command.Cmd.TheVariants.{HLd, HSt}
 use Rattle.pef_model.specs.declared.entry.Answer.{Answer}
@@ -12,7 +11,6 @@ use Rattle.pef_model.specs.Plan.{Plan}
 use Rattle.pef_model.specs.Event.{Event, Mark}
 use Rattle.pef_model.specs.Doubleword.{doubleword, with_doubleword}
 use Rattle.pef_model.specs.Target.{Ask, Target, Alone, AtFrame, frame_of, has_real_place, is_guest, is_number}
-use Rattle.pef_model.specs.Cpu.{CpuPart}
 use Rattle.pef_model.specs.GuestPart.{GuestPart}
 use Rattle.pef_model.specs.Guest.{Guest as GuestWhole, next_guest}
 use Rattle.pef_model.specs.Memory.{offset_of, next_frame}
@@ -23,7 +21,7 @@ use Rattle.pef_core.specs.declared.cpu.Cpu.{Cpu}
 use Rattle.pef_core.specs.declared.guest.Guest.{Guest}
 use Rattle.pef_core.specs.Normal.{NormalState, frame_at, with_value, ShowsNormal}
 use Rattle.pef_core.specs.Places.{has_place}
-use Rattle.pef_core.specs.Shows.{ShowsCpu, Shows}
+use Rattle.pef_core.specs.Shows.{Shows}
 use Rattle.pef_core.specs.Rows.{ask_hypervisor, deed_at, entry_hypervisor, frame_after_entry, RowHypervisor, DoesHypervisor, IsInHypervisor}
 use Rattle.pef_core.proofs.Accesses.{placed}
 

@@ -16,7 +16,7 @@ use Rattle.pef_model.specs.Registers.{zero_registers}
 use Rattle.pef_model.specs.Target.{Ask, Target, Alone, AtGuest, AtFrame, frame_of, has_real_place, target_of_hypervisor}
 use Rattle.pef_model.specs.Cpu.{CpuPart, cpu_after_guest}
 use Rattle.pef_model.specs.GuestPart.{GuestPart}
-use Rattle.pef_model.specs.Guest.{Guest as GuestWhole, next_guest, private_doubleword}
+use Rattle.pef_model.specs.Guest.{Guest as GuestWhole, private_doubleword}
 use Rattle.pef_model.specs.Memory.{pool_with}
 use Rattle.pef_model.specs.Deed.{Deed, Reach, NoPage, InFrame, Backs, NoFrame, reach, may_return_in, is_waiting, answering, deed_access, deed_running, deed_gone, deed_hypervisor}
 use Rattle.pef_model.specs.History.{cpu_after, guest_after, pool_after, frame_after, deed_after, ask_of, entry_of, next_entry_by, next_entry}
@@ -208,12 +208,12 @@ running_continues old new generation cmd answer is first_guest first_vcpu curren
     (subst (λ (x : NormalState). ShowsNormal plan x (frame_after_entry plan (λ n. frame_after plan n past) (entry_of ask mark cmd deed))) (sym same_normal)
     (frames_stay plan (normal_of old) (λ n. frame_after plan n past) (entry_of ask mark cmd deed) (running_unframed plan g any ask cmd) fits.normal))
     (row.free ∙ ap (λ (n : ℕ). pool_with n (deed_running plan g any ask cmd).pool) fits.free) where
-  in_generation : (has_real_address cmd ≡ true) ⊎ (generation ≡ old.guest.generation) → (has_real_address cmd ≡ true) ⊎ ((generation == (guest_after plan 1 past).part.generation) ≡ true)
-  in_generation (inl own) = inl own
-  in_generation (inr same) =
-      let e : generation ≡ (guest_after plan 1 past).part.generation = same ∙ fits.guest.generation in
-      let test : (generation == (guest_after plan 1 past).part.generation) ≡ true = grind (arith, nat_tests) in
-      inr test
+      in_generation : (has_real_address cmd ≡ true) ⊎ (generation ≡ old.guest.generation) → (has_real_address cmd ≡ true) ⊎ ((generation == (guest_after plan 1 past).part.generation) ≡ true)
+      in_generation (inl own) = inl own
+      in_generation (inr same) =
+          let e : generation ≡ (guest_after plan 1 past).part.generation = same ∙ fits.guest.generation in
+          let test : (generation == (guest_after plan 1 past).part.generation) ≡ true = grind (arith, nat_tests) in
+          inr test
 
 -- a guest that has ended stays as it is
 gone_leaves : (plan : Plan) (guest : Guest) (g : GuestWhole) (generation : ℕ) (last : Answer) (mark : Mark) (cmd : Cmd) → Shows plan guest g →

@@ -1,7 +1,7 @@
-use Rattle.std.proofs.Common.{◌≡◌, ℕ, List, ◌++◌, ap, ◌∙◌}
-use Rattle.std.proofs.lemmas.Result.{on_err_weaker}
+use Rattle.std.proofs.Common.{◌≡◌, ℕ, List, ◌++◌, Option, ap, ◌∙◌}
+use Rattle.std.proofs.lemmas.Result.{on_err_weaker, on_ok_weaker}
 use Rattle.pef_io.specs.Sink.{appended, AppendsPrefix}
-use Rattle.pef_io.proofs.SinkLemmas.{on_err_holds, AppendsPrefix-append, AppendsPrefix-after}
+use Rattle.pef_io.proofs.SinkLemmas.{on_err_holds, appended-appended, AppendsPrefix-append, AppendsPrefix-after}
 use Rattle.pef_model.specs.Commands.{first_script}
 use Rattle.pef_model.specs.Event.{Event}
 use Rattle.pef_model.specs.History.{pool_after}
@@ -49,3 +49,37 @@ returns-clause-prefix g c =
     AppendsPrefix-after old middle new (entries_text cmds) (frames ++ free) c.in_ok-run_commands.ensures.all
     (AppendsPrefix-after middle after new frames free written (rw (← count) part)))
     c.put_free.ensures.prefix
+
+-- a prefix of the entries
+pub returns-in_err-run_commands-clause-prefix : goal.returns-in_err-run_commands-clause-prefix
+returns-in_err-run_commands-clause-prefix g c =
+    let cmds = c.args.cmds.now in
+    let plan : Plan = plan_of born_one in
+    let past : List Event = run_of (first_script cmds) in
+    let old = g.K.Sink.written c.args.sink.now in
+    let new = g.K.Sink.written c.run_commands.new.sink in
+    on_err_holds c.from_residual.result
+    (AppendsPrefix-append old new (entries_text cmds) (frames_after plan past ++ free_text (pool_after plan past)) c.in_err-run_commands.ensures.prefix)
+
+-- the entries, the frames and the end, all whole
+pub returns-clause-all : goal.returns-clause-all
+returns-clause-all g c =
+    let cmds = c.args.cmds.now in
+    let plan : Plan = plan_of born_one in
+    let past : List Event = run_of (first_script cmds) in
+    let frames : List ℕ = frames_after plan past in
+    let count : c.free.result ≡ pool_after plan past = c.free.ensures ∙ c.in_ok-run_commands.ensures.fits.free in
+    let free : List ℕ = free_text (pool_after plan past) in
+    let shown : frames_text c.run_commands.new.machine.normal ≡ frames = frames_text-fits plan c.run_commands.new.machine past c.in_ok-run_commands.ensures.fits in
+    let old = g.K.Sink.written c.args.sink.now in
+    let middle = g.K.Sink.written c.run_commands.new.sink in
+    let after = g.K.Sink.written c.put_frames.new.sink in
+    let new = g.K.Sink.written c.put_free.new.sink in
+    let written : after ≡ appended middle frames = c.in_ok-put_frames.ensures.all ∙ ap (appended middle) shown in
+    on_ok_weaker c.put_free.result
+    (λ (all : new ≡ appended after (free_text c.free.result)).
+    all ∙ ap (λ (n : ℕ). appended after (free_text n)) count
+    ∙ ap (λ (w : Option (List ℕ)). appended w free) (written ∙ ap (λ (w : Option (List ℕ)). appended w frames) c.in_ok-run_commands.ensures.all)
+    ∙ appended-appended (appended old (entries_text cmds)) frames free
+    ∙ appended-appended old (entries_text cmds) (frames ++ free))
+    c.put_free.ensures.all
