@@ -5,3 +5,4 @@ pub mod OneWord
 pub mod LineText
 pub mod FramesText
 pub mod RunText
+pub mod Reported

@@ -1,4 +1,4 @@
-use Rattle.std.proofs.Common.{◌≡◌, ℕ, List, ◌++◌, Option, ap, ◌∙◌}
+use Rattle.std.proofs.Common.{◌≡◌, ℕ, List, ◌++◌, Option, append_assoc, ap, ◌∙◌}
 use Rattle.std.proofs.lemmas.Result.{on_err_weaker, on_ok_weaker}
 use Rattle.pef_io.specs.Sink.{appended, AppendsPrefix}
 use Rattle.pef_io.proofs.SinkLemmas.{on_err_holds, appended-appended, AppendsPrefix-append, AppendsPrefix-after}
@@ -12,6 +12,16 @@ use Rattle.pef_model.specs.Script.{born_one}
 use Rattle.pef_top.specs.Text.{entries_text, frames_text}
 use Rattle.pef_top.proofs.FramesText.{frames_after, frames_text-fits}
 use Rattle.pef_top.proofs.run.write_report.Goals as goal
+
+-- a prefix of the entries
+pub returns-in_err-run_commands-clause-prefix : goal.returns-in_err-run_commands-clause-prefix
+returns-in_err-run_commands-clause-prefix g c =
+    let cmds = c.args.cmds.now in
+    let plan : Plan = plan_of born_one in
+    let past : List Event = run_of (first_script cmds) in
+    let rest : List ℕ = frames_after plan past ++ free_text (pool_after plan past) in
+    on_err_holds c.from_residual.result
+    (AppendsPrefix-append (g.K.Sink.written c.args.sink.now) (g.K.Sink.written c.run_commands.new.sink) (entries_text cmds) rest c.in_err-run_commands.ensures.prefix)
 
 -- the entries whole, and a prefix of the frames
 pub returns-in_err-put_frames-clause-prefix : goal.returns-in_err-put_frames-clause-prefix
@@ -50,18 +60,7 @@ returns-clause-prefix g c =
     (AppendsPrefix-after middle after new frames free written (rw (← count) part)))
     c.put_free.ensures.prefix
 
--- a prefix of the entries
-pub returns-in_err-run_commands-clause-prefix : goal.returns-in_err-run_commands-clause-prefix
-returns-in_err-run_commands-clause-prefix g c =
-    let cmds = c.args.cmds.now in
-    let plan : Plan = plan_of born_one in
-    let past : List Event = run_of (first_script cmds) in
-    let old = g.K.Sink.written c.args.sink.now in
-    let new = g.K.Sink.written c.run_commands.new.sink in
-    on_err_holds c.from_residual.result
-    (AppendsPrefix-append old new (entries_text cmds) (frames_after plan past ++ free_text (pool_after plan past)) c.in_err-run_commands.ensures.prefix)
-
--- the entries, the frames and the end, all whole
+-- the entries, the frames and the end whole
 pub returns-clause-all : goal.returns-clause-all
 returns-clause-all g c =
     let cmds = c.args.cmds.now in
@@ -75,11 +74,13 @@ returns-clause-all g c =
     let middle = g.K.Sink.written c.run_commands.new.sink in
     let after = g.K.Sink.written c.put_frames.new.sink in
     let new = g.K.Sink.written c.put_free.new.sink in
-    let written : after ≡ appended middle frames = c.in_ok-put_frames.ensures.all ∙ ap (appended middle) shown in
+    let front : after ≡ appended (appended old (entries_text cmds)) frames =
+    c.in_ok-put_frames.ensures.all ∙ ap (appended middle) shown
+    ∙ ap (λ (bytes : Option (List ℕ)). appended bytes frames) c.in_ok-run_commands.ensures.all in
     on_ok_weaker c.put_free.result
-    (λ (all : new ≡ appended after (free_text c.free.result)).
-    all ∙ ap (λ (n : ℕ). appended after (free_text n)) count
-    ∙ ap (λ (w : Option (List ℕ)). appended w free) (written ∙ ap (λ (w : Option (List ℕ)). appended w frames) c.in_ok-run_commands.ensures.all)
-    ∙ appended-appended (appended old (entries_text cmds)) frames free
-    ∙ appended-appended old (entries_text cmds) (frames ++ free))
+    (λ (end : new ≡ appended after (free_text c.free.result)).
+    end ∙ ap (λ (n : ℕ). appended after (free_text n)) count ∙ ap (λ (bytes : Option (List ℕ)). appended bytes free) front
+    ∙ ap (λ (bytes : Option (List ℕ)). appended bytes free) (appended-appended old (entries_text cmds) frames)
+    ∙ appended-appended old (entries_text cmds ++ frames) free
+    ∙ ap (appended old) (append_assoc (entries_text cmds) frames free))
     c.put_free.ensures.all
