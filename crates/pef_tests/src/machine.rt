@@ -154,7 +154,10 @@ fn loads_what_the_hypervisor_stored(rt: HostRuntime) -> Result<(), Fail> {
     assert_eq!(rt; machine.frame(0).len(), 0x1_0000);
     assert_eq!(rt;
         &machine.frame(0)[..24],
-        [0, 0, 0, 0, 0, 0, 0, 0, 1, 2, 3, 4, 5, 6, 7, 8, 0, 0, 0, 0, 0, 0, 0, 0].as_slice()
+        [
+            0, 0, 0, 0, 0, 0, 0, 0, 1, 2, 3, 4, 5, 6, 7, 8, 0, 0, 0, 0, 0, 0, 0, 0
+        ]
+        .as_slice()
     );
     assert!(rt; machine.frame(1).iter().all(|byte| *byte == 0));
     Ok(())
@@ -164,7 +167,10 @@ fn loads_what_the_hypervisor_stored(rt: HostRuntime) -> Result<(), Fail> {
 fn refuses_a_real_address_with_no_place(rt: HostRuntime) -> Result<(), Fail> {
     let mut machine = secure_machine(rt.alloc())?;
     assert_eq!(rt; machine.step(0, &Cmd::HLd { ra: 4 }), Answer::Hole);
-    assert_eq!(rt; machine.step(0, &Cmd::HSt { ra: 4, value: 7 }), Answer::Hole);
+    assert_eq!(rt;
+        machine.step(0, &Cmd::HSt { ra: 4, value: 7 }),
+        Answer::Hole
+    );
     // There are 16 normal frames of 64 KiB.
     assert_eq!(rt; machine.step(0, &Cmd::HLd { ra: 0x10_0000 }), Answer::Hole);
     let past = Cmd::HSt {
@@ -175,7 +181,10 @@ fn refuses_a_real_address_with_no_place(rt: HostRuntime) -> Result<(), Fail> {
     assert_eq!(rt; machine.step(0, &u_return()), Answer::Enter);
     // A guest has no such command.
     assert_eq!(rt; machine.step(0, &Cmd::HLd { ra: 0 }), Answer::Context);
-    assert_eq!(rt; machine.step(0, &Cmd::HSt { ra: 0, value: 7 }), Answer::Context);
+    assert_eq!(rt;
+        machine.step(0, &Cmd::HSt { ra: 0, value: 7 }),
+        Answer::Context
+    );
     assert_eq!(rt; machine.steps(), 7);
     Ok(())
 }
