@@ -2,6 +2,5 @@ pub mod PagesLemmas
 pub mod Accesses
 pub mod GuestRows
 pub mod Loading
-pub mod NormalRows
 pub mod StepLemmas
 pub mod StartLemmas

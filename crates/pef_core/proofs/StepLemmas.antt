@@ -13,11 +13,11 @@ use Rattle.pef_model.specs.declared.entry.PoolSaw.{PoolSaw}
 use Rattle.pef_model.specs.Plan.{Plan}
 use Rattle.pef_model.specs.Event.{Event, Mark}
 use Rattle.pef_model.specs.Registers.{zero_registers}
-use Rattle.pef_model.specs.Target.{Ask, Target, Alone, AtGuest, AtFrame, frame_of, has_real_place, target_of_hypervisor}
+use Rattle.pef_model.specs.Target.{Ask, Target, Alone, AtGuest, AtFrame, frame_of, has_real_place, is_number, target_of_hypervisor}
 use Rattle.pef_model.specs.Cpu.{CpuPart, cpu_after_guest}
 use Rattle.pef_model.specs.GuestPart.{GuestPart}
 use Rattle.pef_model.specs.Guest.{Guest as GuestWhole, private_doubleword}
-use Rattle.pef_model.specs.Memory.{pool_with}
+use Rattle.pef_model.specs.Memory.{pool_with, next_frame}
 use Rattle.pef_model.specs.Deed.{Deed, Reach, NoPage, InFrame, Backs, NoFrame, reach, may_return_in, is_waiting, answering, deed_access, deed_running, deed_gone, deed_hypervisor}
 use Rattle.pef_model.specs.History.{cpu_after, guest_after, pool_after, frame_after, deed_after, ask_of, entry_of, next_entry_by, next_entry}
 use Rattle.pef_core.specs.declared.cpu.Cpu.{Cpu}
@@ -27,12 +27,19 @@ use Rattle.pef_core.specs.Rows.{has_real_address, ask_hypervisor, ask_running, d
 use Rattle.pef_core.specs.Normal.{NormalState, ShowsNormal}
 use Rattle.pef_core.specs.State.{State, normal_of, RunsFirst, IsWhole}
 use Rattle.pef_core.specs.Steps.{Fits, Makes, Continues}
-use Rattle.pef_core.proofs.NormalRows.{frames_stay}
 
 -- the number of free frames after an entry, whether it touched the pool or not
 pool_after_entry : (free : ℕ) (saw : Option PoolSaw) → (if is_some saw then pool_with free saw else free) ≡ pool_with free saw
 pool_after_entry free None = refl
 pool_after_entry free (Some saw) = refl
+
+-- an entry with no frame leaves the frames
+frames_stay : (plan : Plan) (normal : NormalState) (bytes : ℕ → List ℕ) (e : Event) → e.saw.frame ≡ None → ShowsNormal plan normal bytes → ShowsNormal plan normal (frame_after_entry plan bytes e)
+frames_stay plan normal bytes e none shows = record {
+  shift = shows.shift;
+  count = shows.count;
+  bytes = λ n below. shows.bytes n below ∙ sym (ap (λ (f : Option ℕ). if is_number n f then next_frame plan (bytes n) e else bytes n) none);
+}
 
 -- the mark of a step of CPU 0
 abbrev mark_at : ℕ → ℕ → ℕ → Mark

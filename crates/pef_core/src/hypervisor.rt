@@ -1,4 +1,4 @@
-//! What the hypervisor's commands do is what the model says, whatever the CPU, the guest and the normal frames were before.
+//! What the hypervisor's commands do is what the model says, whatever the CPU, the guest and the frames were before.
 
 ghost use Rattle.std.specs.Prelude.{◌≡◌};
 ghost use Rattle.pef_core.specs.declared.guest.Guest.{Guest};
