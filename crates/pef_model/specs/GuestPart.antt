@@ -83,6 +83,8 @@ is_invalid page = is_invalid_kind page.kind where
   is_invalid_kind : Kind → Bool
   is_invalid_kind kind.Invalid = true
   is_invalid_kind kind.Secure = false
+  is_invalid_kind kind.Out = false
+  is_invalid_kind (kind.Shared frame fresh) = false
 
 -- a page that becomes Secure is the last in the order
 abbrev pub with_secure_page : GuestPart → ℕ → GuestPart

@@ -1,6 +1,7 @@
 pub mod Plan
 pub mod Event
 pub mod Doubleword
+pub mod Seal
 pub mod Registers
 pub mod Target
 pub mod Cpu

@@ -12,4 +12,4 @@ pub mod step_laws;
 pub use command::{Cmd, Code, Reg, UV_RETURN};
 pub use config::{Config, EntropyWord, EntropyWords, Lpids};
 pub use entry::{Answer, Entry, Exposed, History, PoolSaw, Saw, Trace};
-pub use state::{Ctx, Kind, Phase, Regs, Run, VState};
+pub use state::{Ctx, Digest32, Kind, Mover, Phase, Regs, Run, Tag, VState, Way};

@@ -22,6 +22,51 @@ pub enum Kind {
     Invalid,
     /// It lies in a secure frame.
     Secure,
+    /// It was paged out: what it holds is sealed, in normal memory.
+    Out,
+    /// It lies in a normal frame, which the hypervisor reads and writes too.
+    Shared {
+        /// The normal frame that backs it, if one does.
+        frame: Option<u32>,
+        /// The next frame that backs it is to be zeroed. A page that has a frame is never fresh.
+        fresh: bool,
+    },
+}
+
+/// The way in which a page moves.
+#[derive(Clone, Copy, Debug, PartialEq, Eq)]
+pub enum Way {
+    /// From normal memory into a secure frame.
+    Inward,
+    /// From its secure frame into normal memory.
+    Outward,
+}
+
+/// Which CPU moves a page, and which way.
+#[derive(Clone, Copy, Debug, PartialEq, Eq)]
+pub struct Mover {
+    /// The CPU's number, from 0.
+    pub cpu: u8,
+    pub way: Way,
+}
+
+/// A SHA-256 digest.
+#[derive(Clone, Copy, Debug, PartialEq, Eq)]
+pub struct Digest32 {
+    pub bytes: [u8; 32],
+}
+
+/// Which page is sealed, and for which time: no two seals of one machine have one tag.
+#[derive(Clone, Copy, Debug, PartialEq, Eq)]
+pub struct Tag {
+    /// The guest's number, from 1.
+    pub lpid: u16,
+    /// The guest's generation, from 1.
+    pub generation: u64,
+    /// The page's number, from 0.
+    pub gfn: u32,
+    /// How often the page was paged out, this time included.
+    pub version: u64,
 }
 
 /// The state of a vCPU.
