@@ -24,3 +24,4 @@ pub mod Doublewords
 pub mod Places
 pub mod Normal
 pub mod Views
+pub mod SeenReports

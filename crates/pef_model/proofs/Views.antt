@@ -248,13 +248,13 @@ alike_prefix (suc n) [] (f ∷ history) h = absurd h
 alike_prefix (suc n) (e ∷ past) [] h = absurd h
 alike_prefix (suc n) (e ∷ past) (f ∷ history) h = alike_prefix n past history h.1
 
-length_alike : (past history : List Event) → AllAlikeOpen past history → length past ≡ length history
+pub length_alike : (past history : List Event) → AllAlikeOpen past history → length past ≡ length history
 length_alike [] [] h = refl
 length_alike [] (f ∷ history) h = absurd h
 length_alike (e ∷ past) [] h = absurd h
 length_alike (e ∷ past) (f ∷ history) h = ap suc (length_alike past history h.1)
 
-one_plan : (one other : Config) → AgreeButWords one other → plan_of one ≡ plan_of other
+pub one_plan : (one other : Config) → AgreeButWords one other → plan_of one ≡ plan_of other
 one_plan one other agree = (λ i. record {
   shift = (agree.same i).shift;
   normal = (agree.same i).normal;

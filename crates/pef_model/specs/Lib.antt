@@ -26,3 +26,5 @@ pub mod GrammarLaw
 pub mod NormalLaw
 pub mod View
 pub mod Alike
+pub mod SeenReport
+pub mod PairLaw

@@ -64,6 +64,10 @@ frames_below (suc n) frames = frames_below n frames ++ frame_line n (frames n)
 abbrev pub free_text : ℕ → List ℕ
 free_text free = codes "free " ++ (decimal free ++ codes "\nend\n")
 
--- the report of a history: its entries, the oldest first; the normal frames that are not all zero; what is free
+-- what follows the entries: the normal frames that are not all zero, and what is free
+abbrev pub report_end : Plan → List Event → List ℕ
+report_end plan past = frames_below plan.normal (λ n. frame_after plan n past) ++ free_text (pool_after plan past)
+
+-- the report of a history: its entries, the oldest first, and the end
 abbrev pub report : Plan → List Event → List ℕ
-report plan past = flat_map entry_line (reverse past) ++ (frames_below plan.normal (λ n. frame_after plan n past) ++ free_text (pool_after plan past))
+report plan past = flat_map entry_line (reverse past) ++ report_end plan past

@@ -1,5 +1,5 @@
 -- What the hypervisor sees of a history.
-use Rattle.std.specs.Prelude.{ℕ, List, [], ◌∷◌, Option, Some, None}
+use Rattle.std.specs.Prelude.{ℕ, Bool, true, false, ◌||◌, List, [], ◌∷◌, Option, Some, None}
 use Rattle.byteorder.specs.Endian.{big_bytes}
 use Rattle.pef_model.specs.declared.state.Ctx.{Ctx}
 use Rattle.pef_model.specs.declared.state.Ctx.TheVariants as ctx
@@ -37,6 +37,15 @@ pub record Sight : Type 0 where
 abbrev pub if_hypervisor : {A : Type 0} → Ctx → A → Option A
 if_hypervisor ctx.Hv x = Some x
 if_hypervisor (ctx.Guest run) x = None
+
+-- whether the hypervisor runs
+abbrev pub is_hypervisor : Ctx → Bool
+is_hypervisor ctx.Hv = true
+is_hypervisor (ctx.Guest run) = false
+
+-- whether the hypervisor sees an entry's step: it ran before it or runs after it
+abbrev pub is_seen : Event → Bool
+is_seen e = is_hypervisor e.saw.before || is_hypervisor e.saw.after
 
 -- the first of two values that is there
 abbrev pub either_of : {A : Type 0} → Option A → Option A → Option A

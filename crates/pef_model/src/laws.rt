@@ -6,6 +6,8 @@ ghost use Rattle.pef_model.specs.ReadLaw.{EachOwnEntriesDecide, TheseFieldsDecid
 ghost use Rattle.pef_model.specs.SecretLaw.{NoSecretInPublicState, NoSecretInOneEntry, NoSecretInDeeds};
 ghost use Rattle.pef_model.specs.SearchLaw.{LastStoreIsNewest, RegIsNewest, LoadGivesLastStore, LastStoreIsStored, LastStoreIsZero};
 ghost use Rattle.pef_model.specs.Alike.{AlikeShowTheSame, OpenIsAlike};
+ghost use Rattle.pef_model.specs.SeenReport.{AlikeReportTheSame, SecretsGiveAlikeRuns};
+ghost use Rattle.pef_model.specs.PairLaw.{SecretStaysIn, ViewShowsStores};
 ghost use Rattle.pef_model.specs.NormalLaw.{FramesHoldLastNorm, GuestLeavesFrames, StoreLeavesGuests};
 
 /// A secure guest that stores 7 loads 7, and the report says so.
@@ -120,6 +122,27 @@ pub fn store_leaves_guests()
 /// views. It says nothing of histories whose guests let out different values, nor of time.
 pub fn alike_show_the_same()
     ensures { AlikeShowTheSame }
+{}
+
+/// Two legal histories that are alike have reports that agree in the hypervisor's lines: the steps that it sees, the frames,
+/// what is free.
+pub fn alike_report_the_same()
+    ensures { AlikeReportTheSame }
+{}
+
+/// Two scripts that differ in secrets alone have alike runs, where the guests let out the same.
+pub fn secrets_give_alike_runs()
+    ensures { SecretsGiveAlikeRuns }
+{}
+
+/// Two runs in which a guest stores 7 and 9: they are alike, and their views are equal.
+pub fn secret_stays_in()
+    ensures { SecretStaysIn }
+{}
+
+/// Two runs in which the hypervisor itself stores 7 and 9: their views differ.
+pub fn view_shows_stores()
+    ensures { ViewShowsStores }
 {}
 
 /// No command seals a page, so histories that are alike but for sealed bytes are alike.

@@ -6,3 +6,4 @@ pub mod LineText
 pub mod FramesText
 pub mod RunText
 pub mod Reported
+pub mod Pairs

@@ -3,3 +3,4 @@ pub mod Input
 pub mod Text
 pub mod Fault
 pub mod Top
+pub mod TwoRuns

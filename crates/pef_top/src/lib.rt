@@ -3,6 +3,7 @@
 
 mod fault;
 mod input;
+pub mod laws;
 mod number;
 mod outcome;
 mod parts;

@@ -1,0 +1,40 @@
+-- Pairs of runs, computed: one in which a secret differs, and one in which the hypervisor's own values do.
+use Rattle.std.specs.Prelude.{◌≡◌, ◌≢◌, ℕ, [], ◌∷◌, replicate}
+use Rattle.pef_model.specs.declared.command.Cmd.TheVariants.{HLd, HSt, UReturn, GLi, GLd, GSt}
+use Rattle.pef_model.specs.Plan.{plan_of}
+use Rattle.pef_model.specs.Script.{Script}
+use Rattle.pef_model.specs.Run.{run_of}
+use Rattle.pef_model.specs.History.{last_store}
+use Rattle.pef_model.specs.View.{view}
+use Rattle.pef_model.specs.Alike.{IsAlike}
+use Rattle.pef_model.specs.RunLaw.{small_config, line_at, return_with}
+
+-- a guest stores a value and loads it, while the hypervisor stores and loads on another CPU
+abbrev pub secret_script : ℕ → Script
+secret_script secret = record {
+  config = small_config;
+  lines =
+      line_at 1 0 (return_with 0) ∷ line_at 2 0 (GLi 20 secret) ∷ line_at 3 0 (GSt 20 0x8) ∷ line_at 4 1 (HSt 0x10 5) ∷ line_at 5 0 (GLd 6 0x8)
+      ∷ line_at 6 1 (HLd 0x10) ∷ line_at 7 1 (return_with 0) ∷ line_at 8 0 (UReturn 1 2 (replicate 9 3)) ∷ [];
+}
+
+-- the runs of that script with two secrets
+pub record ASecretDiffers (one other : ℕ) : Type 0 where
+  -- the guest's memory differs
+  pub stored : last_store (plan_of small_config) (run_of (secret_script one)) 1 0x8 ≡ one
+  pub other_stored : last_store (plan_of small_config) (run_of (secret_script other)) 1 0x8 ≡ other
+  -- the runs are alike, and show the hypervisor the same
+  pub alike : IsAlike small_config (run_of (secret_script one)) small_config (run_of (secret_script other))
+  pub seen : view (plan_of small_config) (run_of (secret_script one)) ≡ view (plan_of small_config) (run_of (secret_script other))
+
+-- a guest that stores 7, and one that stores 9
+abbrev pub SecretStaysIn : Type 0
+SecretStaysIn = ASecretDiffers 7 9
+
+-- the hypervisor stores a value
+abbrev pub open_script : ℕ → Script
+open_script value = record { config = small_config; lines = line_at 1 0 (HSt 0x10 value) ∷ [] }
+
+-- where the hypervisor's own values differ, the views do
+abbrev pub ViewShowsStores : Type 0
+ViewShowsStores = view (plan_of small_config) (run_of (open_script 7)) ≢ view (plan_of small_config) (run_of (open_script 9))

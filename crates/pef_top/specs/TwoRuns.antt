@@ -1,0 +1,33 @@
+-- What two calls wrote whose scripts have alike runs.
+use Rattle.std.specs.Prelude.{◌≡◌, ℕ, List, Option, Some}
+use Rattle.pef_io.specs.Sink.{appended}
+use Rattle.pef_model.specs.Plan.{plan_of}
+use Rattle.pef_model.specs.Run.{run_of}
+use Rattle.pef_model.specs.Script.{Script, Reads}
+use Rattle.pef_model.specs.Alike.{IsAlike}
+use Rattle.pef_model.specs.SeenReport.{ReportTheSame}
+use Rattle.pef_top.specs.Text.{report_text}
+use Rattle.pef_top.specs.Top.{IfReports}
+
+-- what stood on a call's sink before it and after it
+pub record Written : Type 0 where
+  pub old : Option (List ℕ)
+  pub new : Option (List ℕ)
+
+-- a call wrote the whole report of a script's run
+abbrev pub IsReportOf : Script → Written → Type 0
+IsReportOf script w = w.new ≡ appended w.old (report_text script)
+
+-- each of two calls wrote its script's report, and these agree in the hypervisor's lines
+pub record WroteTheSame (script other : Script) (w v : Written) : Type 0 where
+  pub one : IsReportOf script w
+  pub other_one : IsReportOf other v
+  pub agree : ReportTheSame (plan_of script.config) (plan_of other.config) (run_of script) (run_of other)
+
+-- two calls that answered 0, by what their clause says then, and read scripts whose runs are alike, wrote such reports
+abbrev pub AlikeRunsWriteTheSame : Type 0
+AlikeRunsWriteTheSame =
+    (text other_text : List ℕ) (script other : Script) (left other_left : Option (List ℕ)) (w v : Written) →
+    Reads text script → Reads other_text other → IsAlike script.config (run_of script) other.config (run_of other) →
+    IfReports (Some text) left w.old w.new → IfReports (Some other_text) other_left v.old v.new →
+    WroteTheSame script other w v
