@@ -11,11 +11,11 @@ abbrev pub doublewords : List ℕ → List ℕ
 doublewords values = flat_map (big_bytes 8) values
 
 -- a tag as its four doublewords
-abbrev pub tag_bytes : Tag → List ℕ
+unfoldable pub tag_bytes : Tag → List ℕ
 tag_bytes tag = doublewords (tag.lpid ∷ tag.generation ∷ tag.gfn ∷ tag.version ∷ [])
 
 -- block j of the keystream of a key and tag: the SHA-256 of the key, the tag and j
-abbrev pub keystream_block : List ℕ → Tag → ℕ → List ℕ
+unfoldable pub keystream_block : List ℕ → Tag → ℕ → List ℕ
 keystream_block key tag j = sha256 (key ++ (tag_bytes tag ++ big_bytes 8 j))
 
 -- byte i of the keystream: its blocks have 32 bytes

@@ -1,0 +1,4 @@
+pub mod Frame
+pub mod Lent
+pub mod Pool
+pub mod PoolLaw

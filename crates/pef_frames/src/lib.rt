@@ -1,0 +1,13 @@
+//! A secure frame exists once: it is free in the pool, or somebody holds it.
+#![tactic(auto)]
+
+pub mod laws;
+mod normal;
+mod pool;
+mod secure;
+#[cfg(test)]
+mod tests;
+
+pub use normal::NormalFrame;
+pub use pool::Pool;
+pub use secure::SecFrame;

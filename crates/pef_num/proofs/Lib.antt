@@ -1,0 +1,2 @@
+pub mod PutBytes
+pub mod AddressLemmas

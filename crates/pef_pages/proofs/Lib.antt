@@ -1,0 +1,4 @@
+pub mod Orders
+pub mod Moves
+pub mod Oldest
+pub mod Frames
