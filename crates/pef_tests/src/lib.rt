@@ -2,6 +2,14 @@
 #![tactic(auto)]
 
 #[cfg(test)]
+mod frames;
+#[cfg(test)]
 mod machine;
+#[cfg(test)]
+mod num;
+#[cfg(test)]
+mod pages;
+#[cfg(test)]
+mod seal;
 #[cfg(test)]
 mod top;

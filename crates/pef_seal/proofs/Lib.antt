@@ -1,0 +1,6 @@
+pub mod Filled
+pub mod Masks
+mod Messages
+pub mod Places
+pub mod Sizes
+pub mod Tags

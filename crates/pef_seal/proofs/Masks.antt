@@ -1,0 +1,70 @@
+-- The exclusive-or with a keystream, its mask: block by block, and twice.
+use Rattle.std.proofs.Common.{◌≡◌, ℕ, ◌+◌, ◌-◌, ◌*◌, ◌/◌, ◌%◌, ◌<◌, ◌≤◌, List, ◌++◌, length, take, drop, slice_index, bit_xor, arith, ap, sym, ◌∙◌, length-take, inl, inr}
+use Rattle.std.specs.Int.Bits.{xor_assoc, xor_self, xor_zero_r}
+use Rattle.std.proofs.lemmas.List.FromFn.{length-map-range_with_len, get_or-map-range_with_len, fill_by_all}
+use Rattle.std.proofs.lemmas.Bool.{cases_lt}
+use Rattle.std.proofs.lemmas.List.{get_or_append_left, get_or-append_right, get_or-take, get_or-drop}
+use borrow.Rule.Slice.PartMut.{put_mid}
+use Rattle.pef_model.specs.Seal.{keystream, keystream_block, stream_image}
+use Rattle.pef_model.specs.declared.state.Tag.{Tag}
+
+-- the exclusive-or with a number is undone by itself
+pub xor_twice : (a b : ℕ) → bit_xor (bit_xor a b) b ≡ a
+xor_twice a b = xor_assoc a b b ∙ ap (bit_xor a) (xor_self b) ∙ xor_zero_r a
+
+-- a sealed page is as long as the page
+pub length-stream_image : (key : List ℕ) (tag : Tag) (plain : List ℕ) → length (stream_image key tag plain) ≡ length plain
+length-stream_image key tag plain = length-map-range_with_len _ 0 (length plain)
+
+-- byte i of a sealed page
+stream_image-byte : (key : List ℕ) (tag : Tag) (plain : List ℕ) (i : ℕ) → i < length plain →
+    slice_index (stream_image key tag plain) i ≡ bit_xor (slice_index plain i) (keystream key tag i)
+stream_image-byte key tag plain i within =
+    get_or-map-range_with_len (λ (k : ℕ). bit_xor (slice_index plain k) (keystream key tag k)) 0 (length plain) i i 0 within (omega arith)
+
+-- sealing a sealed page gives the page
+pub stream_image-twice : (key : List ℕ) (tag : Tag) (plain : List ℕ) → stream_image key tag (stream_image key tag plain) ≡ plain
+stream_image-twice key tag plain =
+    let sealed = stream_image key tag plain in
+    let long = length-stream_image key tag plain in
+    sym (fill_by_all (λ (k : ℕ). bit_xor (slice_index sealed k) (keystream key tag k)) plain (length sealed) 0 (sym long)
+    (λ k within.
+    sym (ap (λ (b : ℕ). bit_xor b (keystream key tag k)) (stream_image-byte key tag plain k (omega arith)) ∙ xor_twice (slice_index plain k) (keystream key tag k))))
+
+-- byte i of block n of the keystream
+keystream-late : (key : List ℕ) (tag : Tag) (n i : ℕ) → 32 * n ≤ i → i < 32 * n + 32 → slice_index (keystream_block key tag n) (i - 32 * n) ≡ keystream key tag i
+keystream-late key tag n i late below =
+    let block : n ≡ i / 32 = omega arith in
+    let place : i - 32 * n ≡ i % 32 = omega arith in
+    ap (λ (k : ℕ). slice_index (keystream_block key tag n) k) place ∙ ap (λ (m : ℕ). slice_index (keystream_block key tag m) (i % 32)) block
+
+-- the bytes before a place are masked
+abbrev pub IsMasked : List ℕ → Tag → List ℕ → List ℕ → ℕ → Type 0
+IsMasked key tag bytes out end = (i : ℕ) → i < end → slice_index out i ≡ bit_xor (slice_index bytes i) (keystream key tag i)
+
+-- the bytes of one more block are masked
+pub masked-more : (key : List ℕ) (tag : Tag) (bytes out written : List ℕ) (n size : ℕ) → 32 * n + 32 ≤ length out → 32 ≤ size → length written ≡ 32 →
+    ((i : ℕ) → i < length written → slice_index written i ≡ bit_xor (slice_index (take size (drop (32 * n) bytes)) i) (slice_index (keystream_block key tag n) i)) →
+    IsMasked key tag bytes out (32 * n) → IsMasked key tag bytes (put_mid (32 * n) size out written) (32 * (n + 1))
+masked-more key tag bytes out written n size room whole long masked before i below =
+    let front : length (take (32 * n) out) ≡ 32 * n = omega (arith, length-take (32 * n) out) in
+    let rest = drop size (drop (32 * n) out) in
+    elim (cases_lt i (32 * n)) [
+      | inl early ↦
+          get_or_append_left (take (32 * n) out) (written ++ rest) 0 i (omega arith) ∙ get_or-take (32 * n) out i 0 early ∙ before i early
+      | inr late ↦
+          let k = i - 32 * n in
+          let inside : k < 32 = omega arith in
+          get_or-append_right (take (32 * n) out) (written ++ rest) (32 * n) i 0 front late
+          ∙ get_or_append_left written rest 0 k (omega arith)
+          ∙ masked k (omega arith)
+          ∙ ap (λ (b : ℕ). bit_xor b (slice_index (keystream_block key tag n) k)) (get_or-take size (drop (32 * n) bytes) k 0 (omega arith) ∙ get_or-drop (32 * n) bytes k 0 ∙ ap (slice_index bytes) (omega arith))
+          ∙ ap (bit_xor (slice_index bytes i)) (keystream-late key tag n i late (omega arith))
+    ]
+
+-- masked to its end it is the sealed page
+pub masked-all : (key : List ℕ) (tag : Tag) (bytes out : List ℕ) → length out ≡ length bytes → IsMasked key tag bytes out (length bytes) → out ≡ stream_image key tag bytes
+masked-all key tag bytes out long masked =
+    fill_by_all (λ (i : ℕ). bit_xor (slice_index bytes i) (keystream key tag i)) out (length bytes) 0 long masked
+
+pub ruleset twice = stream_image-twice

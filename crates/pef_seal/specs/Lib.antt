@@ -1,0 +1,4 @@
+pub mod PageSize
+pub mod SealLaw
+pub mod Serves
+pub mod Vault
