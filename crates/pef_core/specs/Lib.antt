@@ -1,10 +1,7 @@
-pub mod Places
-pub mod Pages
+pub mod Access
 pub mod Normal
-pub mod Loads
-pub mod Shows
 pub mod Rows
 pub mod State
-pub mod Refused
 pub mod Start
 pub mod Steps
+pub mod Refused

@@ -1,7 +1,8 @@
 -- The normal frames in the machine.
-use Rattle.std.specs.Prelude.{◌≡◌, ℕ, ◌^◌, ◌<◌, List, [], length, replicate, slice_index_or, slice_set}
+use Rattle.std.specs.Prelude.{◌≡◌, ℕ, ◌+◌, ◌^◌, ◌<◌, ◌≤◌, List, [], length, replicate, slice_index_or, slice_set}
 use Rattle.pef_model.specs.Plan.{Plan, IsWithin}
 use Rattle.pef_model.specs.Doubleword.{with_doubleword}
+use Rattle.pef_num.specs.declared.place.Place.{Place}
 
 -- the normal frames, each of 2^shift bytes
 pub record NormalState : Type 0 where
@@ -21,6 +22,11 @@ pub record AreFrames (normal : NormalState) : Type 0 where
   pub shift : IsWithin 8 16 normal.shift
   pub sizes : (n : ℕ) → n < length normal.frames → length (frame_at normal.frames n) ≡ 2 ^ normal.shift
   pub few : length normal.frames < 2 ^ 32
+
+-- a place is one of a doubleword in one of the frames
+pub record IsPlaceIn (normal : NormalState) (place : Place) : Type 0 where
+  pub number : place.page < length normal.frames
+  pub room : place.off + 8 ≤ 2 ^ normal.shift
 
 -- the frames with a doubleword in one of them, at an offset
 abbrev pub with_value : NormalState → ℕ → ℕ → ℕ → NormalState

@@ -1,14 +1,17 @@
 -- What a refused command leaves as it is.
-use Rattle.std.specs.Prelude.{◌≡◌, ℕ, ◌+◌, ◌%◌, ◌^◌, List, slice_index}
+use Rattle.std.specs.Prelude.{◌≡◌, ◌≢◌, ℕ, ◌+◌, ◌-◌, ◌%◌, ◌^◌, List, Some, slice_get, slice_index}
 use Rattle.pef_model.specs.declared.state.Ctx.{Ctx}
 use Rattle.pef_model.specs.declared.state.Ctx.TheVariants as ctx
 use Rattle.pef_model.specs.declared.command.Code.{Code}
 use Rattle.pef_model.specs.declared.entry.Answer.{Answer}
 use Rattle.pef_model.specs.declared.entry.Answer.TheVariants as answer
 use Rattle.pef_model.specs.Registers.{number_of}
-use Rattle.pef_core.specs.declared.cpu.Cpu.{Cpu}
-use Rattle.pef_core.specs.declared.guest.Guest.{Guest}
-use Rattle.pef_core.specs.Loads.{LoadsCall}
+use Rattle.pef_frames.specs.Pool.{PoolState}
+use Rattle.pef_guest.specs.Loads.{LoadsCall}
+use Rattle.pef_guest.specs.declared.cpu.Cpu.{Cpu}
+use Rattle.pef_guest.specs.declared.vcpu.Vcpu.{Vcpu}
+use Rattle.pef_guest.specs.declared.guest.Guest.{Guest}
+use Rattle.pef_guest.specs.Shows.{vcpu_at}
 use Rattle.pef_core.specs.Normal.{NormalState}
 use Rattle.pef_core.specs.State.{State}
 
@@ -17,78 +20,92 @@ pub record ComesBack (old new : List ℕ) (code : Code) : Type 0 where
   pub given : slice_index new 3 ≡ number_of code
   pub rest : LoadsCall old new
 
--- a call of the hypervisor is refused: of the CPU only what the call loads and the last answer change
-pub record RefusesHypervisor (old new : Cpu) (code : Code) : Type 0 where
+-- a refused call of the hypervisor changes of its CPU what the call loads, and the last answer
+pub record RefusesCpu (old new : Cpu) (code : Code) : Type 0 where
+  pub number : new.number ≡ old.number
   pub ctx : new.ctx ≡ old.ctx
   pub lpid : new.lpid ≡ old.lpid
   pub vid : new.vid ≡ old.vid
-  pub regs : ComesBack old.regs new.regs code
+  pub hand : new.hand ≡ old.hand
+  pub gpr : ComesBack old.gpr new.gpr code
   pub last : new.last ≡ answer.Ret code
 
--- a call of a guest is refused: of the guest only what the call loads and the next instruction's address change
-pub record RefusesGuest (old new : Guest) (code : Code) : Type 0 where
+-- a refused call of a guest changes of its vCPU what the call loads, and goes on to the next instruction
+pub record RefusesVcpu (old new : Vcpu) (code : Code) : Type 0 where
+  pub state : new.state ≡ old.state
+  pub generation : new.generation ≡ old.generation
+  pub gpr : ComesBack old.regs.gpr new.regs.gpr code
+  pub nip : new.regs.nip ≡ (old.regs.nip + 4) % 2 ^ 64
+  pub srr0 : new.regs.srr0 ≡ old.regs.srr0
+
+-- a guest is as it was, but for its vCPUs and its count of steps
+pub record SameButVcpus {S : Type 0} (old new : Guest S) : Type 0 where
+  pub lpid : new.lpid ≡ old.lpid
+  pub shift : new.shift ≡ old.shift
+  pub secure : new.secure ≡ old.secure
   pub phase : new.phase ≡ old.phase
   pub generation : new.generation ≡ old.generation
   pub pages : new.pages ≡ old.pages
-  pub state : new.vcpu.state ≡ old.vcpu.state
-  pub taken_up : new.vcpu.generation ≡ old.vcpu.generation
-  pub gpr : ComesBack old.vcpu.regs.gpr new.vcpu.regs.gpr code
-  pub nip : new.vcpu.regs.nip ≡ (old.vcpu.regs.nip + 4) % 2 ^ 64
-  pub srr0 : new.vcpu.regs.srr0 ≡ old.vcpu.regs.srr0
+  pub sealer : new.sealer ≡ old.sealer
 
--- a command of the hypervisor that comes back with a code changes the CPU's registers and the last answer alone; one that met a hole changes the
--- last answer alone; one of a guest changes nothing
-abbrev pub LeavesHypervisor : Cpu → Cpu → Guest → Guest → NormalState → NormalState → Answer → Type 0
-LeavesHypervisor cpu_old cpu_new old new normal_old normal_new (answer.Ret code) = RefusesHypervisor cpu_old cpu_new code × (new ≡ old) × (normal_new ≡ normal_old)
-LeavesHypervisor cpu_old cpu_new old new normal_old normal_new answer.Hole = (cpu_new ≡ record cpu_old { last = answer.Hole }) × (new ≡ old) × (normal_new ≡ normal_old)
-LeavesHypervisor cpu_old cpu_new old new normal_old normal_new answer.Context = (cpu_new ≡ cpu_old) × (new ≡ old) × (normal_new ≡ normal_old)
-LeavesHypervisor cpu_old cpu_new old new normal_old normal_new other = Unit {0}
+-- a guest is as it was, but for its count of steps
+pub record SameGuest {S : Type 0} (old new : Guest S) : Type 0 where
+  pub rest : SameButVcpus old new
+  pub vcpus : new.vcpus.items ≡ old.vcpus.items
 
--- a guest's command that comes back with a code changes the guest's registers alone; one that met a hole changes nothing
-abbrev pub LeavesGuest : Guest → Guest → ℕ → ℕ → Answer → Type 0
-LeavesGuest old new free_old free_new (answer.Ret code) = RefusesGuest old new code × (free_new ≡ free_old)
-LeavesGuest old new free_old free_new answer.Hole = (new ≡ old) × (free_new ≡ free_old)
-LeavesGuest old new free_old free_new answer.Context = (new ≡ old) × (free_new ≡ free_old)
-LeavesGuest old new free_old free_new other = Unit {0}
+-- a guest whose call was refused: of one vCPU what the call loads changes
+pub record RefusesGuest {S : Type 0} (vid : ℕ) (old new : Guest S) (code : Code) : Type 0 where
+  pub rest : SameButVcpus old new
+  pub vcpu : RefusesVcpu (vcpu_at old vid) (vcpu_at new vid) code
+  pub others : (k : ℕ) → k ≢ vid → vcpu_at new k ≡ vcpu_at old k
 
--- a refused call in the hypervisor: the guest and the frames stay
-pub record IsRefusedInHypervisor (old new : State) (code : Code) : Type 0 where
-  pub cpu : RefusesHypervisor old.cpu new.cpu code
-  pub guest : new.guest ≡ old.guest
-  pub shift : new.shift ≡ old.shift
-  pub normal : new.normal ≡ old.normal
-  pub free : new.free ≡ old.free
+-- what a load or store of the hypervisor that met a hole leaves
+abbrev pub LeavesNormal : Cpu → Cpu → NormalState → NormalState → Answer → Type 0
+LeavesNormal cpu cpu_new normal normal_new answer.Hole = (cpu_new ≡ record cpu { last = answer.Hole }) × (normal_new ≡ normal)
+LeavesNormal cpu cpu_new normal normal_new answer.Done = Unit {0}
+LeavesNormal cpu cpu_new normal normal_new (answer.Val value) = Unit {0}
+LeavesNormal cpu cpu_new normal normal_new other = ⊥
 
--- the hypervisor met a hole: the last answer alone changes
-pub record IsHoleInHypervisor (old new : State) : Type 0 where
-  pub cpu : new.cpu ≡ record old.cpu { last = answer.Hole }
-  pub guest : new.guest ≡ old.guest
-  pub shift : new.shift ≡ old.shift
-  pub normal : new.normal ≡ old.normal
-  pub free : new.free ≡ old.free
+-- what a refused UV_RETURN of the hypervisor leaves
+abbrev pub LeavesReturn : {S : Type 0} → Guest S → Guest S → Cpu → Cpu → Answer → Type 0
+LeavesReturn old new cpu cpu_new (answer.Ret code) = RefusesCpu cpu cpu_new code × SameGuest old new
+LeavesReturn old new cpu cpu_new answer.Enter = Unit {0}
+LeavesReturn old new cpu cpu_new other = ⊥
 
--- a refused call in a guest: the CPU and the frames stay
-pub record IsRefusedInGuest (old new : State) (code : Code) : Type 0 where
-  pub guest : RefusesGuest old.guest new.guest code
-  pub cpu : new.cpu ≡ old.cpu
-  pub shift : new.shift ≡ old.shift
-  pub normal : new.normal ≡ old.normal
-  pub free : new.free ≡ old.free
+-- what a command of a guest that was refused, or met a hole or a page on the move, leaves
+abbrev pub LeavesCommand : {S : Type 0} → ℕ → Guest S → Guest S → PoolState → PoolState → Answer → Type 0
+LeavesCommand vid old new pool pool_new (answer.Ret code) = RefusesGuest vid old new code × (pool_new ≡ pool)
+LeavesCommand vid old new pool pool_new answer.Hole = SameGuest old new × (pool_new ≡ pool)
+LeavesCommand vid old new pool pool_new answer.Again = SameGuest old new × (pool_new ≡ pool)
+LeavesCommand vid old new pool pool_new answer.Context = SameGuest old new × (pool_new ≡ pool)
+LeavesCommand vid old new pool pool_new answer.Done = Unit {0}
+LeavesCommand vid old new pool pool_new (answer.Val value) = Unit {0}
+LeavesCommand vid old new pool pool_new (answer.Exit exit) = Unit {0}
+LeavesCommand vid old new pool pool_new other = ⊥
 
--- nothing at all changes
-pub record IsUnchanged (old new : State) : Type 0 where
-  pub cpu : new.cpu ≡ old.cpu
-  pub guest : new.guest ≡ old.guest
-  pub shift : new.shift ≡ old.shift
-  pub normal : new.normal ≡ old.normal
-  pub free : new.free ≡ old.free
+-- of a machine one CPU changes so, and nothing else but counts of steps
+pub record OnCpu {S : Type 0} (n : ℕ) (P : Cpu → Cpu → Type 0) (cpus cpus_new : List Cpu) (guests guests_new : List (Guest S)) (pool pool_new : PoolState) (normal normal_new : NormalState) : Type 0 where
+  pub cpu : (c d : Cpu) → slice_get cpus n ≡ Some c → slice_get cpus_new n ≡ Some d → P c d
+  pub others : (k : ℕ) → k ≢ n → slice_get cpus_new k ≡ slice_get cpus k
+  pub guests_stay : (i : ℕ) (g h : Guest S) → slice_get guests i ≡ Some g → slice_get guests_new i ≡ Some h → SameGuest g h
+  pub pool_stays : pool_new ≡ pool
+  pub normal_stays : normal_new ≡ normal
 
--- a command that comes back with a code changes its caller's registers alone; one that met a hole, or another context, changes nothing but the
--- hypervisor's last answer
-abbrev pub LeavesRest : Ctx → State → State → Answer → Type 0
-LeavesRest ctx.Hv old new (answer.Ret code) = IsRefusedInHypervisor old new code
-LeavesRest (ctx.Guest run) old new (answer.Ret code) = IsRefusedInGuest old new code
-LeavesRest ctx.Hv old new answer.Hole = IsHoleInHypervisor old new
-LeavesRest (ctx.Guest run) old new answer.Hole = IsUnchanged old new
-LeavesRest before old new answer.Context = IsUnchanged old new
-LeavesRest before old new other = Unit {0}
+-- of a machine one guest changes so, and nothing else but counts of steps
+pub record OnGuest {S : Type 0} (i : ℕ) (P : Guest S → Guest S → Type 0) (cpus cpus_new : List Cpu) (guests guests_new : List (Guest S)) (pool pool_new : PoolState) (normal normal_new : NormalState) : Type 0 where
+  pub cpus_stay : cpus_new ≡ cpus
+  pub guest : (g h : Guest S) → slice_get guests i ≡ Some g → slice_get guests_new i ≡ Some h → P g h
+  pub others : (k : ℕ) → k ≢ i → slice_get guests_new k ≡ slice_get guests k
+  pub pool_stays : pool_new ≡ pool
+  pub normal_stays : normal_new ≡ normal
+
+-- a command that comes back with a code changes its caller's registers alone; one that met a hole, a page on the move or another context changes nothing but
+-- the hypervisor's last answer
+abbrev pub LeavesRest : {S : Type 0} → ℕ → Ctx → State S → State S → Answer → Type 0
+LeavesRest n ctx.Hv old new (answer.Ret code) = OnCpu n (λ c d. RefusesCpu c d code) old.cpus new.cpus old.guests new.guests old.pool new.pool old.normal new.normal
+LeavesRest n ctx.Hv old new answer.Hole = OnCpu n (λ c d. d ≡ record c { last = answer.Hole }) old.cpus new.cpus old.guests new.guests old.pool new.pool old.normal new.normal
+LeavesRest n (ctx.Guest run) old new (answer.Ret code) = OnGuest (run.lpid - 1) (λ g h. RefusesGuest run.vid g h code) old.cpus new.cpus old.guests new.guests old.pool new.pool old.normal new.normal
+LeavesRest n (ctx.Guest run) old new answer.Hole = OnGuest (run.lpid - 1) SameGuest old.cpus new.cpus old.guests new.guests old.pool new.pool old.normal new.normal
+LeavesRest n (ctx.Guest run) old new answer.Again = OnGuest (run.lpid - 1) SameGuest old.cpus new.cpus old.guests new.guests old.pool new.pool old.normal new.normal
+LeavesRest n before old new answer.Context = OnCpu n (λ c d. d ≡ c) old.cpus new.cpus old.guests new.guests old.pool new.pool old.normal new.normal
+LeavesRest n before old new other = Unit {0}

@@ -1,22 +1,177 @@
--- A step of the machine does what its row of the model says, whatever the objects were before.
-use Rattle.std.specs.Prelude.{◌≡◌, ℕ, nat_lt, Bool, true, false, if◌then◌else◌, List}
+-- A step on a guest does what its row of the model says, whatever the guest was before.
+use Rattle.std.specs.Prelude.{◌≡◌, ℕ, ◌+◌, ◌^◌, ◌<◌, ◌==◌, Bool, true, false, if◌then◌else◌, List, length}
+use Rattle.std.specs.List.{count_by}
+use Rattle.pef_model.specs.declared.state.Run.{Run}
+use Rattle.pef_model.specs.declared.state.Ctx.{Ctx}
 use Rattle.pef_model.specs.declared.state.Ctx.TheVariants as ctx
+use Rattle.pef_model.specs.declared.state.Regs.{Regs}
 use Rattle.pef_model.specs.declared.command.Cmd.{Cmd}
-use Rattle.pef_model.specs.declared.command.Cmd.TheVariants.{HLd, HSt, UReturn, GLi, GLd, GSt}
+use Rattle.pef_model.specs.declared.command.Cmd.TheVariants.{HLd, HSt, UReturn, GLi, GLd, GSt, GIrq}
 use Rattle.pef_model.specs.declared.entry.Answer.{Answer}
+use Rattle.pef_model.specs.declared.entry.Answer.TheVariants.{Hole, Again}
+use Rattle.pef_model.specs.declared.entry.Answer.TheVariants.{Exit as Exited}
+use Rattle.pef_model.specs.declared.entry.Exit.{Exit}
 use Rattle.pef_model.specs.Plan.{Plan}
 use Rattle.pef_model.specs.Event.{Event, Mark}
-use Rattle.pef_model.specs.Target.{Ask, Target, Alone, AtGuest, AtFrame, target_of_hypervisor, touches_guest, touches_frame}
-use Rattle.pef_model.specs.Cpu.{CpuPart, next_cpu}
-use Rattle.pef_model.specs.GuestPart.{GuestPart}
+use Rattle.pef_model.specs.Target.{Ask, frame_of, has_real_place, touches_frame}
+use Rattle.pef_model.specs.Cpu.{CpuPart, next_cpu, left_registers}
 use Rattle.pef_model.specs.Guest.{Guest as GuestWhole, next_guest}
 use Rattle.pef_model.specs.Memory.{pool_with, next_frame}
-use Rattle.pef_model.specs.Deed.{Deed, deed_alone, deed_running, deed_hypervisor, deed_frame}
+use Rattle.pef_model.specs.Deed.{Deed, Reach, NoPage, InFrame, Backs, NoFrame, Moves, deed_running, deed_return, deed_frame, deed_alone, may_return_in}
 use Rattle.pef_model.specs.History.{entry_of}
-use Rattle.pef_core.specs.declared.cpu.Cpu.{Cpu}
-use Rattle.pef_core.specs.declared.guest.Guest.{Guest}
+use Rattle.pef_frames.specs.Frame.{FrameState}
+use Rattle.pef_frames.specs.Pool.{PoolState}
+use Rattle.pef_frames.specs.PoolLaw.{times_free}
+use Rattle.pef_pages.specs.Pages.{held}
+use Rattle.pef_guest.specs.declared.cpu.Cpu.{Cpu}
+use Rattle.pef_guest.specs.declared.vcpu.Vcpu.{Vcpu}
+use Rattle.pef_guest.specs.declared.guest.Guest.{Guest}
+use Rattle.pef_guest.specs.Shows.{ShowsCpu, Shows}
+use Rattle.pef_core.specs.Access.{is_any_free}
 use Rattle.pef_core.specs.Normal.{NormalState, ShowsNormal}
-use Rattle.pef_core.specs.Shows.{ShowsCpu, Shows}
+
+-- what an access answers, by what it met and by what it answers where it is done
+abbrev pub access_answer : Answer → Reach → Answer
+access_answer success InFrame = success
+access_answer success Backs = success
+access_answer success NoPage = Hole
+access_answer success NoFrame = Hole
+access_answer success Moves = Again
+
+-- a vCPU with other registers
+abbrev pub with_registers : Vcpu → Regs → Vcpu
+with_registers vcpu regs = record vcpu { regs = regs }
+
+-- a vCPU after an access: it has these registers where the access was done
+abbrev pub vcpu_after : Vcpu → Regs → Reach → Vcpu
+vcpu_after vcpu regs InFrame = with_registers vcpu regs
+vcpu_after vcpu regs Backs = with_registers vcpu regs
+vcpu_after vcpu regs NoPage = vcpu
+vcpu_after vcpu regs NoFrame = vcpu
+vcpu_after vcpu regs Moves = vcpu
+
+-- a CPU that a vCPU has left: it is selected, and the registers show what its exit says
+abbrev pub left_by : Cpu → Run → Exit → Cpu
+left_by cpu run exit = record cpu { ctx = ctx.Hv; gpr = left_registers exit; lpid = run.lpid; vid = run.vid; last = Exited exit }
+
+-- how often a number is that of a frame which a guest holds
+abbrev pub times_held : {S : Type 0} → Guest S → ℕ → ℕ
+times_held guest number = count_by (λ (frame : FrameState). frame.number == number) (held guest.pages)
+
+-- a CPU runs a vCPU of a guest, whose phase lets it run
+pub record IsRunning {S : Type 0} (cpu : Cpu) (guest : Guest S) (run : Run) : Type 0 where
+  pub ctx : cpu.ctx ≡ ctx.Guest run
+  pub vid : run.vid < length guest.vcpus.items
+  pub phase : may_return_in guest.phase ≡ true
+
+-- a pool is the one of a guest's machine
+pub record IsPoolOf {S : Type 0} (guest : Guest S) (pool : PoolState) : Type 0 where
+  pub count : pool.count ≡ guest.secure
+  pub size : pool.size ≡ 2 ^ guest.shift
+
+-- what no step changes of a guest
+pub record KeepsGuest {S : Type 0} (old new : Guest S) : Type 0 where
+  pub lpid : new.lpid ≡ old.lpid
+  pub shift : new.shift ≡ old.shift
+  pub secure : new.secure ≡ old.secure
+  pub phase : new.phase ≡ old.phase
+  pub generation : new.generation ≡ old.generation
+  pub pages : length new.pages.pages ≡ length old.pages.pages
+  pub vcpus : length new.vcpus.items ≡ length old.vcpus.items
+  pub steps : new.steps ≡ old.steps + 1
+
+-- a pool keeps its sizes, and each frame stays free or held as often as it was
+pub record KeepsFrames {S : Type 0} (old new : Guest S) (pool pool_new : PoolState) : Type 0 where
+  pub count : pool_new.count ≡ pool.count
+  pub size : pool_new.size ≡ pool.size
+  pub frames : (number : ℕ) → times_held new number + times_free pool_new number ≡ times_held old number + times_free pool number
+
+-- what a command of the vCPU that a CPU runs changes of the CPU: nothing, unless the vCPU leaves
+abbrev pub StaysOrLeaves : Run → Cpu → Cpu → Answer → Type 0
+StaysOrLeaves run old new (Exited exit) = new ≡ left_by old run exit
+StaysOrLeaves run old new other = new ≡ old
+
+-- what a step learns of a CPU of the model that runs a vCPU
+abbrev pub ask_running : Run → CpuPart → Ask
+ask_running run c = record { before = ctx.Guest run; lpid = c.lpid; vid = c.vid; last = c.last }
+
+-- the entry of a step of a guest that runs; any: a secure frame is free
+abbrev pub entry_running : Plan → GuestWhole → CpuPart → Run → Bool → Mark → Cmd → Event
+entry_running plan g c run any mark cmd = entry_of (ask_running run c) mark cmd (deed_running plan g any (ask_running run c) cmd)
+
+-- a step of a guest that runs answers what its entry does, and leaves the guest, the CPU and the number of free frames as the entry does
+pub record RowRunning {S : Type 0} (plan : Plan) (g : GuestWhole) (c : CpuPart) (e : Event) (new : Guest S) (cpu : Cpu) (free free_new : ℕ) (answer : Answer) : Type 0 where
+  pub answered : answer ≡ e.trace.answer
+  pub guest : Shows plan new (next_guest plan g e)
+  pub cpu_is : ShowsCpu cpu (next_cpu c e)
+  pub pool : free_new ≡ pool_with free e.saw.pool
+
+-- a guest does a command of its own, whatever guest and CPU of the model are shown
+abbrev pub DoesCommand : {S : Type 0} → Run → Cmd → Guest S → Guest S → Cpu → Cpu → PoolState → PoolState → Answer → Type 0
+DoesCommand run cmd old new cpu cpu_new pool pool_new answer =
+    (plan : Plan) (g : GuestWhole) (c : CpuPart) (mark : Mark) → Shows plan old g → ShowsCpu cpu c →
+    RowRunning plan g c (entry_running plan g c run (is_any_free pool) mark cmd) new cpu_new (length pool.free) (length pool_new.free) answer
+
+-- what a step learns of a CPU of the model on which the hypervisor runs
+abbrev pub ask_hypervisor : CpuPart → Ask
+ask_hypervisor c = record { before = ctx.Hv; lpid = c.lpid; vid = c.vid; last = c.last }
+
+-- what the hypervisor's load or store does at its real address, with these bytes of each normal frame
+abbrev pub deed_address : Plan → (ℕ → List ℕ) → Ask → ℕ → Cmd → Deed
+deed_address plan bytes ask ra cmd = if has_real_place plan ra then deed_frame plan (frame_of plan ra) (bytes (frame_of plan ra)) ask cmd else deed_alone ask cmd
+
+-- a normal frame after an entry that may touch it
+abbrev pub frame_after_entry : Plan → (ℕ → List ℕ) → Event → ℕ → List ℕ
+frame_after_entry plan bytes e n = if touches_frame n e then next_frame plan (bytes n) e else bytes n
+
+-- a step of the hypervisor at a real address answers what its entry does, and leaves the CPU and the normal frames as the entry does
+pub record RowNormal (plan : Plan) (bytes : ℕ → List ℕ) (c : CpuPart) (e : Event) (cpu : Cpu) (normal : NormalState) (answer : Answer) : Type 0 where
+  pub answered : answer ≡ e.trace.answer
+  pub cpu_is : ShowsCpu cpu (next_cpu c e)
+  pub normal_is : ShowsNormal plan normal (frame_after_entry plan bytes e)
+
+-- the hypervisor loads or stores at a real address, whatever CPU and normal frames of the model are shown
+abbrev pub DoesNormal : ℕ → Cmd → Cpu → Cpu → NormalState → NormalState → Answer → Type 0
+DoesNormal ra cmd cpu cpu_new normal normal_new answer =
+    (plan : Plan) (bytes : ℕ → List ℕ) (c : CpuPart) (mark : Mark) → ShowsCpu cpu c → ShowsNormal plan normal bytes →
+    RowNormal plan bytes c (entry_of (ask_hypervisor c) mark cmd (deed_address plan bytes (ask_hypervisor c) ra cmd)) cpu_new normal_new answer
+
+-- UV_RETURN of the hypervisor answers what its entry does, and leaves the guest and the CPU as the entry does
+pub record RowReturn {S : Type 0} (plan : Plan) (g : GuestWhole) (c : CpuPart) (e : Event) (new : Guest S) (cpu : Cpu) (answer : Answer) : Type 0 where
+  pub answered : answer ≡ e.trace.answer
+  pub guest : Shows plan new (next_guest plan g e)
+  pub cpu_is : ShowsCpu cpu (next_cpu c e)
+
+-- UV_RETURN of the hypervisor, whatever guest and CPU of the model are shown
+abbrev pub DoesReturn : {S : Type 0} → ℕ → ℕ → List ℕ → Guest S → Guest S → Cpu → Cpu → Answer → Type 0
+DoesReturn r0 r2 outs old new cpu cpu_new answer =
+    (plan : Plan) (g : GuestWhole) (c : CpuPart) (mark : Mark) → mark.cpu ≡ cpu.number → Shows plan old g → ShowsCpu cpu c →
+    RowReturn plan g c (entry_of (ask_hypervisor c) mark (UReturn r0 r2 outs) (deed_return g.part (ask_hypervisor c))) new cpu_new answer
+
+-- the hypervisor runs on a CPU
+abbrev pub IsInHypervisor : Cpu → Type 0
+IsInHypervisor cpu = cpu.ctx ≡ ctx.Hv
+
+-- what a step at a real address changes of a CPU: its registers and its last answer
+pub record KeepsSelection (old new : Cpu) : Type 0 where
+  pub number : new.number ≡ old.number
+  pub ctx : new.ctx ≡ old.ctx
+  pub lpid : new.lpid ≡ old.lpid
+  pub vid : new.vid ≡ old.vid
+  pub hand : new.hand ≡ old.hand
+
+-- a context after UV_RETURN: the hypervisor runs, or the selected vCPU does, in its guest's generation, in a phase that lets it run
+abbrev pub Enters : {S : Type 0} → Guest S → Cpu → Ctx → Type 0
+Enters guest cpu ctx.Hv = Unit {0}
+Enters guest cpu (ctx.Guest run) = (run ≡ record { lpid = cpu.lpid; vid = cpu.vid; generation = guest.generation }) × (may_return_in guest.phase ≡ true)
+
+-- what UV_RETURN changes of a CPU
+pub record ReturnsOn {S : Type 0} (guest : Guest S) (old new : Cpu) : Type 0 where
+  pub number : new.number ≡ old.number
+  pub lpid : new.lpid ≡ old.lpid
+  pub vid : new.vid ≡ old.vid
+  pub hand : new.hand ≡ old.hand
+  pub ctx : Enters guest old new.ctx
 
 -- whether a command is a load or store of the hypervisor, which names a real address
 abbrev pub has_real_address : Cmd → Bool
@@ -26,64 +181,4 @@ has_real_address (UReturn r0 r2 outs) = false
 has_real_address (GLi rd value) = false
 has_real_address (GLd rd gpa) = false
 has_real_address (GSt rs gpa) = false
-
--- what a step learns of a CPU on which the hypervisor runs, with vCPU 0 of guest 1 selected
-abbrev pub ask_hypervisor : Answer → Ask
-ask_hypervisor last = record { before = ctx.Hv; lpid = 1; vid = 0; last = last }
-
--- what a step learns of a CPU that runs vCPU 0 of guest 1, taken up in this generation
-abbrev pub ask_running : ℕ → Answer → Ask
-ask_running generation last = record { before = ctx.Guest (record { lpid = 1; vid = 0; generation = generation }); lpid = 1; vid = 0; last = last }
-
--- what a step of the hypervisor does at its target; bytes: those of each normal frame
-abbrev pub deed_at : Plan → GuestPart → (ℕ → List ℕ) → Ask → Cmd → Target → Deed
-deed_at plan part bytes ask cmd Alone = deed_alone ask cmd
-deed_at plan part bytes ask cmd (AtGuest lpid) = deed_hypervisor part ask cmd
-deed_at plan part bytes ask cmd (AtFrame n) = deed_frame plan n (bytes n) ask cmd
-
--- the entry of a step of the hypervisor
-abbrev pub entry_hypervisor : Plan → GuestPart → (ℕ → List ℕ) → Answer → Mark → Cmd → Event
-entry_hypervisor plan part bytes last mark cmd = entry_of (ask_hypervisor last) mark cmd (deed_at plan part bytes (ask_hypervisor last) cmd (target_of_hypervisor plan 1 cmd))
-
--- the entry of a step of a guest that runs; any: a secure frame is free
-abbrev pub entry_running : Plan → GuestWhole → Bool → ℕ → Answer → Mark → Cmd → Event
-entry_running plan g any generation last mark cmd = entry_of (ask_running generation last) mark cmd (deed_running plan g any (ask_running generation last) cmd)
-
--- a guest after an entry that may touch it
-abbrev pub guest_after_entry : Plan → GuestWhole → Event → GuestWhole
-guest_after_entry plan g e = if touches_guest plan 1 e then next_guest plan g e else g
-
--- a normal frame after an entry that may touch it
-abbrev pub frame_after_entry : Plan → (ℕ → List ℕ) → Event → ℕ → List ℕ
-frame_after_entry plan bytes e n = if touches_frame n e then next_frame plan (bytes n) e else bytes n
-
--- a step of a guest that runs answers what its entry does, and leaves the guest and the number of free frames as the entry does
-pub record RowRunning (plan : Plan) (g : GuestWhole) (e : Event) (new : Guest) (free_old free_new : ℕ) (answer : Answer) : Type 0 where
-  pub answered : answer ≡ e.trace.answer
-  pub guest : Shows plan new (guest_after_entry plan g e)
-  pub free : free_new ≡ pool_with free_old e.saw.pool
-
--- a guest does a command of its own, whatever guest of the model it shows
-abbrev pub DoesCommand : Cmd → Guest → Guest → ℕ → ℕ → Answer → Type 0
-DoesCommand cmd old new free_old free_new answer =
-    (plan : Plan) (g : GuestWhole) (mark : Mark) (generation : ℕ) (last : Answer) → Shows plan old g →
-    RowRunning plan g (entry_running plan g (nat_lt 0 free_old) generation last mark cmd) new free_old free_new answer
-
--- a step of the hypervisor answers what its entry does, and leaves the CPU, the guest and the normal frames as the entry does
-pub record RowHypervisor (plan : Plan) (c : CpuPart) (g : GuestWhole) (bytes : ℕ → List ℕ) (e : Event) (new_cpu : Cpu) (new_guest : Guest) (new_normal : NormalState) (answer : Answer) : Type 0 where
-  pub answered : answer ≡ e.trace.answer
-  pub cpu : ShowsCpu new_cpu (next_cpu c e)
-  pub guest : Shows plan new_guest (guest_after_entry plan g e)
-  pub normal : ShowsNormal plan new_normal (frame_after_entry plan bytes e)
-
--- the hypervisor on a CPU of this number does a command, whatever CPU, guest and normal frames of the model these show
-abbrev pub DoesHypervisor : ℕ → Cmd → Cpu → Cpu → Guest → Guest → NormalState → NormalState → Answer → Type 0
-DoesHypervisor id cmd cpu_old cpu_new old new normal_old normal_new answer =
-    (plan : Plan) (c : CpuPart) (g : GuestWhole) (bytes : ℕ → List ℕ) (line place stamp : ℕ) → ShowsCpu cpu_old c → Shows plan old g → ShowsNormal plan normal_old bytes →
-    RowHypervisor plan c g bytes (entry_hypervisor plan g.part bytes cpu_old.last (record { line = line; cpu = id; place = place; stamp = stamp }) cmd) cpu_new new normal_new answer
-
--- the hypervisor runs on a CPU, and vCPU 0 of guest 1 is selected
-pub record IsInHypervisor (cpu : Cpu) : Type 0 where
-  pub ctx : cpu.ctx ≡ ctx.Hv
-  pub lpid : cpu.lpid ≡ 1
-  pub vid : cpu.vid ≡ 0
+has_real_address GIrq = false

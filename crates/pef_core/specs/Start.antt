@@ -1,24 +1,30 @@
 -- The machine as it begins.
-use Rattle.std.specs.Prelude.{◌≡◌, ◌*◌, ◌^◌, ◌≤◌, Bool, true, false}
+use Rattle.std.specs.Prelude.{◌≡◌, ℕ, ◌+◌, ◌^◌, List, length}
 use Rattle.pef_model.specs.declared.config.Config.{Config}
-use Rattle.pef_model.specs.declared.state.Phase.TheVariants as phase
-use Rattle.pef_model.specs.declared.state.VState.TheVariants as vstate
-use Rattle.pef_model.specs.Registers.{fresh_registers}
-use Rattle.pef_core.specs.declared.guest.Guest.{Guest}
-use Rattle.pef_core.specs.Pages.{PagesState}
+use Rattle.pef_model.specs.declared.state.Tag.{Tag}
+use Rattle.pef_seal.specs.Serves.{Serves}
+use Rattle.pef_guest.specs.declared.cpu.Cpu.{Cpu}
+use Rattle.pef_guest.specs.declared.guest.Guest.{Guest}
+use Rattle.pef_guest.specs.Start.{IsStartCpu, IsStartGuest}
+use Rattle.pef_guest.specs.Whole.{IsWhole}
+use Rattle.pef_core.specs.State.{Each}
 
--- a guest as it begins: one that is born secure is Secure, and its vCPU is Fresh
-abbrev pub start_of : Bool → PagesState → Guest
-start_of true pages = record { phase = phase.Secure; generation = 1; pages = pages; vcpu = record { state = vstate.Fresh; generation = 0; regs = fresh_registers } }
-start_of false pages = record { phase = phase.Absent; generation = 1; pages = pages; vcpu = record { state = vstate.Idle; generation = 0; regs = fresh_registers } }
+-- there is a sealer for each guest, and each serves the configuration
+pub record IsServed {S : Type 0} (config : Config) (image : S → Tag → List ℕ → List ℕ) (takes : S → ℕ → ℕ → Type 0) (sealers : List S) : Type 0 where
+  pub count : length sealers ≡ config.guests
+  pub each : Each (λ i sealer. Serves config (image sealer) (takes sealer)) sealers
 
--- one CPU, and one guest with one vCPU
-pub record HasOneOfEach (config : Config) : Type 0 where
-  pub cpus : config.cpus ≡ 1
-  pub guests : config.guests ≡ 1
-  pub vcpus : config.vcpus ≡ 1
+-- these are the CPUs of a configuration as they begin
+pub record AreStartCpus (config : Config) (cpus : List Cpu) : Type 0 where
+  pub count : length cpus ≡ config.cpus
+  pub each : Each (λ n cpu. IsStartCpu n (2 ^ config.shift) cpu) cpus
 
--- the private pages of a guest are at most 64 MiB, and so are the normal frames
-pub record IsWithinMemory (config : Config) : Type 0 where
-  pub pages : config.pages * 2 ^ config.shift ≤ 67108864
-  pub normal : config.normal * 2 ^ config.shift ≤ 67108864
+-- a guest as it begins, whole, whatever its sealer is
+pub record Begins {S : Type 0} (takes : S → ℕ → ℕ → Type 0) (config : Config) (lpid : ℕ) (guest : Guest S) : Type 0 where
+  pub start : IsStartGuest config lpid guest.sealer guest
+  pub whole : IsWhole takes guest
+
+-- these are the guests of a configuration as they begin
+pub record AreStartGuests {S : Type 0} (takes : S → ℕ → ℕ → Type 0) (config : Config) (guests : List (Guest S)) : Type 0 where
+  pub count : length guests ≡ config.guests
+  pub each : Each (λ i guest. Begins takes config (i + 1) guest) guests

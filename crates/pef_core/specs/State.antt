@@ -1,31 +1,89 @@
--- The machine as its clauses see it.
-use Rattle.std.specs.Prelude.{◌≡◌, ℕ, List}
+-- The machine as its clauses see it, and what its type keeps.
+use Rattle.std.specs.Prelude.{◌≡◌, ℕ, ◌+◌, ◌-◌, ◌^◌, ◌==◌, ◌<◌, ◌≤◌, nat_lt, true, if◌then◌else◌, List, ◌++◌, length, Option, Some, None, slice_get}
+use Rattle.std.specs.List.{count_by, flat_map}
 use Rattle.pef_model.specs.declared.state.Ctx.{Ctx}
 use Rattle.pef_model.specs.declared.state.Ctx.TheVariants as ctx
-use Rattle.pef_core.specs.declared.cpu.Cpu.{Cpu}
-use Rattle.pef_core.specs.declared.guest.Guest.{Guest}
+use Rattle.pef_model.specs.Deed.{may_return_in}
+use Rattle.pef_frames.specs.Frame.{numbers_of}
+use Rattle.pef_frames.specs.Pool.{PoolState}
+use Rattle.pef_pages.specs.Pages.{held}
+use Rattle.pef_guest.specs.declared.cpu.Cpu.{Cpu}
+use Rattle.pef_guest.specs.declared.guest.Guest.{Guest}
+use Rattle.pef_guest.specs.Whole.{IsWhole}
 use Rattle.pef_core.specs.Normal.{NormalState}
 
--- the one CPU, the one guest, the shift of a frame's size, the bytes of each normal frame, the number of free secure frames, the number of steps so far
-pub record State : Type 0 where
-  pub cpu : Cpu
-  pub guest : Guest
-  pub shift : ℕ
-  pub normal : List (List ℕ)
-  pub free : ℕ
+-- the CPUs from number 0 on, the guests from number 1 on, the free secure frames, the normal frames, the number of steps so far
+pub record State (S : Type 0) : Type 0 where
+  pub cpus : List Cpu
+  pub guests : List (Guest S)
+  pub pool : PoolState
+  pub normal : NormalState
   pub steps : ℕ
 
--- the normal frames of the machine
-abbrev pub normal_of : State → NormalState
-normal_of machine = record { shift = machine.shift; frames = machine.normal }
+-- a guest by its number
+abbrev pub guest_at : {S : Type 0} → List (Guest S) → ℕ → Option (Guest S)
+guest_at guests lpid = slice_get guests (lpid - 1)
 
--- the vCPU that runs, if one does, is vCPU 0 of guest 1
-abbrev pub RunsFirst : Ctx → Type 0
-RunsFirst ctx.Hv = Unit {0}
-RunsFirst (ctx.Guest run) = (run.lpid ≡ 1) × (run.vid ≡ 0)
+-- a guest has a vCPU of this number
+abbrev pub HasVcpu : {S : Type 0} → Option (Guest S) → ℕ → Type 0
+HasVcpu None vid = ⊥
+HasVcpu (Some guest) vid = vid < length guest.vcpus.items
 
--- the CPU runs and selects no other than vCPU 0 of guest 1
-pub record IsWhole (cpu : Cpu) : Type 0 where
-  pub runs : RunsFirst cpu.ctx
-  pub lpid : cpu.lpid ≡ 1
-  pub vid : cpu.vid ≡ 0
+-- a guest and a vCPU of it, by their numbers
+pub record IsVcpu {S : Type 0} (guests : List (Guest S)) (lpid vid : ℕ) : Type 0 where
+  pub least : 1 ≤ lpid
+  pub has : HasVcpu (guest_at guests lpid) vid
+
+-- where a guest is still in a generation, its phase lets a vCPU run
+abbrev pub MayRun : {S : Type 0} → Option (Guest S) → ℕ → Type 0
+MayRun None generation = ⊥
+MayRun (Some guest) generation = generation ≡ guest.generation → may_return_in guest.phase ≡ true
+
+-- what a CPU runs is a vCPU of the machine
+abbrev pub RunsVcpu : {S : Type 0} → List (Guest S) → Ctx → Type 0
+RunsVcpu guests ctx.Hv = Unit {0}
+RunsVcpu guests (ctx.Guest run) = IsVcpu guests run.lpid run.vid × MayRun (guest_at guests run.lpid) run.generation
+
+-- a CPU has its number and a hand of one page, and selects and runs vCPUs of the machine
+pub record IsCpuOf {S : Type 0} (guests : List (Guest S)) (shift n : ℕ) (cpu : Cpu) : Type 0 where
+  pub number : cpu.number ≡ n
+  pub selects : IsVcpu guests cpu.lpid cpu.vid
+  pub runs : RunsVcpu guests cpu.ctx
+  pub hand : length cpu.hand ≡ 2 ^ shift
+
+-- a guest is whole, has its number and the machine's sizes, and no more steps than the machine
+pub record IsGuestOf {S : Type 0} (takes : S → ℕ → ℕ → Type 0) (m : State S) (i : ℕ) (guest : Guest S) : Type 0 where
+  pub whole : IsWhole takes guest
+  pub lpid : guest.lpid ≡ i + 1
+  pub shift : guest.shift ≡ m.normal.shift
+  pub secure : guest.secure ≡ m.pool.count
+  pub steps : guest.steps ≤ m.steps
+
+-- the numbers of the free secure frames, and of those in all pages
+abbrev pub secure_frames : {S : Type 0} → State S → List ℕ
+secure_frames m = m.pool.free ++ flat_map (λ guest. numbers_of (held guest.pages)) m.guests
+
+-- each secure frame is in exactly one place
+abbrev pub FramesOnce : {S : Type 0} → State S → Type 0
+FramesOnce m = (number : ℕ) → count_by (λ n. n == number) (secure_frames m) ≡ (if nat_lt number m.pool.count then 1 else 0)
+
+-- each element of a list, with its place from 0
+abbrev pub Each : {X : Type 0} → (ℕ → X → Type 0) → List X → Type 0
+Each {X = X} P xs = (n : ℕ) (x : X) → slice_get xs n ≡ Some x → P n x
+
+-- a machine is whole
+pub record IsWholeMachine {S : Type 0} (takes : S → ℕ → ℕ → Type 0) (m : State S) : Type 0 where
+  pub cpus : Each (IsCpuOf m.guests m.normal.shift) m.cpus
+  pub guests : Each (IsGuestOf takes m) m.guests
+  pub size : m.pool.size ≡ 2 ^ m.normal.shift
+  pub frames_once : FramesOnce m
+
+-- there is a CPU of this number, and it is in this context
+pub record HasContext (cpus : List Cpu) (n : ℕ) (context : Ctx) : Type 0 where
+  pub below : n < length cpus
+  pub is : (cpu : Cpu) → slice_get cpus n ≡ Some cpu → cpu.ctx ≡ context
+
+-- a step of the machine is counted already, and not yet one of its guests
+pub record HasSteps {S : Type 0} (m : State S) : Type 0 where
+  pub few : m.steps ≤ 2 ^ 63
+  pub fewer : Each (λ i guest. guest.steps < m.steps) m.guests

@@ -1,40 +1,23 @@
 //! What the hypervisor's commands do is what the model says, whatever the CPU, the guest and the frames were before.
 
-ghost use Rattle.std.specs.Prelude.{◌≡◌};
-ghost use Rattle.pef_core.specs.declared.guest.Guest.{Guest};
-ghost use Rattle.pef_core.specs.Normal.{NormalState};
-ghost use Rattle.pef_core.specs.Rows.{DoesHypervisor, IsInHypervisor, has_real_address};
-ghost use Rattle.pef_core.specs.Refused.{LeavesHypervisor};
-ghost use Rattle.pef_core.specs.State.{IsWhole};
+ghost use Rattle.std.specs.Prelude.{◌≡◌, ◌^◌, ◌<◌, length};
+ghost use Rattle.pef_guest.specs.Whole.{IsWhole};
+ghost use Rattle.pef_model.specs.declared.command.Cmd.TheVariants.{HLd, HSt};
+ghost use Rattle.pef_core.specs.Refused.{LeavesNormal, LeavesReturn};
+ghost use Rattle.pef_core.specs.Rows.{DoesNormal, DoesReturn, IsInHypervisor, KeepsSelection, ReturnsOn, KeepsGuest};
 
-use crate::cpu::Cpu;
-use crate::guest::Guest;
 use crate::normal::Normal;
-use crate::registers;
-use pef_model::{Answer, Cmd, Code};
-
-/// A command of the hypervisor on the CPU of this number.
-pub fn command(cpu: &mut Cpu, guest: &mut Guest, normal: &mut Normal, id: u8, cmd: &Cmd) -> Answer
-    requires { IsInHypervisor cpu.old }
-    ensures whole { IsWhole cpu.new }
-    ensures row { DoesHypervisor id cmd.now cpu.old cpu.new guest.old guest.new normal.old normal.new result }
-    ensures refused { LeavesHypervisor cpu.old cpu.new guest.old guest.new normal.old normal.new result }
-{
-    match cmd {
-        Cmd::HLd { ra } => load(cpu, normal, id, *ra),
-        Cmd::HSt { ra, value } => store(cpu, normal, id, *ra, *value),
-        Cmd::UReturn { r0, r2, outs } => uv_return(cpu, guest, id, *r0, *r2, outs),
-        Cmd::GLi { .. } | Cmd::GLd { .. } | Cmd::GSt { .. } => other_context(),
-    }
-}
+use pef_guest::{Cpu, Guest, registers};
+use pef_model::{Answer, Code};
+use pef_seal::Seal;
 
 /// The hypervisor loads the doubleword at a real address into R3. Hole where the address is no multiple of 8 or past the
 /// last normal frame.
-fn load(cpu: &mut Cpu, normal: &Normal, id: u8, ra: u64) -> Answer
+pub fn load(cpu: &mut Cpu, normal: &Normal, ra: u64) -> Answer
     requires { IsInHypervisor cpu.old }
-    ensures whole { IsWhole cpu.new }
-    ensures row { (guest : Guest) → DoesHypervisor id (Cmd.HLd ra) cpu.old cpu.new guest guest normal.now normal.now result }
-    ensures refused { (guest : Guest) → LeavesHypervisor cpu.old cpu.new guest guest normal.now normal.now result }
+    ensures keeps { KeepsSelection cpu.old cpu.new }
+    ensures refused { LeavesNormal cpu.old cpu.new normal.now normal.now result }
+    ensures row { DoesNormal ra (HLd ra) cpu.old cpu.new normal.now normal.now result }
 {
     let Some(place) = normal.place_of(ra) else {
         return cpu.answer(Answer::Hole);
@@ -43,11 +26,12 @@ fn load(cpu: &mut Cpu, normal: &Normal, id: u8, ra: u64) -> Answer
 }
 
 /// The hypervisor stores a doubleword at a real address. Hole where a load has it.
-fn store(cpu: &mut Cpu, normal: &mut Normal, id: u8, ra: u64, value: u64) -> Answer
+pub fn store(cpu: &mut Cpu, normal: &mut Normal, ra: u64, value: u64) -> Answer
     requires { IsInHypervisor cpu.old }
-    ensures whole { IsWhole cpu.new }
-    ensures row { (guest : Guest) → DoesHypervisor id (Cmd.HSt ra value) cpu.old cpu.new guest guest normal.old normal.new result }
-    ensures refused { (guest : Guest) → LeavesHypervisor cpu.old cpu.new guest guest normal.old normal.new result }
+    ensures keeps { KeepsSelection cpu.old cpu.new }
+    ensures shift { normal.new.shift ≡ normal.old.shift }
+    ensures refused { LeavesNormal cpu.old cpu.new normal.old normal.new result }
+    ensures row { DoesNormal ra (HSt ra value) cpu.old cpu.new normal.old normal.new result }
 {
     let Some(place) = normal.place_of(ra) else {
         return cpu.answer(Answer::Hole);
@@ -56,38 +40,35 @@ fn store(cpu: &mut Cpu, normal: &mut Normal, id: u8, ra: u64, value: u64) -> Ans
     cpu.answer(Answer::Done)
 }
 
-/// UV_RETURN: the selected vCPU runs from now on. U_INVALID where its guest is neither Starting nor Secure, or where
-/// the vCPU isn't Fresh.
-fn uv_return(cpu: &mut Cpu, guest: &mut Guest, id: u8, r0: u64, r2: u64, outs: &[u64; 9]) -> Answer
-    requires { IsInHypervisor cpu.old }
-    ensures whole { IsWhole cpu.new }
-    ensures row { (normal : NormalState) → DoesHypervisor id (Cmd.UReturn r0 r2 outs.now) cpu.old cpu.new guest.old guest.new normal normal result }
-    ensures refused { (normal : NormalState) → LeavesHypervisor cpu.old cpu.new guest.old guest.new normal normal result }
+/// UV_RETURN: the selected vCPU runs from now on. U_INVALID where its guest is neither Starting nor Secure, or where the
+/// vCPU is neither Fresh nor Parked.
+pub fn uv_return<S: Seal>(
+    guest: &mut Guest<S>,
+    cpu: &mut Cpu,
+    r0: u64,
+    r2: u64,
+    outs: &[u64; 9],
+) -> Answer
+    requires hypervisor { IsInHypervisor cpu.old }
+    requires vcpu { cpu.old.vid < length guest.old.vcpus.items }
+    requires whole { IsWhole S.takes guest.old }
+    requires steps { guest.old.steps < 2 ^ 63 }
+    ensures whole { IsWhole S.takes guest.new }
+    ensures keeps { KeepsGuest guest.old guest.new }
+    ensures pages { guest.new.pages ≡ guest.old.pages }
+    ensures returns { ReturnsOn guest.new cpu.old cpu.new }
+    ensures refused { LeavesReturn guest.old guest.new cpu.old cpu.new result }
+    ensures row { DoesReturn r0 r2 outs.now guest.old guest.new cpu.old cpu.new result }
 {
-    registers::load_return(&mut cpu.regs, r0, r2, outs);
+    guest.steps += 1;
+    registers::load_return(&mut cpu.gpr, r0, r2, outs);
     if !guest.may_return() {
         return cpu.refuse(Code::UInvalid);
     }
-    if !guest.vcpu.is_waiting() {
+    let vcpu = &mut guest.vcpus[cpu.vid as usize];
+    if !vcpu.is_waiting() {
         return cpu.refuse(Code::UInvalid);
     }
-    guest.vcpu.take_up(id, guest.generation, r2);
+    vcpu.take_up(cpu.number, guest.generation, r2);
     cpu.enter(guest.generation)
-}
-
-/// Whether a command is a load or store of the hypervisor, which names a real address.
-pub fn has_real_address(cmd: &Cmd) -> bool
-    ensures { result ≡ has_real_address cmd.now }
-{
-    match cmd {
-        Cmd::HLd { .. } | Cmd::HSt { .. } => true,
-        Cmd::UReturn { .. } | Cmd::GLi { .. } | Cmd::GLd { .. } | Cmd::GSt { .. } => false,
-    }
-}
-
-/// A guest's command, while the hypervisor runs: nothing is done.
-fn other_context() -> Answer
-    ensures { result ≡ Answer.Context }
-{
-    Answer::Context
 }

@@ -1,17 +1,11 @@
-//! Each step of the machine is the one that the model gives after every history that fits it.
+//! One step of a machine is the one entry that the model gives next, whatever history the machine has behind it.
 #![tactic(auto)]
 
-pub mod cpu;
-pub mod doubleword;
-pub mod frame;
-pub mod guest;
-pub mod hypervisor;
-pub mod machine;
-pub mod normal;
-pub mod page;
-pub mod pages;
-pub mod place;
-pub mod registers;
-pub mod vcpu;
+mod access;
+mod hypervisor;
+mod machine;
+mod normal;
+mod place;
+mod running;
 
 pub use machine::Machine;

@@ -1,99 +1,191 @@
 //! The steps of the machine, one after another, are the history that the model gives.
 
-ghost use Rattle.std.specs.Prelude.{◌≡◌, ◌+◌, ◌^◌, ◌<◌, [], length, IfOk};
+ghost use Rattle.std.specs.Prelude.{◌≡◌, ◌+◌, ◌^◌, ◌<◌, ◌≤◌, [], ℕ, length, IfOk, Some, slice_get};
 ghost use Rattle.pef_model.specs.Plan.{IsInRange, plan_of};
+ghost use Rattle.pef_seal.specs.Serves.{Serves};
+ghost use Rattle.pef_guest.specs.Start.{IsStartCpu};
 ghost use Rattle.pef_core.specs.Normal.{frame_at};
-ghost use Rattle.pef_core.specs.Start.{HasOneOfEach, IsWithinMemory};
-ghost use Rattle.pef_core.specs.Refused.{LeavesRest};
+ghost use Rattle.pef_core.specs.State.{FramesOnce, HasContext, HasSteps};
+ghost use Rattle.pef_core.specs.Start.{IsServed, AreStartCpus, AreStartGuests};
 ghost use Rattle.pef_core.specs.Steps.{Fits, Continues};
+ghost use Rattle.pef_core.specs.Refused.{LeavesRest};
+ghost use Rattle.pef_guest.specs.declared.cpu.Cpu.{Cpu};
+ghost use Rattle.pef_core.specs.Rows.{has_real_address};
 
-use crate::cpu::Cpu;
-use crate::guest::Guest;
-use crate::hypervisor;
 use crate::normal::Normal;
-use crate::pages::Pages;
-use pef_model::{Answer, Cmd, Config, Ctx};
+use crate::{hypervisor, running};
+use pef_frames::{NormalFrame, Pool};
+use pef_guest::{Cpu, Guest};
+use pef_model::{Answer, Cmd, Config, Ctx, Run};
+use pef_seal::Seal;
 use std::alloc::{AllocError, Global};
 use std::marker::Model;
 
-/// A machine with one CPU and one guest. It has all its memory from the start: a step takes none.
+/// A machine. It has all its memory from the start: a step takes none.
 #[derive(Drop)]
-pub struct Machine {
-    cpu: Cpu,
-    guest: Guest,
+pub struct Machine<S: Seal> {
+    cpus: Vec<Cpu>,
+    guests: Vec<Guest<S>>,
+    /// The free secure frames.
+    pool: Pool,
     /// The memory that the hypervisor loads and stores.
     normal: Normal,
-    /// How many secure frames are free.
-    free: u32,
     /// How many steps were done.
     steps: u64,
 }
 
-impl Model for Machine {
-    ghost use Rattle.pef_core.specs.State.{State, IsWhole};
+impl<S: Seal> Model for Machine<S> {
+    ghost use Rattle.pef_core.specs.State.{State, IsWholeMachine};
 
-    ghost Value = { State };
+    ghost Value = { State S };
 
-    ghost view = { λ m. record { cpu = m.cpu; guest = m.guest; shift = m.normal.shift; normal = m.normal.frames; free = m.free; steps = m.steps } };
+    ghost view = { λ m. record { cpus = m.cpus.items; guests = m.guests.items; pool = m.pool; normal = m.normal; steps = m.steps } };
 
-    ghost invariant = { λ m. IsWhole m.cpu };
+    ghost invariant = { λ m. IsWholeMachine S.takes (record { cpus = m.cpus.items; guests = m.guests.items; pool = m.pool; normal = m.normal; steps = m.steps }) };
 }
 
-/// Whether guest 1 is secure from the start.
-fn is_born(config: &Config) -> bool
-    ensures { result ≡ (plan_of config.now).is_born 1 }
+/// The CPUs of a configuration.
+fn build_cpus(alloc: Global, config: &Config) -> Result<Vec<Cpu>, AllocError>
+    requires { IsInRange config.now }
+    ensures { IfOk result (λ cpus. AreStartCpus config.now cpus.items) }
 {
-    config.born.as_slice().iter().any(|lpid| *lpid == 1)
+    let mut cpus = Vec::new(alloc);
+    for number in 0..config.cpus {
+        cpus.push(Cpu::build(alloc, number, 1 << config.shift)?)?;
+    }
+    Ok(cpus)
 }
 
-impl Machine {
-    /// The machine of a configuration, before its first step. Guest 1 is secure where the configuration says that it
-    /// is born so. The one error is that there is no memory for the guest's pages and the normal frames.
-    pub fn build(alloc: Global, config: &Config) -> Result<Machine, AllocError>
+/// The guests of a configuration, each with its sealer.
+fn build_guests<S: Seal>(
+    alloc: Global,
+    config: &Config,
+    sealers: Vec<S>,
+) -> Result<Vec<Guest<S>>, AllocError>
+    requires range { IsInRange config.now }
+    requires sealers { IsServed config.now S.image S.takes sealers.items }
+    ensures { IfOk result (λ guests. AreStartGuests S.takes config.now guests.items) }
+{
+    let mut guests = Vec::new(alloc);
+    for sealer in sealers {
+        let lpid = guests.len() as u16 + 1;
+        guests.push(Guest::build(alloc, config, lpid, sealer)?)?;
+    }
+    Ok(guests)
+}
+
+/// Whether a command is a load or store of the hypervisor, which names a real address.
+fn has_real_address(cmd: &Cmd) -> bool
+    ensures { result ≡ has_real_address cmd.now }
+{
+    match cmd {
+        Cmd::HLd { .. } | Cmd::HSt { .. } => true,
+        Cmd::UReturn { .. } | Cmd::GLi { .. } | Cmd::GLd { .. } | Cmd::GSt { .. } | Cmd::GIrq =>
+            false,
+    }
+}
+
+impl<S: Seal> Machine<S> {
+    /// The machine of a configuration, before its first step, with a sealer for each guest in order of lpid. The one error
+    /// is that there is no memory for it.
+    pub fn build(alloc: Global, config: &Config, sealers: Vec<S>) -> Result<Machine<S>, AllocError>
         requires range { IsInRange config.now }
-        requires one { HasOneOfEach config.now }
-        requires memory { IsWithinMemory config.now }
+        requires sealers { IsServed config.now S.image S.takes sealers.items }
         ensures fits { IfOk result (λ machine. Fits (plan_of config.now) machine []) }
+        ensures frames_once { IfOk result FramesOnce }
         ensures steps { IfOk result (λ machine. machine.steps ≡ 0) }
-        ensures free { IfOk result (λ machine. machine.free ≡ config.now.secure) }
     {
-        let pages = Pages::invalid(alloc, config.shift, config.pages)?;
-        let normal = Normal::zeroed(alloc, config.shift, config.normal)?;
+        let cpus = build_cpus(alloc, config)?;
+        let guests = build_guests(alloc, config, sealers)?;
+        let pool = Pool::build(alloc, config.secure, 1 << config.shift)?;
+        let normal = Normal::build(alloc, config.shift, config.normal)?;
         Ok(Machine {
-            cpu: Cpu::new(),
-            guest: Guest::start(is_born(config), pages),
+            cpus,
+            guests,
+            pool,
             normal,
-            free: config.secure,
             steps: 0,
         })
     }
 
-    /// One step of a CPU, which is below the number of CPUs, 1: it does the command, and says what it answered.
+    /// One step of a CPU, which is below the number of CPUs: it does the command, and says what it answered.
     pub fn step(&mut self, cpu: u8, cmd: &Cmd) -> Answer
-        requires cpu { cpu ≡ 0 }
+        requires cpu { cpu < length self.old.cpus }
         requires count { self.old.steps < 2 ^ 63 }
         ensures step { Continues self.old self.new cpu cmd.now result }
-        ensures refused { LeavesRest self.old.cpu.ctx self.old self.new result }
+        ensures frames_once { FramesOnce self.new }
+        ensures refused { (own : Cpu) → slice_get self.old.cpus cpu ≡ Some own → LeavesRest cpu own.ctx self.old self.new result }
         ensures count { self.new.steps ≡ self.old.steps + 1 }
+        ensures cpus { length self.new.cpus ≡ length self.old.cpus }
     {
         self.steps += 1;
-        match self.cpu.ctx {
-            Ctx::Hv => hypervisor::command(
-                &mut self.cpu,
-                &mut self.guest,
-                &mut self.normal,
-                cpu,
-                cmd,
-            ),
-            Ctx::Guest(run) => {
-                // A command of the hypervisor does nothing here, even where the guest has ended.
-                if hypervisor::has_real_address(cmd) || run.generation == self.guest.generation {
-                    self.guest.command(&mut self.free, cmd)
-                } else {
-                    self.cpu.gone()
-                }
-            }
+        match self.cpus[cpu as usize].ctx {
+            Ctx::Hv => self.step_hypervisor(cpu, cmd),
+            Ctx::Guest(run) => self.step_running(cpu, run, cmd),
         }
+    }
+
+    /// A command on a CPU on which the hypervisor runs; one of a guest does nothing.
+    fn step_hypervisor(&mut self, cpu: u8, cmd: &Cmd) -> Answer
+        requires hypervisor { HasContext self.old.cpus cpu Ctx.Hv }
+        requires steps { HasSteps self.old }
+        requires frames_once { FramesOnce self.old }
+        ensures frames_once { FramesOnce self.new }
+        ensures refused { LeavesRest cpu Ctx.Hv self.old self.new result }
+        ensures step { Continues self.old self.new cpu cmd.now result }
+        ensures count { self.new.steps ≡ self.old.steps }
+        ensures cpus { length self.new.cpus ≡ length self.old.cpus }
+    {
+        match cmd {
+            Cmd::HLd { ra } => hypervisor::load(&mut self.cpus[cpu as usize], &self.normal, *ra),
+            Cmd::HSt { ra, value } => {
+                let own = &mut self.cpus[cpu as usize];
+                hypervisor::store(own, &mut self.normal, *ra, *value)
+            }
+            Cmd::UReturn { r0, r2, outs } => self.step_return(cpu, *r0, *r2, outs),
+            Cmd::GLi { .. } => Answer::Context,
+            Cmd::GLd { .. } => Answer::Context,
+            Cmd::GSt { .. } => Answer::Context,
+            Cmd::GIrq => Answer::Context,
+        }
+    }
+
+    /// UV_RETURN on a CPU on which the hypervisor runs.
+    fn step_return(&mut self, cpu: u8, r0: u64, r2: u64, outs: &[u64; 9]) -> Answer
+        requires hypervisor { HasContext self.old.cpus cpu Ctx.Hv }
+        requires steps { HasSteps self.old }
+        requires frames_once { FramesOnce self.old }
+        ensures frames_once { FramesOnce self.new }
+        ensures refused { LeavesRest cpu Ctx.Hv self.old self.new result }
+        ensures step { Continues self.old self.new cpu (Cmd.UReturn r0 r2 outs.now) result }
+        ensures count { self.new.steps ≡ self.old.steps }
+        ensures cpus { length self.new.cpus ≡ length self.old.cpus }
+    {
+        let own = &mut self.cpus[cpu as usize];
+        let guest = &mut self.guests[own.lpid as usize - 1];
+        hypervisor::uv_return(guest, own, r0, r2, outs)
+    }
+
+    /// A command on a CPU on which a vCPU runs. One of the hypervisor does nothing, even where the guest has ended.
+    fn step_running(&mut self, cpu: u8, run: Run, cmd: &Cmd) -> Answer
+        requires runs { HasContext self.old.cpus cpu (Ctx.Guest run) }
+        requires steps { HasSteps self.old }
+        requires frames_once { FramesOnce self.old }
+        ensures frames_once { FramesOnce self.new }
+        ensures refused { LeavesRest cpu (Ctx.Guest run) self.old self.new result }
+        ensures step { Continues self.old self.new cpu cmd.now result }
+        ensures count { self.new.steps ≡ self.old.steps }
+        ensures cpus { length self.new.cpus ≡ length self.old.cpus }
+    {
+        if has_real_address(cmd) {
+            return Answer::Context;
+        }
+        if run.generation != self.guests[run.lpid as usize - 1].generation {
+            return self.cpus[cpu as usize].gone();
+        }
+        let own = &mut self.cpus[cpu as usize];
+        let guest = &mut self.guests[run.lpid as usize - 1];
+        running::command(guest, own, &mut self.pool, run, cmd)
     }
 
     /// How many steps were done.
@@ -105,23 +197,23 @@ impl Machine {
 
     /// How many normal frames there are.
     pub fn normal(&self) -> u32
-        ensures { result ≡ length self.now.normal }
+        ensures { result ≡ length self.now.normal.frames }
     {
         self.normal.count()
     }
 
-    /// The bytes of a normal frame, which is numbered from 0: what the hypervisor has stored there, and else zeros.
-    pub fn frame(&self, number: u32) -> &[u8]
-        requires { number < length self.now.normal }
-        ensures { result.now ≡ frame_at self.now.normal number }
+    /// A normal frame, by its number from 0: what the hypervisor has stored there, and else zeros.
+    pub fn frame(&self, number: u32) -> &NormalFrame
+        requires { number < length self.now.normal.frames }
+        ensures { result.now ≡ frame_at self.now.normal.frames number }
     {
         self.normal.frame(number)
     }
 
     /// How many secure frames are free.
     pub fn free(&self) -> u32
-        ensures { result ≡ self.now.free }
+        ensures { result ≡ length self.now.pool.free }
     {
-        self.free
+        self.pool.free()
     }
 }

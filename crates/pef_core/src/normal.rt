@@ -1,13 +1,14 @@
 //! The normal frames are all of one size, and a store changes one doubleword of one of them.
 
-ghost use Rattle.std.specs.Prelude.{◌≡◌, ◌<◌, length, IfOk, IfSome, if◌then◌else◌};
+ghost use Rattle.std.specs.Prelude.{◌≡◌, ◌+◌, ◌^◌, ◌<◌, ◌≤◌, length, IfOk, IfSome, if◌then◌else◌};
 ghost use Rattle.pef_model.specs.Plan.{IsWithin};
 ghost use Rattle.pef_model.specs.Doubleword.{doubleword};
-ghost use Rattle.pef_core.specs.Normal.{zero_frames, frame_at, with_value};
-ghost use Rattle.pef_core.specs.Places.{has_place, place_at, IsPlace};
+ghost use Rattle.pef_core.specs.Access.{has_place, place_at};
+ghost use Rattle.pef_core.specs.Normal.{zero_frames, frame_at, with_value, IsPlaceIn};
 
-use crate::frame::Frame;
-use crate::place::{self, Place};
+use crate::place::place_below;
+use pef_frames::NormalFrame;
+use pef_num::Place;
 use std::alloc::{AllocError, Global};
 use std::marker::Model;
 
@@ -15,7 +16,7 @@ use std::marker::Model;
 #[derive(Drop)]
 pub struct Normal {
     shift: u8,
-    frames: Vec<Frame>,
+    frames: Vec<NormalFrame>,
 }
 
 impl Model for Normal {
@@ -29,14 +30,14 @@ impl Model for Normal {
 }
 
 impl Normal {
-    /// So many frames of 2^shift bytes, all zero.
-    pub fn zeroed(alloc: Global, shift: u8, count: u32) -> Result<Normal, AllocError>
+    /// So many frames of 2^shift bytes, all zero. Refused where the memory is not to be had.
+    pub fn build(alloc: Global, shift: u8, count: u32) -> Result<Normal, AllocError>
         requires shift { IsWithin 8 16 shift }
         ensures { IfOk result (λ normal. normal ≡ zero_frames shift count) }
     {
         let mut frames = Vec::new(alloc);
         for _number in 0..count {
-            frames.push(Frame::zeroed(alloc, 1 << shift)?)?;
+            frames.push(NormalFrame::build(alloc, 1 << shift)?)?;
         }
         Ok(Normal { shift, frames })
     }
@@ -48,35 +49,35 @@ impl Normal {
         self.frames.len() as u32
     }
 
-    /// The bytes of a frame, which is numbered from 0.
-    pub fn frame(&self, number: u32) -> &[u8]
+    /// A frame, by its number from 0.
+    pub fn frame(&self, number: u32) -> &NormalFrame
         requires { number < length self.now.frames }
         ensures { result.now ≡ frame_at self.now.frames number }
     {
-        self.frames[number as usize].as_slice()
+        &self.frames[number as usize]
     }
 
     /// The place of a real address, if it has one: it has none where it is no multiple of 8, or past the last frame.
     pub fn place_of(&self, ra: u64) -> Option<Place>
         ensures result { result ≡ (if has_place self.now.shift (length self.now.frames) ra then Some (place_at self.now.shift ra) else None) }
-        ensures place { IfSome result (IsPlace self.now.shift (length self.now.frames)) }
+        ensures place { IfSome result (IsPlaceIn self.now) }
     {
-        place::place_of(self.shift, self.frames.len(), ra)
+        place_below(ra, self.shift, self.count())
     }
 
     /// The doubleword at a place.
     pub fn load(&self, place: Place) -> u64
-        requires { IsPlace self.now.shift (length self.now.frames) place }
-        ensures { result ≡ doubleword (frame_at self.now.frames place.number) place.offset }
+        requires { IsPlaceIn self.now place }
+        ensures { result ≡ doubleword (frame_at self.now.frames place.page) place.off }
     {
-        self.frames[place.number].load(place.offset)
+        self.frames[place.page as usize].load(place.off)
     }
 
     /// Puts a doubleword at a place.
     pub fn store(&mut self, place: Place, value: u64)
-        requires { IsPlace self.old.shift (length self.old.frames) place }
-        ensures { self.new ≡ with_value self.old place.number place.offset value }
+        requires { IsPlaceIn self.old place }
+        ensures { self.new ≡ with_value self.old place.page place.off value }
     {
-        self.frames[place.number].store(place.offset, value);
+        self.frames[place.page as usize].store(place.off, value);
     }
 }

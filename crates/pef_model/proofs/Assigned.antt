@@ -11,9 +11,9 @@ use Rattle.pef_model.specs.declared.state.Ctx.{Ctx}
 use Rattle.pef_model.specs.declared.state.Ctx.TheVariants as ctx
 use Rattle.pef_model.specs.declared.command.TheConstants.{UV_RETURN}
 use Rattle.pef_model.specs.declared.command.Cmd.{Cmd}
-use Rattle.pef_model.specs.declared.command.Cmd.TheVariants.{HLd, HSt, UReturn, GLi, GLd, GSt}
+use Rattle.pef_model.specs.declared.command.Cmd.TheVariants.{HLd, HSt, UReturn, GLi, GLd, GSt, GIrq}
 use Rattle.pef_model.specs.declared.entry.Answer.{Answer}
-use Rattle.pef_model.specs.declared.entry.Answer.TheVariants.{Done, Val, Ret, Enter, Gone, Hole, Context, Nothing}
+use Rattle.pef_model.specs.declared.entry.Answer.TheVariants.{Done, Val, Ret, Enter, Exit, Again, Gone, Hole, Context, Nothing}
 use Rattle.pef_model.specs.Plan.{Plan}
 use Rattle.pef_model.specs.Event.{Event, newest}
 use Rattle.pef_model.specs.Registers.{number_of, load_return}
@@ -109,6 +109,8 @@ length_command regs (UReturn r0 r2 outs) (Ret code) k h = length-returned (loade
 length_command regs (UReturn r0 r2 outs) Done k h = h
 length_command regs (UReturn r0 r2 outs) (Val value) k h = h
 length_command regs (UReturn r0 r2 outs) Enter k h = h
+length_command regs (UReturn r0 r2 outs) (Exit exit) k h = h
+length_command regs (UReturn r0 r2 outs) Again k h = h
 length_command regs (UReturn r0 r2 outs) Gone k h = h
 length_command regs (UReturn r0 r2 outs) Hole k h = h
 length_command regs (UReturn r0 r2 outs) Context k h = h
@@ -117,6 +119,8 @@ length_command regs (GLi rd value) Done k h = simp length-set h
 length_command regs (GLi rd value) (Val v) k h = h
 length_command regs (GLi rd value) (Ret code) k h = h
 length_command regs (GLi rd value) Enter k h = h
+length_command regs (GLi rd value) (Exit exit) k h = h
+length_command regs (GLi rd value) Again k h = h
 length_command regs (GLi rd value) Gone k h = h
 length_command regs (GLi rd value) Hole k h = h
 length_command regs (GLi rd value) Context k h = h
@@ -125,6 +129,8 @@ length_command regs (GLd rd gpa) (Val value) k h = simp length-set h
 length_command regs (GLd rd gpa) Done k h = h
 length_command regs (GLd rd gpa) (Ret code) k h = h
 length_command regs (GLd rd gpa) Enter k h = h
+length_command regs (GLd rd gpa) (Exit exit) k h = h
+length_command regs (GLd rd gpa) Again k h = h
 length_command regs (GLd rd gpa) Gone k h = h
 length_command regs (GLd rd gpa) Hole k h = h
 length_command regs (GLd rd gpa) Context k h = h
@@ -133,10 +139,13 @@ length_command regs (GSt rs gpa) Done k h = h
 length_command regs (GSt rs gpa) (Val value) k h = h
 length_command regs (GSt rs gpa) (Ret code) k h = h
 length_command regs (GSt rs gpa) Enter k h = h
+length_command regs (GSt rs gpa) (Exit exit) k h = h
+length_command regs (GSt rs gpa) Again k h = h
 length_command regs (GSt rs gpa) Gone k h = h
 length_command regs (GSt rs gpa) Hole k h = h
 length_command regs (GSt rs gpa) Context k h = h
 length_command regs (GSt rs gpa) Nothing k h = h
+length_command regs GIrq a k h = h
 
 pub set_value : (gpr : List ℕ) (rd value r : ℕ) → length gpr ≡ 32 → rd < 32 → get_or (slice_set gpr rd value) r 0 ≡ unwrap_or (if r == rd then Some value else None) (get_or gpr r 0)
 set_value gpr rd value r h k = by_test (r == rd) refl where
@@ -153,6 +162,8 @@ command_value regs (UReturn r0 r2 outs) (Ret code) r k h small = returned_value 
 command_value regs (UReturn r0 r2 outs) Done r k h small = refl
 command_value regs (UReturn r0 r2 outs) (Val value) r k h small = refl
 command_value regs (UReturn r0 r2 outs) Enter r k h small = refl
+command_value regs (UReturn r0 r2 outs) (Exit exit) r k h small = refl
+command_value regs (UReturn r0 r2 outs) Again r k h small = refl
 command_value regs (UReturn r0 r2 outs) Gone r k h small = refl
 command_value regs (UReturn r0 r2 outs) Hole r k h small = refl
 command_value regs (UReturn r0 r2 outs) Context r k h small = refl
@@ -161,6 +172,8 @@ command_value regs (GLi rd value) Done r k h small = set_value regs.gpr rd value
 command_value regs (GLi rd value) (Val v) r k h small = refl
 command_value regs (GLi rd value) (Ret code) r k h small = refl
 command_value regs (GLi rd value) Enter r k h small = refl
+command_value regs (GLi rd value) (Exit exit) r k h small = refl
+command_value regs (GLi rd value) Again r k h small = refl
 command_value regs (GLi rd value) Gone r k h small = refl
 command_value regs (GLi rd value) Hole r k h small = refl
 command_value regs (GLi rd value) Context r k h small = refl
@@ -169,6 +182,8 @@ command_value regs (GLd rd gpa) (Val value) r k h small = set_value regs.gpr rd 
 command_value regs (GLd rd gpa) Done r k h small = refl
 command_value regs (GLd rd gpa) (Ret code) r k h small = refl
 command_value regs (GLd rd gpa) Enter r k h small = refl
+command_value regs (GLd rd gpa) (Exit exit) r k h small = refl
+command_value regs (GLd rd gpa) Again r k h small = refl
 command_value regs (GLd rd gpa) Gone r k h small = refl
 command_value regs (GLd rd gpa) Hole r k h small = refl
 command_value regs (GLd rd gpa) Context r k h small = refl
@@ -177,10 +192,13 @@ command_value regs (GSt rs gpa) Done r k h small = refl
 command_value regs (GSt rs gpa) (Val value) r k h small = refl
 command_value regs (GSt rs gpa) (Ret code) r k h small = refl
 command_value regs (GSt rs gpa) Enter r k h small = refl
+command_value regs (GSt rs gpa) (Exit exit) r k h small = refl
+command_value regs (GSt rs gpa) Again r k h small = refl
 command_value regs (GSt rs gpa) Gone r k h small = refl
 command_value regs (GSt rs gpa) Hole r k h small = refl
 command_value regs (GSt rs gpa) Context r k h small = refl
 command_value regs (GSt rs gpa) Nothing r k h small = refl
+command_value regs GIrq a r k h small = refl
 
 -- UV_RETURN of the hypervisor moves no register of R0 to R31
 gpr_after_return : (regs : Regs) (cmd : Cmd) (a : Answer) → (registers_after_return regs cmd a).gpr ≡ regs.gpr
@@ -191,6 +209,8 @@ gpr_after_return regs (UReturn r0 r2 outs) Enter = by_test (r2 == 0) where
 gpr_after_return regs (UReturn r0 r2 outs) Done = refl
 gpr_after_return regs (UReturn r0 r2 outs) (Val value) = refl
 gpr_after_return regs (UReturn r0 r2 outs) (Ret code) = refl
+gpr_after_return regs (UReturn r0 r2 outs) (Exit exit) = refl
+gpr_after_return regs (UReturn r0 r2 outs) Again = refl
 gpr_after_return regs (UReturn r0 r2 outs) Gone = refl
 gpr_after_return regs (UReturn r0 r2 outs) Hole = refl
 gpr_after_return regs (UReturn r0 r2 outs) Context = refl
@@ -200,6 +220,7 @@ gpr_after_return regs (HSt ra value) a = refl
 gpr_after_return regs (GLi rd value) a = refl
 gpr_after_return regs (GLd rd gpa) a = refl
 gpr_after_return regs (GSt rs gpa) a = refl
+gpr_after_return regs GIrq a = refl
 
 -- each vCPU has 32 registers
 abbrev AreFull : (ℕ → Regs) → Type 0

@@ -1,44 +1,34 @@
 -- Each secure frame is free or holds a Secure page.
 use Rattle.std.proofs.Common.{◌≡◌, ◌≢◌, ℕ, zero, suc, ◌+◌, ◌<◌, nat_lt, List, [], ◌∷◌, ◌++◌, length, Bool, true, false, refl, ap, sym, subst, ◌∙◌, ◌==◌, ◌&&◌, if◌then◌else◌, Option, Some, None, is_some, arith, length-append}
 use Rattle.std.proofs.lemmas.Bool.Decides.{nat_tests}
+use Rattle.pef_model.specs.declared.state.Kind.{Kind}
+use Rattle.pef_model.specs.declared.state.Kind.TheVariants as kind
 use Rattle.pef_model.specs.declared.state.Run.{Run}
 use Rattle.pef_model.specs.declared.state.Ctx.{Ctx}
 use Rattle.pef_model.specs.declared.state.Ctx.TheVariants as ctx
 use Rattle.pef_model.specs.declared.command.Code.TheVariants.{UInvalid}
 use Rattle.pef_model.specs.declared.command.Cmd.{Cmd}
-use Rattle.pef_model.specs.declared.command.Cmd.TheVariants.{HLd, HSt, UReturn, GLi, GLd, GSt}
+use Rattle.pef_model.specs.declared.command.Cmd.TheVariants.{HLd, HSt, UReturn, GLi, GLd, GSt, GIrq}
 use Rattle.pef_model.specs.declared.entry.PoolSaw.{PoolSaw}
 use Rattle.pef_model.specs.declared.entry.Answer.{Answer}
-use Rattle.pef_model.specs.declared.entry.Answer.TheVariants.{Done, Val, Ret, Enter, Gone, Hole, Context}
+use Rattle.pef_model.specs.declared.entry.Answer.TheVariants.{Done, Val, Ret, Enter, Exit, Again, Gone, Hole, Context}
 use Rattle.pef_model.specs.Plan.{Plan}
 use Rattle.pef_model.specs.Event.{Event}
 use Rattle.pef_model.specs.Target.{Ask, Target, Alone, AtGuest, AtFrame, frame_of, has_real_place, target_of_address, target_in, is_guest, touches_cpu, touches_guest}
 use Rattle.pef_model.specs.Cpu.{CpuPart, start_cpu, next_cpu}
-use Rattle.pef_model.specs.GuestPart.{GuestPart, start_part_of, page_of, has_place, is_invalid, with_secure_page, with_page_backed, part_after_access, part_after_guest, part_after_return}
+use Rattle.pef_model.specs.GuestPart.{Page, GuestPart, start_part_of, page_of, has_place, is_invalid, with_secure_page, with_page_backed, part_after_access, part_after_guest, part_after_return}
 use Rattle.pef_model.specs.Guest.{Guest, start_guest, next_guest, private_doubleword}
 use Rattle.pef_model.specs.Memory.{pool_with}
-use Rattle.pef_model.specs.Deed.{Deed, Reach, NoPage, answering, deed_return, deed_access, deed_running, deed_gone, reach, reach_of, may_return_in, is_waiting}
+use Rattle.pef_model.specs.Deed.{Deed, Reach, NoPage, Moves, answering, deed_return, deed_access, deed_running, deed_gone, reach, reach_of, reach_kind, reach_invalid, may_return_in, is_waiting}
 use Rattle.pef_model.specs.History.{cpu_after, guest_after, pool_after, deed_after, IsLegal}
 use Rattle.pef_model.specs.CountLaw.{part_after, secure_pages, sum_to, FramesAreCounted}
-use Rattle.pef_model.proofs.Folds.{test_same, same_test, skips}
+use Rattle.pef_model.specs.StepLaw.{selected_lpid}
+use Rattle.pef_model.proofs.Folds.{test_same, same_test, counts, skips}
 use Rattle.pef_model.proofs.NextValues.{cpu_by_is, part_by}
 use Rattle.pef_model.proofs.Aims.{address_is_no_guest, own_guest}
 use Rattle.pef_model.proofs.Outcomes.{Outcome, outcome}
 use Rattle.pef_model.proofs.Steps.{ctx_after_guest, after_guest, ctx_after, selection_left}
 use Rattle.pef_model.proofs.Running.{Taking, takes, next_by, next_by_is}
-
--- A CPU selects guest 1 after each history.
-selects_first : (plan : Plan) (past : List Event) (n : ℕ) → (cpu_after plan n past).lpid ≡ 1
-selects_first plan [] n = refl
-selects_first plan (e ∷ past) n = by_test (selects_first plan past n) (touches_cpu n e) where
-  cpu : CpuPart
-  cpu = cpu_after plan n past
-
-  by_test : cpu.lpid ≡ 1 → (b : Bool) → (if b then next_cpu cpu e else cpu).lpid ≡ 1
-  by_test ih true =
-      let stays = selection_left cpu e.saw.before e.saw.after e.trace.cmd e.trace.answer in
-      ap (λ (x : CpuPart). x.lpid) (cpu_by_is cpu e) ∙ stays.0 ∙ ih
-  by_test ih false = ih
 
 -- the guest that runs in a context, if one does, is guest 1
 abbrev RunsFirst : Ctx → Type 0
@@ -57,25 +47,43 @@ first_runs_by g ctx.Hv lpid vid (UReturn r0 r2 outs) (Ret code) after shown one 
 first_runs_by g ctx.Hv lpid vid (GLi rd value) Context after shown one runs o taking = subst RunsFirst (sym o.0) tt
 first_runs_by g ctx.Hv lpid vid (GLd rd gpa) Context after shown one runs o taking = subst RunsFirst (sym o.0) tt
 first_runs_by g ctx.Hv lpid vid (GSt rs gpa) Context after shown one runs o taking = subst RunsFirst (sym o.0) tt
+first_runs_by g ctx.Hv lpid vid GIrq Context after shown one runs o taking = subst RunsFirst (sym o.0) tt
 first_runs_by g ctx.Hv lpid vid cmd a after shown one runs o taking = absurd o
 first_runs_by g (ctx.Guest run) lpid vid cmd a after shown one runs o taking = subst RunsFirst (sym (after_guest run cmd a after shown o)) (by_answer a) where
   by_answer : (a : Answer) → RunsFirst (ctx_after_guest run a)
+  by_answer (Exit exit) = tt
   by_answer Gone = tt
   by_answer other = runs
 
--- In a legal history a CPU runs no guest but guest 1.
-first_runs : (plan : Plan) (past : List Event) (n : ℕ) → IsLegal plan past → RunsFirst (cpu_after plan n past).ctx
-first_runs plan [] n legal = tt
-first_runs plan (e ∷ past) n legal = by_test (first_runs plan past n legal.1) (touches_cpu n e) refl where
-  by_test : RunsFirst (cpu_after plan n past).ctx → (b : Bool) → touches_cpu n e ≡ b → RunsFirst (cpu_after plan n (e ∷ past)).ctx
-  by_test ih true t =
+-- a CPU selects guest 1, and runs no other
+record IsFirst (cpu : CpuPart) : Type 0 where
+  selects : cpu.lpid ≡ 1
+  runs : RunsFirst cpu.ctx
+
+selects_first : (c : Ctx) (a : Answer) (lpid : ℕ) → RunsFirst c → lpid ≡ 1 → selected_lpid c a lpid ≡ 1
+selects_first (ctx.Guest run) (Exit exit) lpid runs one = runs
+selects_first (ctx.Guest run) a lpid runs one = one
+selects_first ctx.Hv a lpid runs one = one
+
+-- In a legal history a CPU selects and runs no guest but guest 1.
+is_first : (plan : Plan) (past : List Event) (n : ℕ) → IsLegal plan past → IsFirst (cpu_after plan n past)
+is_first plan [] n legal = record { selects = refl; runs = tt }
+is_first plan (e ∷ past) n legal = by_test (is_first plan past n legal.1) (is_first plan past e.trace.cpu legal.1) (touches_cpu n e) refl where
+  by_test : IsFirst (cpu_after plan n past) → IsFirst (cpu_after plan e.trace.cpu past) → (b : Bool) → touches_cpu n e ≡ b → IsFirst (cpu_after plan n (e ∷ past))
+  by_test ih own true t =
       let here : e.trace.cpu ≡ n = test_same e.trace.cpu n t in
       let is = legal.0.is in
-      let before : RunsFirst e.saw.before = subst (λ (c : Ctx). RunsFirst c) (ap (λ (x : ℕ). (cpu_after plan x past).ctx) (sym here) ∙ ap (λ (x : Event). x.saw.before) (sym is)) ih in
-      let one : e.saw.lpid ≡ 1 = ap (λ (x : Event). x.saw.lpid) is ∙ selects_first plan past e.trace.cpu in
-      subst RunsFirst (sym (ctx_after plan past e legal.0) ∙ ap (λ (x : ℕ). (cpu_after plan x (e ∷ past)).ctx) here)
-      (first_runs_by (part_after plan past e.saw.lpid) e.saw.before e.saw.lpid e.saw.vid e.trace.cmd e.trace.answer e.saw.after e.saw.shown one before (outcome plan past e legal.0) (takes plan past e legal.0))
-  by_test ih false t = subst (λ (x : CpuPart). RunsFirst x.ctx) (sym (skips (touches_cpu n) next_cpu (start_cpu plan) e past t)) ih
+      let cpu : CpuPart = cpu_after plan n past in
+      let before : RunsFirst e.saw.before = subst RunsFirst (ap (λ (x : Event). x.saw.before) (sym is)) own.runs in
+      let one : e.saw.lpid ≡ 1 = ap (λ (x : Event). x.saw.lpid) is ∙ own.selects in
+      let stays = selection_left cpu e.saw.before e.saw.after e.trace.cmd e.trace.answer in
+      record {
+        selects = ap (λ (x : CpuPart). x.lpid) (counts (touches_cpu n) next_cpu (start_cpu plan) e past t ∙ cpu_by_is cpu e) ∙ stays.0
+            ∙ selects_first e.saw.before e.trace.answer cpu.lpid before ih.selects;
+        runs = subst RunsFirst (sym (ctx_after plan past e legal.0) ∙ ap (λ (x : ℕ). (cpu_after plan x (e ∷ past)).ctx) here)
+            (first_runs_by (part_after plan past e.saw.lpid) e.saw.before e.saw.lpid e.saw.vid e.trace.cmd e.trace.answer e.saw.after e.saw.shown one before (outcome plan past e legal.0) (takes plan past e legal.0));
+      }
+  by_test ih own false t = subst IsFirst (sym (skips (touches_cpu n) next_cpu (start_cpu plan) e past t)) ih
 
 -- An entry of a legal history aims at guest 1 or at none.
 aims : (plan : Plan) (c : Ctx) (l lpid : ℕ) (cmd : Cmd) → l ≡ 1 → RunsFirst c → is_guest lpid (target_in plan c l cmd) ≡ true → lpid ≡ 1
@@ -89,13 +97,14 @@ aims plan ctx.Hv l lpid (UReturn r0 r2 outs) one runs t = sym (test_same l lpid 
 aims plan ctx.Hv l lpid (GLi rd value) one runs t = cc
 aims plan ctx.Hv l lpid (GLd rd gpa) one runs t = cc
 aims plan ctx.Hv l lpid (GSt rs gpa) one runs t = cc
+aims plan ctx.Hv l lpid GIrq one runs t = cc
 aims plan (ctx.Guest run) l lpid cmd one runs t = sym (own_guest plan run l lpid cmd t) ∙ runs
 
 touches_first : (plan : Plan) (past : List Event) (e : Event) (lpid : ℕ) → IsLegal plan (e ∷ past) → touches_guest plan lpid e ≡ true → lpid ≡ 1
 touches_first plan past e lpid legal t =
     let is = legal.0.is in
-    let before : RunsFirst e.saw.before = subst RunsFirst (ap (λ (x : Event). x.saw.before) (sym is)) (first_runs plan past e.trace.cpu legal.1) in
-    aims plan e.saw.before e.saw.lpid lpid e.trace.cmd (ap (λ (x : Event). x.saw.lpid) is ∙ selects_first plan past e.trace.cpu) before t
+    let before : RunsFirst e.saw.before = subst RunsFirst (ap (λ (x : Event). x.saw.before) (sym is)) ((is_first plan past e.trace.cpu legal.1).runs) in
+    aims plan e.saw.before e.saw.lpid lpid e.trace.cmd (ap (λ (x : Event). x.saw.lpid) is ∙ (is_first plan past e.trace.cpu legal.1).selects) before t
 
 other_guests : (plan : Plan) (past : List Event) (lpid : ℕ) → IsLegal plan past → lpid ≢ 1 → guest_after plan lpid past ≡ start_guest plan lpid
 other_guests plan [] lpid legal other = refl
@@ -118,7 +127,10 @@ access_balances plan g free ask success gpa access = by_place (has_place plan gp
   At : Reach → Type 0
   At r = Balances free (deed_access ask success r).pool g (part_after_access g gfn (deed_access ask success r).answer)
 
-  by_any : is_invalid (g.pages gfn) ≡ true → (any : Bool) → nat_lt 0 free ≡ any → At (reach_of true any)
+  of_kind : Kind → Page
+  of_kind k = record { kind = k; mover = (g.pages gfn).mover }
+
+  by_any : is_invalid (g.pages gfn) ≡ true → (any : Bool) → nat_lt 0 free ≡ any → At (reach_invalid any)
   by_any k true t =
       let some : 0 < free = grind (arith, nat_tests) in
       let more : (part_after_access g gfn success).order ≡ g.order ++ gfn ∷ [] = ap (λ (x : GuestPart). x.order) access ∙ ap (λ (b : Bool). (if b then with_secure_page g gfn else g).order) k in
@@ -126,33 +138,42 @@ access_balances plan g free ask success gpa access = by_place (has_place plan gp
       omega arith
   by_any k false t = omega arith
 
-  by_kind : (b : Bool) → is_invalid (g.pages gfn) ≡ b → At (reach_of b (nat_lt 0 free))
-  by_kind true k = by_any k (nat_lt 0 free) refl
-  by_kind false k =
-      let same : (part_after_access g gfn success).order ≡ g.order = ap (λ (x : GuestPart). x.order) access ∙ ap (λ (b : Bool). (if b then with_secure_page g gfn else g).order) k in
+  by_kind : (k : Kind) → (g.pages gfn).kind ≡ k → At (reach_kind k (nat_lt 0 free))
+  by_kind kind.Invalid k = by_any (ap (λ (x : Kind). is_invalid (of_kind x)) k) (nat_lt 0 free) refl
+  by_kind kind.Secure k =
+      let same : (part_after_access g gfn success).order ≡ g.order =
+      ap (λ (x : GuestPart). x.order) access ∙ ap (λ (b : Bool). (if b then with_secure_page g gfn else g).order) (ap (λ (x : Kind). is_invalid (of_kind x)) k) in
       ap (λ (xs : List ℕ). free + length xs) same
+  by_kind kind.Out k = refl
+  by_kind (kind.Shared frame fresh) k = refl
 
-  by_place : (b : Bool) → At (if b then reach_of (is_invalid (g.pages gfn)) (nat_lt 0 free) else NoPage)
-  by_place true = by_kind (is_invalid (g.pages gfn)) refl
+  by_mover : (b : Bool) → At (if b then Moves else reach_kind (g.pages gfn).kind (nat_lt 0 free))
+  by_mover true = refl
+  by_mover false = by_kind (g.pages gfn).kind refl
+
+  by_place : (b : Bool) → At (if b then reach_of (g.pages gfn) (nat_lt 0 free) else NoPage)
+  by_place true = by_mover (is_some (g.pages gfn).mover)
   by_place false = refl
 
-running_balances : (plan : Plan) (g : Guest) (free : ℕ) (ask : Ask) (cmd : Cmd) →
+running_balances : (plan : Plan) (g : Guest) (free vid : ℕ) (ask : Ask) (cmd : Cmd) →
     let deed : Deed = deed_running plan g (nat_lt 0 free) ask cmd in
-    Balances free deed.pool g.part (part_after_guest plan g.part cmd deed.answer)
-running_balances plan g free ask (HLd ra) = refl
-running_balances plan g free ask (HSt ra value) = refl
-running_balances plan g free ask (UReturn r0 r2 outs) = refl
-running_balances plan g free ask (GLi rd value) = refl
-running_balances plan g free ask (GLd rd gpa) = access_balances plan g.part free ask (Val (private_doubleword plan g gpa)) gpa refl
-running_balances plan g free ask (GSt rs gpa) = access_balances plan g.part free ask Done gpa refl
+    Balances free deed.pool g.part (part_after_guest plan g.part vid cmd deed.answer)
+running_balances plan g free vid ask (HLd ra) = refl
+running_balances plan g free vid ask (HSt ra value) = refl
+running_balances plan g free vid ask (UReturn r0 r2 outs) = refl
+running_balances plan g free vid ask (GLi rd value) = refl
+running_balances plan g free vid ask (GLd rd gpa) = access_balances plan g.part free ask (Val (private_doubleword plan g gpa)) gpa refl
+running_balances plan g free vid ask (GSt rs gpa) = access_balances plan g.part free ask Done gpa refl
+running_balances plan g free vid ask GIrq = refl
 
-gone_balances : (plan : Plan) (g : GuestPart) (free : ℕ) (cmd : Cmd) → Balances free None g (part_after_guest plan g cmd Gone)
-gone_balances plan g free (HLd ra) = refl
-gone_balances plan g free (HSt ra value) = refl
-gone_balances plan g free (UReturn r0 r2 outs) = refl
-gone_balances plan g free (GLi rd value) = refl
-gone_balances plan g free (GLd rd gpa) = refl
-gone_balances plan g free (GSt rs gpa) = refl
+gone_balances : (plan : Plan) (g : GuestPart) (free vid : ℕ) (cmd : Cmd) → Balances free None g (part_after_guest plan g vid cmd Gone)
+gone_balances plan g free vid (HLd ra) = refl
+gone_balances plan g free vid (HSt ra value) = refl
+gone_balances plan g free vid (UReturn r0 r2 outs) = refl
+gone_balances plan g free vid (GLi rd value) = refl
+gone_balances plan g free vid (GLd rd gpa) = refl
+gone_balances plan g free vid (GSt rs gpa) = refl
+gone_balances plan g free vid GIrq = refl
 
 return_balances : (g : GuestPart) (free vid cpu : ℕ) (last : Answer) →
     let deed : Deed = deed_return g (record { before = ctx.Hv; lpid = 1; vid = vid; last = last }) in
@@ -170,7 +191,7 @@ return_balances g free vid cpu last = by_test (may_return_in g.phase && is_waiti
 
 guest_balances : (plan : Plan) (past : List Event) (run : Run) (vid : ℕ) (last : Answer) (cmd : Cmd) →
     let deed : Deed = deed_after plan past (record { before = ctx.Guest run; lpid = 1; vid = vid; last = last }) cmd (AtGuest run.lpid) in
-    Balances (pool_after plan past) deed.pool (part_after plan past run.lpid) (part_after_guest plan (part_after plan past run.lpid) cmd deed.answer)
+    Balances (pool_after plan past) deed.pool (part_after plan past run.lpid) (part_after_guest plan (part_after plan past run.lpid) run.vid cmd deed.answer)
 guest_balances plan past run vid last cmd = by_test (run.generation == (part_after plan past run.lpid).generation) where
   ask : Ask
   ask = record { before = ctx.Guest run; lpid = 1; vid = vid; last = last }
@@ -184,9 +205,9 @@ guest_balances plan past run vid last cmd = by_test (run.generation == (part_aft
   deed : Bool → Deed
   deed b = if b then deed_running plan g (nat_lt 0 free) ask cmd else deed_gone ask
 
-  by_test : (b : Bool) → Balances free (deed b).pool g.part (part_after_guest plan g.part cmd (deed b).answer)
-  by_test true = running_balances plan g free ask cmd
-  by_test false = gone_balances plan g.part free cmd
+  by_test : (b : Bool) → Balances free (deed b).pool g.part (part_after_guest plan g.part run.vid cmd (deed b).answer)
+  by_test true = running_balances plan g free run.vid ask cmd
+  by_test false = gone_balances plan g.part free run.vid cmd
 
 -- a load or store of the hypervisor takes no frame and leaves guest 1, whether its address has a place in a normal frame or not
 normal_load_balances : (plan : Plan) (past : List Event) (vid cpu : ℕ) (last : Answer) (ra : ℕ) (b : Bool) →
@@ -214,8 +235,8 @@ own_balances plan past run vid cpu last cmd first =
     let deed : Deed = deed_after plan past (record { before = ctx.Guest run; lpid = 1; vid = vid; last = last }) cmd (AtGuest run.lpid) in
     let free : ℕ = pool_after plan past in
     subst
-    (λ (x : ℕ). Balances free deed.pool (part_after plan past x) (if run.lpid == x then part_after_guest plan (part_after plan past x) cmd deed.answer else part_after plan past x)) first
-    (subst (λ (b : Bool). Balances free deed.pool (part_after plan past run.lpid) (if b then part_after_guest plan (part_after plan past run.lpid) cmd deed.answer else part_after plan past run.lpid))
+    (λ (x : ℕ). Balances free deed.pool (part_after plan past x) (if run.lpid == x then part_after_guest plan (part_after plan past x) run.vid cmd deed.answer else part_after plan past x)) first
+    (subst (λ (b : Bool). Balances free deed.pool (part_after plan past run.lpid) (if b then part_after_guest plan (part_after plan past run.lpid) run.vid cmd deed.answer else part_after plan past run.lpid))
     (sym (same_test run.lpid)) (guest_balances plan past run vid last cmd))
 
 -- guest 1 after a step and the frames that the step took
@@ -228,12 +249,14 @@ deed_balances plan past ctx.Hv vid cpu last (UReturn r0 r2 outs) runs = return_b
 deed_balances plan past ctx.Hv vid cpu last (GLi rd value) runs = refl
 deed_balances plan past ctx.Hv vid cpu last (GLd rd gpa) runs = refl
 deed_balances plan past ctx.Hv vid cpu last (GSt rs gpa) runs = refl
+deed_balances plan past ctx.Hv vid cpu last GIrq runs = refl
 deed_balances plan past (ctx.Guest run) vid cpu last (HLd ra) runs = refl
 deed_balances plan past (ctx.Guest run) vid cpu last (HSt ra value) runs = refl
 deed_balances plan past (ctx.Guest run) vid cpu last (UReturn r0 r2 outs) runs = own_balances plan past run vid cpu last (UReturn r0 r2 outs) runs
 deed_balances plan past (ctx.Guest run) vid cpu last (GLi rd value) runs = own_balances plan past run vid cpu last (GLi rd value) runs
 deed_balances plan past (ctx.Guest run) vid cpu last (GLd rd gpa) runs = own_balances plan past run vid cpu last (GLd rd gpa) runs
 deed_balances plan past (ctx.Guest run) vid cpu last (GSt rs gpa) runs = own_balances plan past run vid cpu last (GSt rs gpa) runs
+deed_balances plan past (ctx.Guest run) vid cpu last GIrq runs = own_balances plan past run vid cpu last GIrq runs
 
 entry_balances : (plan : Plan) (past : List Event) (e : Event) → IsLegal plan (e ∷ past) →
     Balances (pool_after plan past) e.saw.pool (part_after plan past 1) (part_after plan (e ∷ past) 1)
@@ -246,8 +269,8 @@ entry_balances plan past e legal =
     (subst (λ (l : ℕ).
     let deed : Deed = deed_after plan past (record { before = cpu.ctx; lpid = l; vid = cpu.vid; last = cpu.last }) e.trace.cmd (target_in plan cpu.ctx l e.trace.cmd) in
     Balances free deed.pool g (next_by plan cpu.ctx l cpu.vid e.trace.cpu e.trace.cmd deed.answer g 1))
-    (sym (selects_first plan past e.trace.cpu))
-    (deed_balances plan past cpu.ctx cpu.vid e.trace.cpu cpu.last e.trace.cmd (first_runs plan past e.trace.cpu legal.1))))
+    (sym ((is_first plan past e.trace.cpu legal.1).selects))
+    (deed_balances plan past cpu.ctx cpu.vid e.trace.cpu cpu.last e.trace.cmd ((is_first plan past e.trace.cpu legal.1).runs))))
 
 pool_is : (free : ℕ) (pool : Option PoolSaw) → (if is_some pool then pool_with free pool else free) ≡ pool_with free pool
 pool_is free None = refl

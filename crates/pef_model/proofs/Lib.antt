@@ -14,11 +14,11 @@ pub mod Moves
 pub mod Running
 pub mod Orders
 pub mod Frames
-pub mod Grammar
 pub mod ScriptLines
 pub mod WrittenWords
 pub mod WrittenScript
 pub mod ReadCommands
+pub mod Grammar
 pub mod Rows
 pub mod Doublewords
 pub mod Places

@@ -7,7 +7,7 @@ use Rattle.pef_model.specs.declared.entry.Answer.TheVariants.{Val}
 use Rattle.pef_model.specs.Plan.{Plan}
 use Rattle.pef_model.specs.Event.{Event, mark_of}
 use Rattle.pef_model.specs.Target.{Ask}
-use Rattle.pef_model.specs.Deed.{Reach, NoPage, InFrame, Backs, NoFrame, deed_access, deed_running, deed_gone, reach}
+use Rattle.pef_model.specs.Deed.{Reach, NoPage, InFrame, Backs, NoFrame, Moves, deed_access, deed_running, deed_gone, reach}
 use Rattle.pef_model.specs.Guest.{Guest, private_doubleword}
 use Rattle.pef_model.specs.History.{ask_of, cpu_after, guest_after, pool_after, next_entry_by}
 use Rattle.pef_model.specs.SearchLaw.{LoadGivesLastStore}
@@ -18,6 +18,7 @@ access_gives ask v w NoPage h = cc
 access_gives ask v w InFrame h = cc
 access_gives ask v w Backs h = cc
 access_gives ask v w NoFrame h = cc
+access_gives ask v w Moves h = cc
 
 running_gives : (plan : Plan) (g : Guest) (any : Bool) (ask : Ask) (rd gpa w : ℕ) (b : Bool) →
     (if b then deed_running plan g any ask (GLd rd gpa) else deed_gone ask).answer ≡ Val w → w ≡ private_doubleword plan g gpa

@@ -5,9 +5,10 @@ use Rattle.pef_model.specs.declared.state.Regs.{Regs}
 use Rattle.pef_model.specs.declared.state.Ctx.{Ctx}
 use Rattle.pef_model.specs.declared.state.Ctx.TheVariants as ctx
 use Rattle.pef_model.specs.declared.command.Cmd.{Cmd}
-use Rattle.pef_model.specs.declared.command.Cmd.TheVariants.{HLd, HSt, UReturn, GLi, GLd, GSt}
+use Rattle.pef_model.specs.declared.command.Cmd.TheVariants.{HLd, HSt, UReturn, GLi, GLd, GSt, GIrq}
+use Rattle.pef_model.specs.declared.entry.Exit.TheVariants as exit
 use Rattle.pef_model.specs.declared.entry.Answer.{Answer}
-use Rattle.pef_model.specs.declared.entry.Answer.TheVariants.{Done, Val, Ret, Enter, Gone, Hole, Context}
+use Rattle.pef_model.specs.declared.entry.Answer.TheVariants.{Done, Val, Ret, Enter, Exit, Again, Gone, Hole, Context}
 use Rattle.pef_model.specs.Plan.{Plan}
 use Rattle.pef_model.specs.Event.{Event}
 use Rattle.pef_model.specs.Target.{target_of_address, target_in, is_guest, touches_guest}
@@ -48,6 +49,10 @@ steps regs run (GLd rd gpa) Hole after shown h = record { nip = refl; srr0 = ref
 steps regs run (GSt rs gpa) Gone after shown h = record { nip = refl; srr0 = refl }
 steps regs run (GSt rs gpa) Done after shown h = record { nip = refl; srr0 = refl }
 steps regs run (GSt rs gpa) Hole after shown h = record { nip = refl; srr0 = refl }
+steps regs run (GLd rd gpa) Again after shown h = record { nip = refl; srr0 = refl }
+steps regs run (GSt rs gpa) Again after shown h = record { nip = refl; srr0 = refl }
+steps regs run GIrq Gone after shown h = record { nip = refl; srr0 = refl }
+steps regs run GIrq (Exit exit.Irq) after shown h = record { nip = refl; srr0 = refl }
 steps regs run cmd a after shown h = absurd h
 
 -- a step that aims at its own guest leaves its vCPU these registers
@@ -67,6 +72,7 @@ own_registers plan run l v (UReturn r0 r2 outs) a registers lpid vid here this =
 own_registers plan run l v (GLi rd value) a registers lpid vid here this = aimed_registers run v (GLi rd value) a registers lpid vid here this
 own_registers plan run l v (GLd rd gpa) a registers lpid vid here this = aimed_registers run v (GLd rd gpa) a registers lpid vid here this
 own_registers plan run l v (GSt rs gpa) a registers lpid vid here this = aimed_registers run v (GSt rs gpa) a registers lpid vid here this
+own_registers plan run l v GIrq a registers lpid vid here this = aimed_registers run v GIrq a registers lpid vid here this
 
 taken_registers : (plan : Plan) (r0 r2 : ℕ) (outs : List ℕ) (registers : ℕ → Regs) (lpid vid : ℕ) →
     registers_by plan ctx.Hv lpid vid (UReturn r0 r2 outs) Enter registers lpid vid ≡ entered_at (registers vid) r2
@@ -107,6 +113,7 @@ others_stay plan ctx.Hv l v (UReturn r0 r2 outs) a registers lpid vid own taken 
 others_stay plan ctx.Hv l v (GLi rd value) a registers lpid vid own taken = refl
 others_stay plan ctx.Hv l v (GLd rd gpa) a registers lpid vid own taken = refl
 others_stay plan ctx.Hv l v (GSt rs gpa) a registers lpid vid own taken = refl
+others_stay plan ctx.Hv l v GIrq a registers lpid vid own taken = refl
 others_stay plan (ctx.Guest run) l v cmd a registers lpid vid own taken =
     put_elsewhere (is_guest lpid (target_in plan (ctx.Guest run) l cmd)) registers (registers_after_command (registers run.vid) cmd a) lpid vid run.vid
     (λ t u. absurd (own run refl (own_guest plan run l lpid cmd u) (sym (test_same vid run.vid t))))

@@ -3,9 +3,9 @@ use Rattle.std.proofs.Common.{◌≡◌, ℕ, List, Bool, true, false, ◌==◌,
 use Rattle.pef_model.specs.declared.state.Ctx.{Ctx}
 use Rattle.pef_model.specs.declared.state.Ctx.TheVariants as ctx
 use Rattle.pef_model.specs.declared.command.Cmd.{Cmd}
-use Rattle.pef_model.specs.declared.command.Cmd.TheVariants.{HLd, HSt, UReturn, GLi, GLd, GSt}
+use Rattle.pef_model.specs.declared.command.Cmd.TheVariants.{HLd, HSt, UReturn, GLi, GLd, GSt, GIrq}
 use Rattle.pef_model.specs.declared.entry.Answer.{Answer}
-use Rattle.pef_model.specs.declared.entry.Answer.TheVariants.{Done, Val, Ret, Enter, Gone, Hole, Context, Nothing}
+use Rattle.pef_model.specs.declared.entry.Answer.TheVariants.{Done, Val, Ret, Enter, Exit, Again, Gone, Hole, Context, Nothing}
 use Rattle.pef_model.specs.Plan.{Plan}
 use Rattle.pef_model.specs.Event.{Event}
 use Rattle.pef_model.specs.Target.{touches_cpu, touches_guest, touches_pool, touches_frame}
@@ -33,7 +33,7 @@ own_entries_decide plan past =
 -- a CPU's next value as a function of the four fields
 abbrev pub cpu_by : CpuPart → Ctx → Ctx → Cmd → Answer → CpuPart
 cpu_by cpu ctx.Hv after cmd a = record cpu { ctx = after; own = own_after cpu.own cmd a; last = last_after cpu.last a }
-cpu_by cpu (ctx.Guest run) after cmd a = cpu_after_guest cpu a
+cpu_by cpu (ctx.Guest run) after cmd a = cpu_after_guest cpu run a
 
 pub cpu_by_is : (cpu : CpuPart) (e : Event) → next_cpu cpu e ≡ cpu_by cpu e.saw.before e.saw.after e.trace.cmd e.trace.answer
 cpu_by_is cpu e = by_ctx e.saw.before where
@@ -55,7 +55,7 @@ cpu_agrees e f cpu h =
 abbrev pub part_by : Plan → GuestPart → Ctx → Cmd → Answer → ℕ → ℕ → GuestPart
 part_by plan g ctx.Hv (UReturn r0 r2 outs) a vid cpu = part_after_return g vid cpu a
 part_by plan g ctx.Hv cmd a vid cpu = g
-part_by plan g (ctx.Guest run) cmd a vid cpu = part_after_guest plan g cmd a
+part_by plan g (ctx.Guest run) cmd a vid cpu = part_after_guest plan g run.vid cmd a
 
 pub part_by_is : (plan : Plan) (g : GuestPart) (e : Event) → next_part plan g e ≡ part_by plan g e.saw.before e.trace.cmd e.trace.answer e.saw.vid e.trace.cpu
 part_by_is plan g e = by_ctx e.saw.before where
@@ -66,6 +66,7 @@ part_by_is plan g e = by_ctx e.saw.before where
   by_cmd (GLi rd value) = refl
   by_cmd (GLd rd gpa) = refl
   by_cmd (GSt rs gpa) = refl
+  by_cmd GIrq = refl
 
   by_ctx : (c : Ctx) → part_after_in c plan g e ≡ part_by plan g c e.trace.cmd e.trace.answer e.saw.vid e.trace.cpu
   by_ctx ctx.Hv = by_cmd e.trace.cmd
@@ -79,6 +80,8 @@ part_by_reads plan g ctx.Hv (UReturn r0 r2 outs) Enter v w m n h k =
 part_by_reads plan g ctx.Hv (UReturn r0 r2 outs) Done v w m n h k = refl
 part_by_reads plan g ctx.Hv (UReturn r0 r2 outs) (Val value) v w m n h k = refl
 part_by_reads plan g ctx.Hv (UReturn r0 r2 outs) (Ret code) v w m n h k = refl
+part_by_reads plan g ctx.Hv (UReturn r0 r2 outs) (Exit exit) v w m n h k = refl
+part_by_reads plan g ctx.Hv (UReturn r0 r2 outs) Again v w m n h k = refl
 part_by_reads plan g ctx.Hv (UReturn r0 r2 outs) Gone v w m n h k = refl
 part_by_reads plan g ctx.Hv (UReturn r0 r2 outs) Hole v w m n h k = refl
 part_by_reads plan g ctx.Hv (UReturn r0 r2 outs) Context v w m n h k = refl
@@ -88,6 +91,7 @@ part_by_reads plan g ctx.Hv (HSt ra value) a v w m n h k = refl
 part_by_reads plan g ctx.Hv (GLi rd value) a v w m n h k = refl
 part_by_reads plan g ctx.Hv (GLd rd gpa) a v w m n h k = refl
 part_by_reads plan g ctx.Hv (GSt rs gpa) a v w m n h k = refl
+part_by_reads plan g ctx.Hv GIrq a v w m n h k = refl
 part_by_reads plan g (ctx.Guest run) cmd a v w m n h k = refl
 
 part_agrees : (plan : Plan) (e f : Event) (g : GuestPart) → AgreeForGuest e f → next_part plan g e ≡ next_part plan g f
@@ -115,6 +119,7 @@ registers_read ctx.Hv registers (HSt ra value) a v w h = (λ i n. (put_same regi
 registers_read ctx.Hv registers (GLi rd value) a v w h = (λ i n. (put_same registers v n ∙ sym (put_same registers w n)) i)
 registers_read ctx.Hv registers (GLd rd gpa) a v w h = (λ i n. (put_same registers v n ∙ sym (put_same registers w n)) i)
 registers_read ctx.Hv registers (GSt rs gpa) a v w h = (λ i n. (put_same registers v n ∙ sym (put_same registers w n)) i)
+registers_read ctx.Hv registers GIrq a v w h = (λ i n. (put_same registers v n ∙ sym (put_same registers w n)) i)
 
 guest_agrees : (plan : Plan) (e f : Event) (g : Guest) → AgreeForGuest e f → next_guest plan g e ≡ next_guest plan g f
 guest_agrees plan e f g h =

@@ -7,9 +7,9 @@ use Rattle.std.proofs.lemmas.List.{length-replicate}
 use Rattle.pef_model.specs.declared.state.Ctx.{Ctx}
 use Rattle.pef_model.specs.declared.state.Ctx.TheVariants as ctx
 use Rattle.pef_model.specs.declared.command.Cmd.{Cmd}
-use Rattle.pef_model.specs.declared.command.Cmd.TheVariants.{HLd, HSt, UReturn, GLi, GLd, GSt}
+use Rattle.pef_model.specs.declared.command.Cmd.TheVariants.{HLd, HSt, UReturn, GLi, GLd, GSt, GIrq}
 use Rattle.pef_model.specs.declared.entry.Answer.{Answer}
-use Rattle.pef_model.specs.declared.entry.Answer.TheVariants.{Done, Val, Ret, Enter, Gone, Hole, Context, Nothing}
+use Rattle.pef_model.specs.declared.entry.Answer.TheVariants.{Done, Val, Ret, Enter, Exit, Again, Gone, Hole, Context, Nothing}
 use Rattle.pef_model.specs.Plan.{Plan, plan_of}
 use Rattle.pef_model.specs.Event.{Event}
 use Rattle.pef_model.specs.Doubleword.{doubleword, with_doubleword}
@@ -56,6 +56,7 @@ alone_not_done ctx.Hv (UReturn r0 r2 outs) h = cc
 alone_not_done ctx.Hv (GLi rd value) h = cc
 alone_not_done ctx.Hv (GLd rd gpa) h = cc
 alone_not_done ctx.Hv (GSt rs gpa) h = cc
+alone_not_done ctx.Hv GIrq h = cc
 alone_not_done (ctx.Guest run) cmd h = cc
 
 store_is_placed : (plan : Plan) (past : List Event) (e : Event) (at value : ℕ) → Extends plan past e → e.saw.before ≡ ctx.Hv → e.trace.cmd ≡ HSt at value →
@@ -139,6 +140,8 @@ step_holds plan bytes ctx.Hv (HSt at value) Done ra old least here k holds store
 step_holds plan bytes ctx.Hv (HSt at value) (Val v) ra old least here k holds stores = holds
 step_holds plan bytes ctx.Hv (HSt at value) (Ret code) ra old least here k holds stores = holds
 step_holds plan bytes ctx.Hv (HSt at value) Enter ra old least here k holds stores = holds
+step_holds plan bytes ctx.Hv (HSt at value) (Exit exit) ra old least here k holds stores = holds
+step_holds plan bytes ctx.Hv (HSt at value) Again ra old least here k holds stores = holds
 step_holds plan bytes ctx.Hv (HSt at value) Gone ra old least here k holds stores = holds
 step_holds plan bytes ctx.Hv (HSt at value) Hole ra old least here k holds stores = holds
 step_holds plan bytes ctx.Hv (HSt at value) Context ra old least here k holds stores = holds
@@ -148,6 +151,7 @@ step_holds plan bytes ctx.Hv (UReturn r0 r2 outs) a ra old least here k holds st
 step_holds plan bytes ctx.Hv (GLi rd value) a ra old least here k holds stores = holds
 step_holds plan bytes ctx.Hv (GLd rd gpa) a ra old least here k holds stores = holds
 step_holds plan bytes ctx.Hv (GSt rs gpa) a ra old least here k holds stores = holds
+step_holds plan bytes ctx.Hv GIrq a ra old least here k holds stores = holds
 
 -- an entry that doesn't touch the frame of an address decides nothing there
 decides_nothing : (ra : ℕ) (c : Ctx) (cmd : Cmd) (a : Answer) → ((at value : ℕ) → c ≡ ctx.Hv → cmd ≡ HSt at value → a ≡ Done → (at == ra) ≡ false) → norm_by ra c cmd a ≡ None
@@ -156,6 +160,8 @@ decides_nothing ra ctx.Hv (HSt at value) Done elsewhere = ap (λ (b : Bool). if 
 decides_nothing ra ctx.Hv (HSt at value) (Val v) elsewhere = refl
 decides_nothing ra ctx.Hv (HSt at value) (Ret code) elsewhere = refl
 decides_nothing ra ctx.Hv (HSt at value) Enter elsewhere = refl
+decides_nothing ra ctx.Hv (HSt at value) (Exit exit) elsewhere = refl
+decides_nothing ra ctx.Hv (HSt at value) Again elsewhere = refl
 decides_nothing ra ctx.Hv (HSt at value) Gone elsewhere = refl
 decides_nothing ra ctx.Hv (HSt at value) Hole elsewhere = refl
 decides_nothing ra ctx.Hv (HSt at value) Context elsewhere = refl
@@ -165,6 +171,7 @@ decides_nothing ra ctx.Hv (UReturn r0 r2 outs) a elsewhere = refl
 decides_nothing ra ctx.Hv (GLi rd value) a elsewhere = refl
 decides_nothing ra ctx.Hv (GLd rd gpa) a elsewhere = refl
 decides_nothing ra ctx.Hv (GSt rs gpa) a elsewhere = refl
+decides_nothing ra ctx.Hv GIrq a elsewhere = refl
 
 frame_holds : (plan : Plan) (past : List Event) (ra : ℕ) → 8 ≤ plan.shift → IsLegal plan past → AllByRecursion (λ (e : Event). IsCommand e.trace.cmd) past →
     has_real_place plan ra ≡ true → Holds plan (frame_after plan (frame_of plan ra) past) ra (last_norm past ra)

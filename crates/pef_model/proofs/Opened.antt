@@ -3,7 +3,7 @@ use Rattle.std.proofs.Common.{◌≡◌, ℕ, List, refl}
 use Rattle.pef_model.specs.declared.state.Ctx.{Ctx}
 use Rattle.pef_model.specs.declared.state.Ctx.TheVariants as ctx
 use Rattle.pef_model.specs.declared.command.Cmd.{Cmd}
-use Rattle.pef_model.specs.declared.command.Cmd.TheVariants.{HLd, HSt, UReturn, GLi, GLd, GSt}
+use Rattle.pef_model.specs.declared.command.Cmd.TheVariants.{HLd, HSt, UReturn, GLi, GLd, GSt, GIrq}
 use Rattle.pef_model.specs.declared.entry.Answer.{Answer}
 use Rattle.pef_model.specs.Plan.{Plan}
 use Rattle.pef_model.specs.Deed.{answer_alone, answer_frame}
@@ -19,6 +19,7 @@ alone_open ctx.Hv (UReturn r0 r2 outs) = refl
 alone_open ctx.Hv (GLi rd value) = refl
 alone_open ctx.Hv (GLd rd gpa) = refl
 alone_open ctx.Hv (GSt rs gpa) = refl
+alone_open ctx.Hv GIrq = refl
 alone_open (ctx.Guest run) cmd = refl
 
 -- so is one at a normal frame
@@ -29,6 +30,7 @@ frame_answer_open plan bytes (UReturn r0 r2 outs) = refl
 frame_answer_open plan bytes (GLi rd value) = refl
 frame_answer_open plan bytes (GLd rd gpa) = refl
 frame_answer_open plan bytes (GSt rs gpa) = refl
+frame_answer_open plan bytes GIrq = refl
 
 -- it has the same name
 pub name_open : (cmd : Cmd) → command_name cmd ≡ command_name (open_cmd cmd)
@@ -38,6 +40,7 @@ name_open (UReturn r0 r2 outs) = refl
 name_open (GLi rd value) = refl
 name_open (GLd rd gpa) = refl
 name_open (GSt rs gpa) = refl
+name_open GIrq = refl
 
 -- it writes the same
 pub writes_open : (plan : Plan) (c : Ctx) (cmd : Cmd) (a : Answer) → writes_of plan c cmd a ≡ writes_of plan c (open_cmd cmd) (open_answer c a)
@@ -47,4 +50,5 @@ writes_open plan ctx.Hv (UReturn r0 r2 outs) a = refl
 writes_open plan ctx.Hv (GLi rd value) a = refl
 writes_open plan ctx.Hv (GLd rd gpa) a = refl
 writes_open plan ctx.Hv (GSt rs gpa) a = refl
+writes_open plan ctx.Hv GIrq a = refl
 writes_open plan (ctx.Guest run) cmd a = refl

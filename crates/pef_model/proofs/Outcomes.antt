@@ -5,15 +5,16 @@ use Rattle.pef_model.specs.declared.state.Ctx.{Ctx}
 use Rattle.pef_model.specs.declared.state.Ctx.TheVariants as ctx
 use Rattle.pef_model.specs.declared.command.Code.TheVariants.{UInvalid}
 use Rattle.pef_model.specs.declared.command.Cmd.{Cmd}
-use Rattle.pef_model.specs.declared.command.Cmd.TheVariants.{HLd, HSt, UReturn, GLi, GLd, GSt}
+use Rattle.pef_model.specs.declared.command.Cmd.TheVariants.{HLd, HSt, UReturn, GLi, GLd, GSt, GIrq}
+use Rattle.pef_model.specs.declared.entry.Exit.TheVariants as exit
 use Rattle.pef_model.specs.declared.entry.Answer.{Answer}
-use Rattle.pef_model.specs.declared.entry.Answer.TheVariants.{Done, Val, Ret, Enter, Gone, Hole, Context}
+use Rattle.pef_model.specs.declared.entry.Answer.TheVariants.{Done, Val, Ret, Enter, Exit, Again, Gone, Hole, Context}
 use Rattle.pef_model.specs.Plan.{Plan}
 use Rattle.pef_model.specs.Event.{Event}
 use Rattle.pef_model.specs.Target.{Ask, Alone, AtGuest, AtFrame, frame_of, has_real_place, target_in}
 use Rattle.pef_model.specs.GuestPart.{GuestPart}
 use Rattle.pef_model.specs.Guest.{Guest, private_doubleword}
-use Rattle.pef_model.specs.Deed.{Deed, Reach, NoPage, InFrame, Backs, NoFrame, answering, may_return_in, is_waiting, deed_return, reach, deed_access, deed_running, deed_gone}
+use Rattle.pef_model.specs.Deed.{Deed, Reach, NoPage, InFrame, Backs, NoFrame, Moves, answering, may_return_in, is_waiting, deed_return, reach, deed_access, deed_running, deed_gone}
 use Rattle.pef_model.specs.History.{cpu_after, guest_after, pool_after, deed_after, Extends}
 
 -- the answers that a step can give, each with the context after it and the values that it lets out
@@ -38,8 +39,11 @@ Outcome (ctx.Guest run) (UReturn r0 r2 outs) (Ret code) after shown = (after ≡
 Outcome (ctx.Guest run) (GLi rd value) Done after shown = (after ≡ ctx.Guest run) × (shown ≡ [])
 Outcome (ctx.Guest run) (GLd rd gpa) (Val value) after shown = (after ≡ ctx.Guest run) × (shown ≡ [])
 Outcome (ctx.Guest run) (GLd rd gpa) Hole after shown = (after ≡ ctx.Guest run) × (shown ≡ [])
+Outcome (ctx.Guest run) (GLd rd gpa) Again after shown = (after ≡ ctx.Guest run) × (shown ≡ [])
 Outcome (ctx.Guest run) (GSt rs gpa) Done after shown = (after ≡ ctx.Guest run) × (shown ≡ [])
 Outcome (ctx.Guest run) (GSt rs gpa) Hole after shown = (after ≡ ctx.Guest run) × (shown ≡ [])
+Outcome (ctx.Guest run) (GSt rs gpa) Again after shown = (after ≡ ctx.Guest run) × (shown ≡ [])
+Outcome (ctx.Guest run) GIrq (Exit exit.Irq) after shown = (after ≡ ctx.Hv) × (shown ≡ [])
 Outcome (ctx.Guest run) cmd a after shown = ⊥
 
 -- the deed of a step has such an outcome
@@ -51,12 +55,14 @@ load_comes run ask rd gpa value NoPage h = (h, refl)
 load_comes run ask rd gpa value InFrame h = (h, refl)
 load_comes run ask rd gpa value Backs h = (h, refl)
 load_comes run ask rd gpa value NoFrame h = (h, refl)
+load_comes run ask rd gpa value Moves h = (h, refl)
 
 store_comes : (run : Run) (ask : Ask) (rs gpa : ℕ) (r : Reach) → ask.before ≡ ctx.Guest run → Comes (ctx.Guest run) (GSt rs gpa) (deed_access ask Done r)
 store_comes run ask rs gpa NoPage h = (h, refl)
 store_comes run ask rs gpa InFrame h = (h, refl)
 store_comes run ask rs gpa Backs h = (h, refl)
 store_comes run ask rs gpa NoFrame h = (h, refl)
+store_comes run ask rs gpa Moves h = (h, refl)
 
 running_comes : (plan : Plan) (g : Guest) (any : Bool) (run : Run) (ask : Ask) (cmd : Cmd) → ask.before ≡ ctx.Guest run →
     Comes (ctx.Guest run) cmd (deed_running plan g any ask cmd)
@@ -66,6 +72,7 @@ running_comes plan g any run ask (UReturn r0 r2 outs) h = (h, refl)
 running_comes plan g any run ask (GLi rd value) h = (h, refl)
 running_comes plan g any run ask (GLd rd gpa) h = load_comes run ask rd gpa (private_doubleword plan g gpa) (reach plan g.part any gpa) h
 running_comes plan g any run ask (GSt rs gpa) h = store_comes run ask rs gpa (reach plan g.part any gpa) h
+running_comes plan g any run ask GIrq h = (refl, refl)
 
 return_comes : (g : GuestPart) (lpid vid : ℕ) (last : Answer) (r0 r2 : ℕ) (outs : List ℕ) →
     Comes ctx.Hv (UReturn r0 r2 outs) (deed_return g (record { before = ctx.Hv; lpid = lpid; vid = vid; last = last }))
@@ -118,12 +125,14 @@ deed_comes plan past ctx.Hv lpid vid last (UReturn r0 r2 outs) = return_comes (g
 deed_comes plan past ctx.Hv lpid vid last (GLi rd value) = (refl, refl)
 deed_comes plan past ctx.Hv lpid vid last (GLd rd gpa) = (refl, refl)
 deed_comes plan past ctx.Hv lpid vid last (GSt rs gpa) = (refl, refl)
+deed_comes plan past ctx.Hv lpid vid last GIrq = (refl, refl)
 deed_comes plan past (ctx.Guest run) lpid vid last (HLd ra) = (refl, refl)
 deed_comes plan past (ctx.Guest run) lpid vid last (HSt ra value) = (refl, refl)
 deed_comes plan past (ctx.Guest run) lpid vid last (UReturn r0 r2 outs) = guest_comes plan past run lpid vid last (UReturn r0 r2 outs) (λ ask. (refl, refl))
 deed_comes plan past (ctx.Guest run) lpid vid last (GLi rd value) = guest_comes plan past run lpid vid last (GLi rd value) (λ ask. (refl, refl))
 deed_comes plan past (ctx.Guest run) lpid vid last (GLd rd gpa) = guest_comes plan past run lpid vid last (GLd rd gpa) (λ ask. (refl, refl))
 deed_comes plan past (ctx.Guest run) lpid vid last (GSt rs gpa) = guest_comes plan past run lpid vid last (GSt rs gpa) (λ ask. (refl, refl))
+deed_comes plan past (ctx.Guest run) lpid vid last GIrq = guest_comes plan past run lpid vid last GIrq (λ ask. (refl, refl))
 
 -- an entry that extends a history has such an outcome
 pub outcome : (plan : Plan) (past : List Event) (e : Event) → Extends plan past e → Outcome e.saw.before e.trace.cmd e.trace.answer e.saw.after e.saw.shown

@@ -1,18 +1,17 @@
 -- Lemmas on commands that are read: they can be written.
-use Rattle.std.proofs.Common.{◌≡◌, ◌<◌, ℕ, ◌^◌, Bool, true, false, cond, ◌&&◌, List, [], ◌∷◌, length, drop, replicate, refl, subst, arith, sym}
-use Rattle.std.specs.Prelude.{Option, Some, None, nat_eq, nat_lt, nat_le, codes}
+use Rattle.std.proofs.Common.{◌≡◌, ◌<◌, ℕ, ◌+◌, ◌^◌, Bool, true, false, cond, ◌&&◌, List, [], ◌∷◌, length, drop, replicate, refl, ap, subst, arith, suc}
+use Rattle.std.specs.Prelude.{Option, Some, None, nat_eq, nat_lt, nat_le, codes, option_and_then, if◌then◌else◌}
 use Rattle.std.specs.Char.{is_digit}
 use Rattle.std.specs.List.{AllByRecursion, list_all, starts_with}
 use Rattle.std.specs.Str.{bytes_eq}
 use Rattle.std.specs.Str.Parse.{digits_value}
 use Rattle.std.proofs.lemmas.Bool.{ltb-true}
-use Rattle.std.proofs.lemmas.Option.{cond_some}
+use Rattle.std.proofs.lemmas.Option.{cond_some, same_Some}
 use Rattle.pef_model.specs.declared.command.Cmd.{Cmd}
-use Rattle.pef_model.specs.declared.command.Cmd.TheVariants.{HLd, HSt, UReturn, GLi, GLd, GSt}
-use Rattle.pef_model.specs.Script.{Script, Reads, numeral_in, number_in, register_at, register_in, load_of, store_of, return_of, guest_command_of, short_command_of, command_of, command_in, words_of}
-use Rattle.pef_model.specs.Commands.{before_commands, commands_of, first_script}
-use Rattle.pef_model.specs.ScriptText.{CanBeWritten}
-use Rattle.pef_model.proofs.Grammar.{lines_of_read}
+use Rattle.pef_model.specs.declared.command.Cmd.TheVariants.{HLd, HSt, UReturn, GLi, GLd, GSt, GIrq}
+use Rattle.pef_model.specs.Script.{Line, load_of, store_of, return_of, guest_command_of, bare_command_of, short_command_of, command_of, command_in, numbered_line, line_in, before_lines, command_lines}
+use Rattle.pef_model.specs.ScriptText.{CanBeWritten, CountsFrom}
+use Rattle.pef_model.specs.Words.{words_of, numeral_in, number_in, number_below, register_at, register_in}
 
 -- a value is in the limit if there is one
 abbrev AllBelow : ℕ → Option ℕ → Type 0
@@ -37,8 +36,8 @@ either_below : (limit : ℕ) (test : Bool) (a b : Option ℕ) → AllBelow limit
 either_below limit true a b below other = below
 either_below limit false a b below other = other
 
-number_below : (word : List ℕ) → AllBelow (2 ^ 64) (number_in word)
-number_below word = either_below (2 ^ 64) (starts_with nat_eq word (codes "0x")) _ _ (numeral_below 16 16 (drop 2 word)) (numeral_below 10 20 word)
+number_fits : (word : List ℕ) → AllBelow (2 ^ 64) (number_in word)
+number_fits word = either_below (2 ^ 64) (starts_with nat_eq word (codes "0x")) _ _ (numeral_below 16 16 (drop 2 word)) (numeral_below 10 20 word)
 
 register_at_below : (found : Option ℕ) → AllBelow 32 (register_at found)
 register_at_below None r e = absurd (cc)
@@ -95,44 +94,83 @@ guest_written make (Some i) (Some m) written first second cmd e =
     let same : make i m ≡ cmd = cc in
     subst CanBeWritten same (written i m (first i refl) (second m refl))
 
+interrupt_written : AllWritten (Some GIrq)
+interrupt_written cmd e =
+    let same : GIrq ≡ cmd = cc in
+    subst CanBeWritten same tt
+
+bare_command_of_written : (name : List ℕ) → AllWritten (bare_command_of name)
+bare_command_of_written name = either_written (bytes_eq name (codes "g.irq")) (Some GIrq) None interrupt_written none_written
+
 short_command_of_written : (name operand : List ℕ) → AllWritten (short_command_of name operand)
-short_command_of_written name operand = either_written (bytes_eq name (codes "h.ld")) _ None (load_written (number_in operand) (number_below operand)) none_written
+short_command_of_written name operand = either_written (bytes_eq name (codes "h.ld")) _ None (load_written (number_in operand) (number_fits operand)) none_written
 
 command_of_written : (name first second : List ℕ) → AllWritten (command_of name first second)
 command_of_written name first second =
-    either_written (bytes_eq name (codes "h.st")) _ _ (store_written (number_in first) (number_in second) (number_below first) (number_below second))
-    (either_written (bytes_eq name (codes "u.return")) _ _ (return_written (number_in first) (number_in second) (number_below first) (number_below second))
-    (either_written (bytes_eq name (codes "g.li")) _ _ (guest_written GLi (register_in first) (number_in second) (λ i m r n. (r, n)) (register_below first) (number_below second))
-    (either_written (bytes_eq name (codes "g.ld")) _ _ (guest_written GLd (register_in first) (number_in second) (λ i m r n. (r, n)) (register_below first) (number_below second))
-    (either_written (bytes_eq name (codes "g.st")) _ None (guest_written GSt (register_in first) (number_in second) (λ i m r n. (r, n)) (register_below first) (number_below second)) none_written))))
+    either_written (bytes_eq name (codes "h.st")) _ _ (store_written (number_in first) (number_in second) (number_fits first) (number_fits second))
+    (either_written (bytes_eq name (codes "u.return")) _ _ (return_written (number_in first) (number_in second) (number_fits first) (number_fits second))
+    (either_written (bytes_eq name (codes "g.li")) _ _ (guest_written GLi (register_in first) (number_in second) (λ i m r n. (r, n)) (register_below first) (number_fits second))
+    (either_written (bytes_eq name (codes "g.ld")) _ _ (guest_written GLd (register_in first) (number_in second) (λ i m r n. (r, n)) (register_below first) (number_fits second))
+    (either_written (bytes_eq name (codes "g.st")) _ None (guest_written GSt (register_in first) (number_in second) (λ i m r n. (r, n)) (register_below first) (number_fits second)) none_written))))
 
 command_in_written : (words : List (List ℕ)) → AllWritten (command_in words)
 command_in_written [] = none_written
-command_in_written (a ∷ []) = none_written
-command_in_written (a ∷ b ∷ []) = none_written
-command_in_written (cpu ∷ name ∷ operand ∷ []) =
-    either_written (bytes_eq cpu (codes "0")) _ None (short_command_of_written name operand) none_written
-command_in_written (cpu ∷ name ∷ first ∷ second ∷ []) =
-    either_written (bytes_eq cpu (codes "0")) _ None (command_of_written name first second) none_written
-command_in_written (a ∷ b ∷ c ∷ d ∷ e ∷ more) = none_written
+command_in_written (name ∷ []) = bare_command_of_written name
+command_in_written (name ∷ operand ∷ []) = short_command_of_written name operand
+command_in_written (name ∷ first ∷ second ∷ []) = command_of_written name first second
+command_in_written (a ∷ b ∷ c ∷ d ∷ more) = none_written
 
-before_written : (found : Option Cmd) (others : Option (List Cmd)) (cmds : List Cmd) → AllWritten found → ((more : List Cmd) → others ≡ Some more → AllByRecursion CanBeWritten more) →
-    before_commands found others ≡ Some cmds → AllByRecursion CanBeWritten cmds
-before_written None None cmds first rest e = absurd (cc)
-before_written None (Some more) cmds first rest e = absurd (cc)
-before_written (Some cmd) None cmds first rest e = absurd (cc)
-before_written (Some cmd) (Some more) cmds first rest e =
-    let same : cmd ∷ more ≡ cmds = cc in
-    subst (AllByRecursion CanBeWritten) same (first cmd refl, rest more refl)
+below_limit : (limit n : ℕ) (found : Option ℕ) → option_and_then (λ m. if nat_lt m limit then Some m else None) found ≡ Some n → n < limit
+below_limit limit n None e = absurd (cc)
+below_limit limit n (Some m) e =
+    let found = cond_some (nat_lt m limit) m n e in
+    let below : m < limit = ltb-true m limit found.0 in
+    omega (arith, found.1, below)
 
--- the commands of lines can be written
-commands_written : (lines : List (List ℕ)) (cmds : List Cmd) → commands_of lines ≡ Some cmds → AllByRecursion CanBeWritten cmds
-commands_written [] cmds e = let same : [] ≡ cmds = cc in subst (AllByRecursion CanBeWritten) same tt
-commands_written (line ∷ more) cmds e =
-    before_written (command_in (words_of line)) (commands_of more) cmds (command_in_written (words_of line)) (commands_written more) e
+-- a line that is read has its number, one of the CPUs, and a command that can be written
+record IsRead (cpus number : ℕ) (line : Line) : Type 0 where
+  number_is : line.number ≡ number
+  cpu : line.cpu < cpus
+  cmd : CanBeWritten line.cmd
 
--- what is read is the script of commands that can be written
-pub read_written : (text : List ℕ) (s : Script) → Reads text s → (cmds : List Cmd) × AllByRecursion CanBeWritten cmds × (s ≡ first_script cmds)
-read_written text s reads =
-    let found = lines_of_read text s reads in
-    (found.1, commands_written found.0 found.1 found.2.read, sym found.2.is)
+line_read_from : (cpus number : ℕ) (cpu : Option ℕ) (cmd : Option Cmd) (line : Line) → ((n : ℕ) → cpu ≡ Some n → n < cpus) → AllWritten cmd →
+    numbered_line number cpu cmd ≡ Some line → IsRead cpus number line
+line_read_from cpus number None None line below written e = absurd (cc)
+line_read_from cpus number None (Some cmd) line below written e = absurd (cc)
+line_read_from cpus number (Some cpu) None line below written e = absurd (cc)
+line_read_from cpus number (Some cpu) (Some cmd) line below written e =
+    let same : record { number = number; cpu = cpu; cmd = cmd } ≡ line = same_Some _ _ e in
+    subst (IsRead cpus number) same (record { number_is = refl; cpu = below cpu refl; cmd = written cmd refl })
+
+line_read : (cpus number : ℕ) (words : List (List ℕ)) (line : Line) → line_in cpus number words ≡ Some line → IsRead cpus number line
+line_read cpus number [] line e = absurd (cc)
+line_read cpus number (cpu ∷ command) line e =
+    line_read_from cpus number (number_below cpus cpu) (command_in command) line (λ n is. below_limit cpus n (number_in cpu) is) (command_in_written command) e
+
+-- lines that are read, of so many texts
+pub record AreRead (cpus number count : ℕ) (lines : List Line) : Type 0 where
+  pub counts : CountsFrom number lines
+  pub cpus_below : AllByRecursion (λ (line : Line). line.cpu < cpus) lines
+  pub cmds : AllByRecursion (λ (line : Line). CanBeWritten line.cmd) lines
+  pub total : length lines ≡ count
+
+before_read : (cpus number count : ℕ) (found : Option Line) (others : Option (List Line)) (lines : List Line) → ((line : Line) → found ≡ Some line → IsRead cpus number line) →
+    ((more : List Line) → others ≡ Some more → AreRead cpus (number + 1) count more) → before_lines found others ≡ Some lines → AreRead cpus number (suc count) lines
+before_read cpus number count None None lines first rest e = absurd (cc)
+before_read cpus number count None (Some more) lines first rest e = absurd (cc)
+before_read cpus number count (Some line) None lines first rest e = absurd (cc)
+before_read cpus number count (Some line) (Some more) lines first rest e =
+    let same : line ∷ more ≡ lines = same_Some _ _ e in
+    let one = first line refl in
+    let others = rest more refl in
+    subst (AreRead cpus number (suc count)) same
+    (record { counts = (one.number_is, others.counts); cpus_below = (one.cpu, others.cpus_below); cmds = (one.cmd, others.cmds); total = ap suc others.total })
+
+-- command lines are read from as many texts
+pub command_lines_read : (cpus number : ℕ) (texts : List (List ℕ)) (lines : List Line) → command_lines cpus number texts ≡ Some lines → AreRead cpus number (length texts) lines
+command_lines_read cpus number [] lines e =
+    let same : [] ≡ lines = same_Some _ _ e in
+    subst (AreRead cpus number 0) same (record { counts = tt; cpus_below = tt; cmds = tt; total = refl })
+command_lines_read cpus number (text ∷ more) lines e =
+    before_read cpus number (length more) (line_in cpus number (words_of text)) (command_lines cpus (number + 1) more) lines (line_read cpus number (words_of text))
+    (command_lines_read cpus (number + 1) more) e

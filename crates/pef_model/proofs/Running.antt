@@ -1,24 +1,27 @@
 -- A vCPU runs on one CPU.
 use Rattle.std.proofs.Common.{◌≡◌, ℕ, List, [], ◌∷◌, Bool, true, false, refl, ap, sym, subst, ◌∙◌, ◌==◌, ◌&&◌, if◌then◌else◌}
 use Rattle.pef_model.specs.declared.state.Phase.TheVariants.{Secure}
-use Rattle.pef_model.specs.declared.state.VState.TheVariants.{Running}
+use Rattle.pef_model.specs.declared.state.VState.TheVariants.{Running, Parked}
+use Rattle.pef_model.specs.declared.state.Pending.TheVariants as pending
 use Rattle.pef_model.specs.declared.state.Run.{Run}
 use Rattle.pef_model.specs.declared.state.Ctx.{Ctx}
 use Rattle.pef_model.specs.declared.state.Ctx.TheVariants as ctx
 use Rattle.pef_model.specs.declared.command.Code.TheVariants.{UInvalid}
 use Rattle.pef_model.specs.declared.command.Cmd.{Cmd}
-use Rattle.pef_model.specs.declared.command.Cmd.TheVariants.{HLd, HSt, UReturn, GLi, GLd, GSt}
+use Rattle.pef_model.specs.declared.command.Cmd.TheVariants.{HLd, HSt, UReturn, GLi, GLd, GSt, GIrq}
+use Rattle.pef_model.specs.declared.entry.Exit.TheVariants as exit
 use Rattle.pef_model.specs.declared.entry.Answer.{Answer}
-use Rattle.pef_model.specs.declared.entry.Answer.TheVariants.{Done, Val, Ret, Enter, Gone, Hole, Context}
+use Rattle.pef_model.specs.declared.entry.Answer.TheVariants.{Done, Val, Ret, Enter, Exit, Again, Gone, Hole, Context}
 use Rattle.pef_model.specs.Plan.{Plan}
 use Rattle.pef_model.specs.Event.{Event}
 use Rattle.pef_model.specs.Target.{Ask, Alone, AtFrame, frame_of, has_real_place, target_of_address, target_in, is_guest, touches_cpu, touches_guest}
 use Rattle.pef_model.specs.Cpu.{start_cpu, next_cpu}
-use Rattle.pef_model.specs.GuestPart.{GuestPart, VcpuPart, start_part, start_part_of, page_of, is_invalid, with_secure_page, with_page_backed, with_running_vcpu, part_after_access, part_after_guest}
+use Rattle.pef_model.specs.GuestPart.{GuestPart, VcpuPart, start_part, start_part_of, page_of, is_invalid, with_secure_page, with_page_backed, with_running_vcpu, part_after_access, part_after_interrupt, part_after_guest}
 use Rattle.pef_model.specs.Guest.{Guest, next_guest}
 use Rattle.pef_model.specs.Deed.{Deed, answering, may_return_in, is_waiting, deed_return}
 use Rattle.pef_model.specs.History.{cpu_after, guest_after, deed_after, Extends}
 use Rattle.pef_model.specs.CountLaw.{part_after, RunsItsVcpu, EachCpuRunsItsVcpu, NoVcpuRunsTwice}
+use Rattle.pef_model.proofs.Aims.{own_guest}
 use Rattle.pef_model.proofs.Folds.{same_test, test_same, skips}
 use Rattle.pef_model.proofs.NextValues.{part_by, part_by_is}
 use Rattle.pef_model.proofs.Outcomes.{Outcome, outcome}
@@ -77,6 +80,7 @@ deed_takes plan past ctx.Hv lpid vid last (UReturn r0 r2 outs) = return_takes (p
 deed_takes plan past ctx.Hv lpid vid last (GLi rd value) = tt
 deed_takes plan past ctx.Hv lpid vid last (GLd rd gpa) = tt
 deed_takes plan past ctx.Hv lpid vid last (GSt rs gpa) = tt
+deed_takes plan past ctx.Hv lpid vid last GIrq = tt
 deed_takes plan past (ctx.Guest run) lpid vid last cmd = tt
 
 pub takes : (plan : Plan) (past : List Event) (e : Event) → Extends plan past e →
@@ -100,35 +104,67 @@ next_by_is plan past e lpid = by_test (touches_guest plan lpid e) where
   by_test true = part_by_is plan g.part e
   by_test false = refl
 
--- a guest's part with the phase, the generation and the vCPUs of another
-record KeepsRest (old new : GuestPart) : Type 0 where
-  phase : new.phase ≡ old.phase
-  generation : new.generation ≡ old.generation
-  vcpus : new.vcpus ≡ old.vcpus
-
-keeps_accessed : (g : GuestPart) (gfn : ℕ) → KeepsRest g (with_page_backed g gfn)
-keeps_accessed g gfn = by_kind (is_invalid (g.pages gfn)) where
-  by_kind : (b : Bool) → KeepsRest g (if b then with_secure_page g gfn else g)
-  by_kind true = record { phase = refl; generation = refl; vcpus = refl }
-  by_kind false = record { phase = refl; generation = refl; vcpus = refl }
-
-keeps_access : (g : GuestPart) (gfn : ℕ) (a : Answer) → KeepsRest g (part_after_access g gfn a)
-keeps_access g gfn Done = keeps_accessed g gfn
-keeps_access g gfn (Val value) = keeps_accessed g gfn
-keeps_access g gfn a = record { phase = refl; generation = refl; vcpus = refl }
-
-keeps_guest : (plan : Plan) (g : GuestPart) (cmd : Cmd) (a : Answer) → KeepsRest g (part_after_guest plan g cmd a)
-keeps_guest plan g (HLd ra) a = record { phase = refl; generation = refl; vcpus = refl }
-keeps_guest plan g (HSt ra value) a = record { phase = refl; generation = refl; vcpus = refl }
-keeps_guest plan g (UReturn r0 r2 outs) a = record { phase = refl; generation = refl; vcpus = refl }
-keeps_guest plan g (GLi rd value) a = record { phase = refl; generation = refl; vcpus = refl }
-keeps_guest plan g (GLd rd gpa) a = keeps_access g (page_of plan gpa) a
-keeps_guest plan g (GSt rs gpa) a = keeps_access g (page_of plan gpa) a
-
 -- no command changes a guest's phase or generation
 record KeepsLife (old new : GuestPart) : Type 0 where
   phase : new.phase ≡ old.phase
   generation : new.generation ≡ old.generation
+
+-- whether a guest leaves for the hypervisor
+abbrev is_leaving : Answer → Bool
+is_leaving (Exit exit) = true
+is_leaving a = false
+
+life_accessed : (g : GuestPart) (gfn : ℕ) → KeepsLife g (with_page_backed g gfn)
+life_accessed g gfn = by_kind (is_invalid (g.pages gfn)) where
+  by_kind : (b : Bool) → KeepsLife g (if b then with_secure_page g gfn else g)
+  by_kind true = record { phase = refl; generation = refl }
+  by_kind false = record { phase = refl; generation = refl }
+
+life_access : (g : GuestPart) (gfn : ℕ) (a : Answer) → KeepsLife g (part_after_access g gfn a)
+life_access g gfn Done = life_accessed g gfn
+life_access g gfn (Val value) = life_accessed g gfn
+life_access g gfn a = record { phase = refl; generation = refl }
+
+life_interrupt : (g : GuestPart) (v : ℕ) (a : Answer) → KeepsLife g (part_after_interrupt g v a)
+life_interrupt g v (Exit exit.Irq) = record { phase = refl; generation = refl }
+life_interrupt g v a = record { phase = refl; generation = refl }
+
+life_guest : (plan : Plan) (g : GuestPart) (v : ℕ) (cmd : Cmd) (a : Answer) → KeepsLife g (part_after_guest plan g v cmd a)
+life_guest plan g v (HLd ra) a = record { phase = refl; generation = refl }
+life_guest plan g v (HSt ra value) a = record { phase = refl; generation = refl }
+life_guest plan g v (UReturn r0 r2 outs) a = record { phase = refl; generation = refl }
+life_guest plan g v (GLi rd value) a = record { phase = refl; generation = refl }
+life_guest plan g v (GLd rd gpa) a = life_access g (page_of plan gpa) a
+life_guest plan g v (GSt rs gpa) a = life_access g (page_of plan gpa) a
+life_guest plan g v GIrq a = life_interrupt g v a
+
+-- a step of a guest leaves each of its vCPUs as it is, but the one that leaves
+vcpu_accessed : (g : GuestPart) (gfn vid : ℕ) → (with_page_backed g gfn).vcpus vid ≡ g.vcpus vid
+vcpu_accessed g gfn vid = by_kind (is_invalid (g.pages gfn)) where
+  by_kind : (b : Bool) → (if b then with_secure_page g gfn else g).vcpus vid ≡ g.vcpus vid
+  by_kind true = refl
+  by_kind false = refl
+
+vcpu_access : (g : GuestPart) (gfn : ℕ) (a : Answer) (vid : ℕ) → (part_after_access g gfn a).vcpus vid ≡ g.vcpus vid
+vcpu_access g gfn Done vid = vcpu_accessed g gfn vid
+vcpu_access g gfn (Val value) vid = vcpu_accessed g gfn vid
+vcpu_access g gfn a vid = refl
+
+vcpu_interrupt : (g : GuestPart) (v : ℕ) (a : Answer) (vid : ℕ) → (is_leaving a ≡ true → v ≡ vid → ⊥) → (part_after_interrupt g v a).vcpus vid ≡ g.vcpus vid
+vcpu_interrupt g v (Exit exit.Irq) vid other = by_test (vid == v) refl where
+  by_test : (b : Bool) → (vid == v) ≡ b → (if b then (record { state = Parked pending.Irq; generation = (g.vcpus v).generation }) else g.vcpus vid) ≡ g.vcpus vid
+  by_test true t = absurd (other refl (sym (test_same vid v t)))
+  by_test false t = refl
+vcpu_interrupt g v a vid other = refl
+
+vcpu_guest : (plan : Plan) (g : GuestPart) (v : ℕ) (cmd : Cmd) (a : Answer) (vid : ℕ) → (is_leaving a ≡ true → v ≡ vid → ⊥) → (part_after_guest plan g v cmd a).vcpus vid ≡ g.vcpus vid
+vcpu_guest plan g v (HLd ra) a vid other = refl
+vcpu_guest plan g v (HSt ra value) a vid other = refl
+vcpu_guest plan g v (UReturn r0 r2 outs) a vid other = refl
+vcpu_guest plan g v (GLi rd value) a vid other = refl
+vcpu_guest plan g v (GLd rd gpa) a vid other = vcpu_access g (page_of plan gpa) a vid
+vcpu_guest plan g v (GSt rs gpa) a vid other = vcpu_access g (page_of plan gpa) a vid
+vcpu_guest plan g v GIrq a vid other = vcpu_interrupt g v a vid other
 
 keeps_life : (plan : Plan) (g : GuestPart) (c : Ctx) (cmd : Cmd) (a : Answer) (v cpu : ℕ) → KeepsLife g (part_by plan g c cmd a v cpu)
 keeps_life plan g ctx.Hv (HLd ra) a v cpu = record { phase = refl; generation = refl }
@@ -138,7 +174,8 @@ keeps_life plan g ctx.Hv (UReturn r0 r2 outs) a v cpu = record { phase = refl; g
 keeps_life plan g ctx.Hv (GLi rd value) a v cpu = record { phase = refl; generation = refl }
 keeps_life plan g ctx.Hv (GLd rd gpa) a v cpu = record { phase = refl; generation = refl }
 keeps_life plan g ctx.Hv (GSt rs gpa) a v cpu = record { phase = refl; generation = refl }
-keeps_life plan g (ctx.Guest run) cmd a v cpu = let kept = keeps_guest plan g cmd a in record { phase = kept.phase; generation = kept.generation }
+keeps_life plan g ctx.Hv GIrq a v cpu = record { phase = refl; generation = refl }
+keeps_life plan g (ctx.Guest run) cmd a v cpu = life_guest plan g run.vid cmd a
 
 life_stays : (plan : Plan) (past : List Event) (e : Event) (lpid : ℕ) → KeepsLife (part_after plan past lpid) (part_after plan (e ∷ past) lpid)
 life_stays plan past e lpid =
@@ -164,12 +201,17 @@ if_same : (b : Bool) (g : GuestPart) (vid : ℕ) → (if b then g else g).vcpus 
 if_same true g vid = refl
 if_same false g vid = refl
 
--- a vCPU that runs is left as it is
+-- no vCPU of this number leaves in a step
+abbrev Stays : Ctx → Answer → ℕ → ℕ → Type 0
+Stays c a lpid vid = (run : Run) → c ≡ ctx.Guest run → is_leaving a ≡ true → run.lpid ≡ lpid → run.vid ≡ vid → ⊥
+
+-- a vCPU that runs, and doesn't leave, is left as it is
 vcpu_stays_by : (plan : Plan) (guests : ℕ → GuestPart) (c : Ctx) (l v cpu : ℕ) (cmd : Cmd) (a : Answer) (after : Ctx) (lpid vid m : ℕ) →
-    Taking (guests l) c l v a after → ((guests lpid).vcpus vid).state ≡ Running m → (next_by plan c l v cpu cmd a (guests lpid) lpid).vcpus vid ≡ (guests lpid).vcpus vid
-vcpu_stays_by plan guests ctx.Hv l v cpu (HLd ra) a after lpid vid m taking runs = if_same (is_guest lpid (target_of_address plan ra)) (guests lpid) vid
-vcpu_stays_by plan guests ctx.Hv l v cpu (HSt ra value) a after lpid vid m taking runs = if_same (is_guest lpid (target_of_address plan ra)) (guests lpid) vid
-vcpu_stays_by plan guests ctx.Hv l v cpu (UReturn r0 r2 outs) Enter after lpid vid m taking runs = by_guest (l == lpid) refl where
+    Stays c a lpid vid → Taking (guests l) c l v a after → ((guests lpid).vcpus vid).state ≡ Running m →
+    (next_by plan c l v cpu cmd a (guests lpid) lpid).vcpus vid ≡ (guests lpid).vcpus vid
+vcpu_stays_by plan guests ctx.Hv l v cpu (HLd ra) a after lpid vid m stays taking runs = if_same (is_guest lpid (target_of_address plan ra)) (guests lpid) vid
+vcpu_stays_by plan guests ctx.Hv l v cpu (HSt ra value) a after lpid vid m stays taking runs = if_same (is_guest lpid (target_of_address plan ra)) (guests lpid) vid
+vcpu_stays_by plan guests ctx.Hv l v cpu (UReturn r0 r2 outs) Enter after lpid vid m stays taking runs = by_guest (l == lpid) refl where
   g : GuestPart
   g = guests lpid
 
@@ -183,28 +225,30 @@ vcpu_stays_by plan guests ctx.Hv l v cpu (UReturn r0 r2 outs) Enter after lpid v
   by_guest : (b : Bool) → (l == lpid) ≡ b → (if b then with_running_vcpu g v cpu else g).vcpus vid ≡ g.vcpus vid
   by_guest true t = by_vcpu (test_same l lpid t) (vid == v) refl
   by_guest false t = refl
-vcpu_stays_by plan guests ctx.Hv l v cpu (UReturn r0 r2 outs) a after lpid vid m taking runs = if_same (l == lpid) (guests lpid) vid
-vcpu_stays_by plan guests ctx.Hv l v cpu (GLi rd value) a after lpid vid m taking runs = refl
-vcpu_stays_by plan guests ctx.Hv l v cpu (GLd rd gpa) a after lpid vid m taking runs = refl
-vcpu_stays_by plan guests ctx.Hv l v cpu (GSt rs gpa) a after lpid vid m taking runs = refl
-vcpu_stays_by plan guests (ctx.Guest run) l v cpu cmd a after lpid vid m taking runs = by_guest (is_guest lpid (target_in plan (ctx.Guest run) l cmd)) where
+vcpu_stays_by plan guests ctx.Hv l v cpu (UReturn r0 r2 outs) a after lpid vid m stays taking runs = if_same (l == lpid) (guests lpid) vid
+vcpu_stays_by plan guests ctx.Hv l v cpu (GLi rd value) a after lpid vid m stays taking runs = refl
+vcpu_stays_by plan guests ctx.Hv l v cpu (GLd rd gpa) a after lpid vid m stays taking runs = refl
+vcpu_stays_by plan guests ctx.Hv l v cpu (GSt rs gpa) a after lpid vid m stays taking runs = refl
+vcpu_stays_by plan guests ctx.Hv l v cpu GIrq a after lpid vid m stays taking runs = refl
+vcpu_stays_by plan guests (ctx.Guest run) l v cpu cmd a after lpid vid m stays taking runs = by_guest (is_guest lpid (target_in plan (ctx.Guest run) l cmd)) refl where
   g : GuestPart
   g = guests lpid
 
-  by_guest : (b : Bool) → (if b then part_after_guest plan g cmd a else g).vcpus vid ≡ g.vcpus vid
-  by_guest true = let kept = keeps_guest plan g cmd a in ap (λ (f : ℕ → VcpuPart). f vid) kept.vcpus
-  by_guest false = refl
+  by_guest : (b : Bool) → is_guest lpid (target_in plan (ctx.Guest run) l cmd) ≡ b → (if b then part_after_guest plan g run.vid cmd a else g).vcpus vid ≡ g.vcpus vid
+  by_guest true t = vcpu_guest plan g run.vid cmd a vid (λ leaves this. stays run refl leaves (own_guest plan run l lpid cmd t) this)
+  by_guest false t = refl
 
-vcpu_stays : (plan : Plan) (past : List Event) (e : Event) (lpid vid m : ℕ) → Extends plan past e → ((part_after plan past lpid).vcpus vid).state ≡ Running m →
+vcpu_stays : (plan : Plan) (past : List Event) (e : Event) (lpid vid m : ℕ) → Extends plan past e → Stays e.saw.before e.trace.answer lpid vid → ((part_after plan past lpid).vcpus vid).state ≡ Running m →
     (part_after plan (e ∷ past) lpid).vcpus vid ≡ (part_after plan past lpid).vcpus vid
-vcpu_stays plan past e lpid vid m extends runs =
+vcpu_stays plan past e lpid vid m extends stays runs =
     ap (λ (g : GuestPart). g.vcpus vid) (next_by_is plan past e lpid)
-    ∙ vcpu_stays_by plan (part_after plan past) e.saw.before e.saw.lpid e.saw.vid e.trace.cpu e.trace.cmd e.trace.answer e.saw.after lpid vid m (takes plan past e extends) runs
+    ∙ vcpu_stays_by plan (part_after plan past) e.saw.before e.saw.lpid e.saw.vid e.trace.cpu e.trace.cmd e.trace.answer e.saw.after lpid vid m stays (takes plan past e extends) runs
 
 -- a vCPU that runs still does after another entry
-runs_on : (plan : Plan) (past : List Event) (e : Event) (n : ℕ) (run : Run) → Extends plan past e → RunsItsVcpu plan past n run → RunsItsVcpu plan (e ∷ past) n run
-runs_on plan past e n run extends runs =
-    let vcpu = vcpu_stays plan past e run.lpid run.vid n extends runs.state in
+runs_on : (plan : Plan) (past : List Event) (e : Event) (n : ℕ) (run : Run) → Extends plan past e → Stays e.saw.before e.trace.answer run.lpid run.vid → RunsItsVcpu plan past n run →
+    RunsItsVcpu plan (e ∷ past) n run
+runs_on plan past e n run extends stays runs =
+    let vcpu = vcpu_stays plan past e run.lpid run.vid n extends stays runs.state in
     let life = life_stays plan past e run.lpid in
     record {
       state = ap (λ (x : VcpuPart). x.state) vcpu ∙ runs.state;
@@ -241,6 +285,7 @@ begins plan past e r0 r2 outs before cmd_is answer_is taken =
 
 -- a guest's step that leaves a vCPU running leaves the same one
 same_run : (run later : Run) (a : Answer) → ctx_after_guest run a ≡ ctx.Guest later → ctx.Guest run ≡ ctx.Guest later
+same_run run later (Exit exit) h = cc
 same_run run later Gone h = cc
 same_run run later a h = h
 
@@ -269,22 +314,37 @@ runs_after_own plan past e run extends ih after =
       by_ctx ctx.Hv (GLi rd value) Context before cmd_is answer_is o taking = stuck o.0
       by_ctx ctx.Hv (GLd rd gpa) Context before cmd_is answer_is o taking = stuck o.0
       by_ctx ctx.Hv (GSt rs gpa) Context before cmd_is answer_is o taking = stuck o.0
+      by_ctx ctx.Hv GIrq Context before cmd_is answer_is o taking = stuck o.0
       by_ctx ctx.Hv cmd a before cmd_is answer_is o taking = absurd o
+      by_ctx (ctx.Guest old) cmd (Exit exit) before cmd_is answer_is o taking = stuck (after_guest old cmd (Exit exit) e.saw.after e.saw.shown o)
       by_ctx (ctx.Guest old) cmd a before cmd_is answer_is o taking =
           let same : ctx.Guest old ≡ ctx.Guest run = same_run old run a (sym (after_guest old cmd a e.saw.after e.saw.shown o) ∙ after) in
-          runs_on plan past e e.trace.cpu run extends (ih (told ∙ before ∙ same))
+          runs_on plan past e e.trace.cpu run extends (λ r is leaves here this. let none : true ≡ false = sym leaves ∙ ap is_leaving answer_is in cc) (ih (told ∙ before ∙ same))
 
 pub each_cpu_runs_its_vcpu : EachCpuRunsItsVcpu
 each_cpu_runs_its_vcpu plan [] n run legal h = cc
-each_cpu_runs_its_vcpu plan (e ∷ past) n run legal h = by_test (each_cpu_runs_its_vcpu plan past n run legal.1) (touches_cpu n e) refl where
-  by_test : ((cpu_after plan n past).ctx ≡ ctx.Guest run → RunsItsVcpu plan past n run) → (b : Bool) → touches_cpu n e ≡ b → RunsItsVcpu plan (e ∷ past) n run
-  by_test ih true t =
-      let here : e.trace.cpu ≡ n = test_same e.trace.cpu n t in
-      let own : (cpu_after plan e.trace.cpu past).ctx ≡ ctx.Guest run → RunsItsVcpu plan past e.trace.cpu run = subst (λ (x : ℕ). (cpu_after plan x past).ctx ≡ ctx.Guest run → RunsItsVcpu plan past x run) (sym here) ih in
-      let after : e.saw.after ≡ ctx.Guest run = sym (ctx_after plan past e legal.0) ∙ ap (λ (x : ℕ). (cpu_after plan x (e ∷ past)).ctx) here ∙ h in
-      subst (λ (x : ℕ). RunsItsVcpu plan (e ∷ past) x run) here (runs_after_own plan past e run legal.0 own after)
-  by_test ih false t =
-      runs_on plan past e n run legal.0 (ih (sym (ap (λ x. x.ctx) (skips (touches_cpu n) next_cpu (start_cpu plan) e past t)) ∙ h))
+each_cpu_runs_its_vcpu plan (e ∷ past) n run legal h =
+    by_test (each_cpu_runs_its_vcpu plan past n run legal.1) (λ r. each_cpu_runs_its_vcpu plan past e.trace.cpu r legal.1) (touches_cpu n e) refl where
+      by_test : ((cpu_after plan n past).ctx ≡ ctx.Guest run → RunsItsVcpu plan past n run) →
+          ((r : Run) → (cpu_after plan e.trace.cpu past).ctx ≡ ctx.Guest r → RunsItsVcpu plan past e.trace.cpu r) → (b : Bool) → touches_cpu n e ≡ b → RunsItsVcpu plan (e ∷ past) n run
+      by_test ih others true t =
+          let here : e.trace.cpu ≡ n = test_same e.trace.cpu n t in
+          let own : (cpu_after plan e.trace.cpu past).ctx ≡ ctx.Guest run → RunsItsVcpu plan past e.trace.cpu run = subst (λ (x : ℕ). (cpu_after plan x past).ctx ≡ ctx.Guest run → RunsItsVcpu plan past x run) (sym here) ih in
+          let after : e.saw.after ≡ ctx.Guest run = sym (ctx_after plan past e legal.0) ∙ ap (λ (x : ℕ). (cpu_after plan x (e ∷ past)).ctx) here ∙ h in
+          subst (λ (x : ℕ). RunsItsVcpu plan (e ∷ past) x run) here (runs_after_own plan past e run legal.0 own after)
+      by_test ih others false t =
+          let runs : RunsItsVcpu plan past n run = ih (sym (ap (λ x. x.ctx) (skips (touches_cpu n) next_cpu (start_cpu plan) e past t)) ∙ h) in
+          -- the vCPU that leaves runs on the entry's CPU, and so is another one
+          let stays : Stays e.saw.before e.trace.answer run.lpid run.vid =
+          (λ r is leaves here this.
+          let there = others r (ap (λ (x : Event). x.saw.before) (sym legal.0.is) ∙ is) in
+          let same : Running e.trace.cpu ≡ Running n =
+          sym there.state ∙ ap (λ (x : ℕ). ((part_after plan past x).vcpus r.vid).state) here ∙ ap (λ (x : ℕ). ((part_after plan past run.lpid).vcpus x).state) this ∙ runs.state in
+          let cpus : e.trace.cpu ≡ n = cc in
+          let touched : touches_cpu n e ≡ true = ap (λ (x : ℕ). e.trace.cpu == x) (sym cpus) ∙ same_test e.trace.cpu in
+          let none : true ≡ false = sym touched ∙ t in
+          cc) in
+          runs_on plan past e n run legal.0 stays runs
 
 pub no_vcpu_runs_twice : NoVcpuRunsTwice
 no_vcpu_runs_twice plan past m n left right legal h k here this =

@@ -3,19 +3,19 @@ use Rattle.std.proofs.Common.{◌≡◌, ℕ, Bool, true, false, ◌==◌, if◌
 use Rattle.pef_model.specs.declared.state.Ctx.{Ctx}
 use Rattle.pef_model.specs.declared.state.Ctx.TheVariants as ctx
 use Rattle.pef_model.specs.declared.command.Cmd.{Cmd}
-use Rattle.pef_model.specs.declared.command.Cmd.TheVariants.{HLd, HSt, UReturn, GLi, GLd, GSt}
+use Rattle.pef_model.specs.declared.command.Cmd.TheVariants.{HLd, HSt, UReturn, GLi, GLd, GSt, GIrq}
 use Rattle.pef_model.specs.declared.entry.Answer.{Answer}
-use Rattle.pef_model.specs.declared.entry.Answer.TheVariants.{Done, Val, Ret, Enter, Gone, Hole, Context, Nothing}
+use Rattle.pef_model.specs.declared.entry.Answer.TheVariants.{Done, Val, Ret, Enter, Exit, Again, Gone, Hole, Context, Nothing}
 use Rattle.pef_model.specs.Plan.{Plan}
 use Rattle.pef_model.specs.Event.{Event, value_after}
 use Rattle.pef_model.specs.Target.{Ask, target_in, is_guest, touches_cpu, touches_guest, touches_pool, touches_frame}
 use Rattle.pef_model.specs.Cpu.{start_cpu, CpuPart, next_cpu, cpu_after_in, cpu_after_guest, own_after, last_after}
-use Rattle.pef_model.specs.GuestPart.{start_part, GuestPart, page_of, next_part, part_after_in, part_after_guest, part_after_hypervisor, part_after_access}
+use Rattle.pef_model.specs.GuestPart.{start_part, GuestPart, page_of, next_part, part_after_in, part_after_guest, part_after_hypervisor, part_after_access, part_after_interrupt}
 use Rattle.pef_model.specs.Memory.{start_pool, next_pool, start_frame, next_frame, written, written_in}
 use Rattle.pef_model.specs.Guest.{Guest, start_guest, next_guest, private_doubleword}
 use Rattle.pef_model.specs.Registers.{fresh_registers}
 use Rattle.pef_model.specs.declared.state.Run.{Run}
-use Rattle.pef_model.specs.Deed.{Deed, Reach, NoPage, InFrame, Backs, NoFrame, deed_access, deed_running, deed_gone, deed_hypervisor, deed_guest_in, deed_guest, reach}
+use Rattle.pef_model.specs.Deed.{Deed, Reach, NoPage, InFrame, Backs, NoFrame, Moves, deed_access, deed_running, deed_gone, deed_hypervisor, deed_guest_in, deed_guest, reach}
 use Rattle.pef_model.specs.History.{cpu_after, guest_after, pool_after, frame_after}
 use Rattle.pef_model.proofs.Folds.{counts, skips}
 use Rattle.pef_model.proofs.Opened.{alone_open}
@@ -28,12 +28,14 @@ target_open plan ctx.Hv lpid (UReturn r0 r2 outs) = refl
 target_open plan ctx.Hv lpid (GLi rd value) = refl
 target_open plan ctx.Hv lpid (GLd rd gpa) = refl
 target_open plan ctx.Hv lpid (GSt rs gpa) = refl
+target_open plan ctx.Hv lpid GIrq = refl
 target_open plan (ctx.Guest run) lpid (HLd ra) = refl
 target_open plan (ctx.Guest run) lpid (HSt ra value) = refl
 target_open plan (ctx.Guest run) lpid (UReturn r0 r2 outs) = refl
 target_open plan (ctx.Guest run) lpid (GLi rd value) = refl
 target_open plan (ctx.Guest run) lpid (GLd rd gpa) = refl
 target_open plan (ctx.Guest run) lpid (GSt rs gpa) = refl
+target_open plan (ctx.Guest run) lpid GIrq = refl
 
 own_open : (own : List ℕ) (cmd : Cmd) (a : Answer) → own_after own cmd a ≡ own_after own (open_cmd cmd) a
 own_open own (HLd ra) a = refl
@@ -42,16 +44,19 @@ own_open own (UReturn r0 r2 outs) a = refl
 own_open own (GLi rd value) a = refl
 own_open own (GLd rd gpa) a = refl
 own_open own (GSt rs gpa) a = refl
+own_open own GIrq a = refl
 
-cpu_guest_open : (cpu : CpuPart) (a : Answer) → cpu_after_guest cpu a ≡ cpu_after_guest cpu (open_answer_of_guest a)
-cpu_guest_open cpu Done = refl
-cpu_guest_open cpu (Val value) = refl
-cpu_guest_open cpu (Ret code) = refl
-cpu_guest_open cpu Enter = refl
-cpu_guest_open cpu Gone = refl
-cpu_guest_open cpu Hole = refl
-cpu_guest_open cpu Context = refl
-cpu_guest_open cpu Nothing = refl
+cpu_guest_open : (cpu : CpuPart) (run : Run) (a : Answer) → cpu_after_guest cpu run a ≡ cpu_after_guest cpu run (open_answer_of_guest a)
+cpu_guest_open cpu run Done = refl
+cpu_guest_open cpu run (Val value) = refl
+cpu_guest_open cpu run (Ret code) = refl
+cpu_guest_open cpu run Enter = refl
+cpu_guest_open cpu run (Exit exit) = refl
+cpu_guest_open cpu run Again = refl
+cpu_guest_open cpu run Gone = refl
+cpu_guest_open cpu run Hole = refl
+cpu_guest_open cpu run Context = refl
+cpu_guest_open cpu run Nothing = refl
 
 -- an entry opened as in this context
 abbrev opened : Ctx → Event → Event
@@ -62,17 +67,31 @@ cpu_open cpu e = by_ctx e.saw.before where
   by_ctx : (c : Ctx) → cpu_after_in c cpu e ≡ cpu_after_in c cpu (opened c e)
   by_ctx ctx.Hv =
       ap (λ (own : List ℕ). record cpu { ctx = e.saw.after; own = own; last = last_after cpu.last e.trace.answer }) (own_open cpu.own e.trace.cmd e.trace.answer)
-  by_ctx (ctx.Guest run) = cpu_guest_open cpu e.trace.answer
+  by_ctx (ctx.Guest run) = cpu_guest_open cpu run e.trace.answer
 
 access_open : (g : GuestPart) (gfn : ℕ) (a : Answer) → part_after_access g gfn a ≡ part_after_access g gfn (open_answer_of_guest a)
 access_open g gfn Done = refl
 access_open g gfn (Val value) = refl
 access_open g gfn (Ret code) = refl
 access_open g gfn Enter = refl
+access_open g gfn (Exit exit) = refl
+access_open g gfn Again = refl
 access_open g gfn Gone = refl
 access_open g gfn Hole = refl
 access_open g gfn Context = refl
 access_open g gfn Nothing = refl
+
+interrupt_open : (g : GuestPart) (v : ℕ) (a : Answer) → part_after_interrupt g v a ≡ part_after_interrupt g v (open_answer_of_guest a)
+interrupt_open g v Done = refl
+interrupt_open g v (Val value) = refl
+interrupt_open g v (Ret code) = refl
+interrupt_open g v Enter = refl
+interrupt_open g v (Exit exit) = refl
+interrupt_open g v Again = refl
+interrupt_open g v Gone = refl
+interrupt_open g v Hole = refl
+interrupt_open g v Context = refl
+interrupt_open g v Nothing = refl
 
 guest_open : (plan : Plan) (g : GuestPart) (e : Event) → next_part plan g e ≡ next_part plan g (open_entry e)
 guest_open plan g e = by_ctx e.saw.before where
@@ -83,18 +102,20 @@ guest_open plan g e = by_ctx e.saw.before where
   by_cmd (GLi rd value) = refl
   by_cmd (GLd rd gpa) = refl
   by_cmd (GSt rs gpa) = refl
+  by_cmd GIrq = refl
 
-  by_guest : (cmd : Cmd) (a : Answer) → part_after_guest plan g cmd a ≡ part_after_guest plan g (open_cmd cmd) (open_answer_of_guest a)
-  by_guest (HLd ra) a = refl
-  by_guest (HSt ra value) a = refl
-  by_guest (UReturn r0 r2 outs) a = refl
-  by_guest (GLi rd value) a = refl
-  by_guest (GLd rd gpa) a = access_open g (page_of plan gpa) a
-  by_guest (GSt rs gpa) a = access_open g (page_of plan gpa) a
+  by_guest : (v : ℕ) (cmd : Cmd) (a : Answer) → part_after_guest plan g v cmd a ≡ part_after_guest plan g v (open_cmd cmd) (open_answer_of_guest a)
+  by_guest v (HLd ra) a = refl
+  by_guest v (HSt ra value) a = refl
+  by_guest v (UReturn r0 r2 outs) a = refl
+  by_guest v (GLi rd value) a = refl
+  by_guest v (GLd rd gpa) a = access_open g (page_of plan gpa) a
+  by_guest v (GSt rs gpa) a = access_open g (page_of plan gpa) a
+  by_guest v GIrq a = interrupt_open g v a
 
   by_ctx : (c : Ctx) → part_after_in c plan g e ≡ part_after_in c plan g (opened c e)
   by_ctx ctx.Hv = by_cmd e.trace.cmd
-  by_ctx (ctx.Guest run) = by_guest e.trace.cmd e.trace.answer
+  by_ctx (ctx.Guest run) = by_guest run.vid e.trace.cmd e.trace.answer
 
 written_open : (plan : Plan) (bytes : List ℕ) (cmd : Cmd) (a : Answer) → written plan bytes cmd a ≡ written plan bytes (open_cmd cmd) a
 written_open plan bytes (HLd ra) a = refl
@@ -103,6 +124,7 @@ written_open plan bytes (UReturn r0 r2 outs) a = refl
 written_open plan bytes (GLi rd value) a = refl
 written_open plan bytes (GLd rd gpa) a = refl
 written_open plan bytes (GSt rs gpa) a = refl
+written_open plan bytes GIrq a = refl
 
 frame_open : (plan : Plan) (bytes : List ℕ) (e : Event) → next_frame plan bytes e ≡ next_frame plan bytes (open_entry e)
 frame_open plan bytes e = by_ctx e.saw.before where
@@ -202,6 +224,7 @@ access_agrees run ask v w NoPage = same_deed (ctx.Guest run) (deed_access ask (V
 access_agrees run ask v w InFrame = record { answer = refl; after = refl; shown = refl; pool = refl; frame = refl; bytes = refl }
 access_agrees run ask v w Backs = record { answer = refl; after = refl; shown = refl; pool = refl; frame = refl; bytes = refl }
 access_agrees run ask v w NoFrame = same_deed (ctx.Guest run) (deed_access ask (Val v) NoFrame)
+access_agrees run ask v w Moves = same_deed (ctx.Guest run) (deed_access ask (Val v) Moves)
 
 running_agrees : (plan : Plan) (g : Guest) (any : Bool) (run : Run) (ask : Ask) (cmd : Cmd) →
     AgreeButValue (ctx.Guest run) (deed_running plan g any ask cmd) (deed_running plan (bare g.part) any ask (open_cmd cmd))
@@ -211,6 +234,7 @@ running_agrees plan g any run ask (UReturn r0 r2 outs) = same_deed (ctx.Guest ru
 running_agrees plan g any run ask (GLi rd value) = same_deed (ctx.Guest run) (deed_running plan g any ask (GLi rd value))
 running_agrees plan g any run ask (GLd rd gpa) = access_agrees run ask (private_doubleword plan g gpa) (private_doubleword plan (bare g.part) gpa) (reach plan g.part any gpa)
 running_agrees plan g any run ask (GSt rs gpa) = same_deed (ctx.Guest run) (deed_running plan g any ask (GSt rs gpa))
+running_agrees plan g any run ask GIrq = same_deed (ctx.Guest run) (deed_running plan g any ask GIrq)
 
 hypervisor_agrees : (g : GuestPart) (ask : Ask) (cmd : Cmd) → AgreeButValue ctx.Hv (deed_hypervisor g ask cmd) (deed_hypervisor g ask (open_cmd cmd))
 hypervisor_agrees g ask (HLd ra) = same_deed ctx.Hv (deed_hypervisor g ask (HLd ra))
@@ -226,6 +250,7 @@ hypervisor_agrees g ask (GLi rd value) = record {
 }
 hypervisor_agrees g ask (GLd rd gpa) = same_deed ctx.Hv (deed_hypervisor g ask (GLd rd gpa))
 hypervisor_agrees g ask (GSt rs gpa) = same_deed ctx.Hv (deed_hypervisor g ask (GSt rs gpa))
+hypervisor_agrees g ask GIrq = same_deed ctx.Hv (deed_hypervisor g ask GIrq)
 
 deed_agrees : (plan : Plan) (g : Guest) (any : Bool) (ask : Ask) (cmd : Cmd) (c : Ctx) →
     AgreeButValue c (deed_guest_in c plan g any ask cmd) (deed_guest_in c plan (bare g.part) any ask (open_cmd cmd))

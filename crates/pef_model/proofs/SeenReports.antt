@@ -14,7 +14,7 @@ use Rattle.pef_model.specs.Script.{Line}
 use Rattle.pef_model.specs.Run.{entries_of, entry_after, run_after, run_of}
 use Rattle.pef_model.specs.View.{Step, Sight, if_hypervisor, is_hypervisor, is_seen, either_of, sight, view}
 use Rattle.pef_model.specs.Alike.{AllAlikeOpen, ShowTheSame, first}
-use Rattle.pef_model.specs.SeenReport.{AlikeReportTheSame, SecretsGiveAlikeRuns, open_line, let_out}
+use Rattle.pef_model.specs.SeenReport.{AlikeReportTheSame, SecretsGiveAlikeRuns, open_line, all_let_out}
 use Rattle.pef_model.proofs.Views.{alike_show_the_same, length_alike, one_plan}
 use Rattle.std.specs.Prelude.{codes, decimal}
 
@@ -98,7 +98,7 @@ entries_alike n (e ∷ past) (f ∷ history) h =
       by_test false xs x = refl
 
 -- the runs of lines that differ in secrets alone
-lines_alike : (plan : Plan) (xs ys : List Line) → map open_line xs ≡ map open_line ys → let_out (run_after plan xs) ≡ let_out (run_after plan ys) →
+lines_alike : (plan : Plan) (xs ys : List Line) → map open_line xs ≡ map open_line ys → all_let_out (run_after plan xs) ≡ all_let_out (run_after plan ys) →
     AllAlikeOpen (run_after plan xs) (run_after plan ys)
 lines_alike plan [] [] h k = tt
 lines_alike plan [] (y ∷ ys) h k = cc
@@ -107,7 +107,7 @@ lines_alike plan (x ∷ xs) (y ∷ ys) h k =
     let head : open_line x ≡ open_line y = cc in
     let tail : map open_line xs ≡ map open_line ys = cc in
     let shown : (entry_after plan (run_after plan xs) x).saw.shown ≡ (entry_after plan (run_after plan ys) y).saw.shown = cc in
-    let out : let_out (run_after plan xs) ≡ let_out (run_after plan ys) = cc in
+    let out : all_let_out (run_after plan xs) ≡ all_let_out (run_after plan ys) = cc in
     let rest : AllAlikeOpen (run_after plan xs) (run_after plan ys) = lines_alike plan xs ys tail out in (
       record {
         line = ap (λ (l : Line). l.number) head;
@@ -132,5 +132,5 @@ secrets_give_alike_runs one other differ out =
       configs = differ.configs;
       entries = subst (λ (p : Plan). AllAlikeOpen (run_of one) (run_after p (reverse other.lines))) plans
           (lines_alike (plan_of one.config) (reverse one.lines) (reverse other.lines) lines
-          (out ∙ ap (λ (p : Plan). let_out (run_after p (reverse other.lines))) (sym plans)));
+          (out ∙ ap (λ (p : Plan). all_let_out (run_after p (reverse other.lines))) (sym plans)));
     }

@@ -1,31 +1,35 @@
 -- What an entry makes of its CPU and lets out.
-use Rattle.std.proofs.Common.{◌≡◌, ℕ, zero, suc, ◌<◌, List, [], ◌∷◌, ◌++◌, length, take, drop, replicate, get_or, refl, ap, sym, subst, ◌∙◌, if◌then◌else◌, arith}
+use Rattle.std.proofs.Common.{◌≡◌, ℕ, zero, suc, ◌<◌, List, [], ◌∷◌, ◌++◌, length, take, drop, replicate, get_or, refl, ap, sym, subst, ◌∙◌, if◌then◌else◌, arith, Bool, true, false, ◌==◌, ◌≢◌}
 use Rattle.std.specs.Prelude.{unwrap_or, slice_set}
 use Rattle.std.proofs.lemmas.List.{set-get_or}
 use Rattle.std.proofs.Math.ListN.{length-set}
+use Rattle.std.proofs.lemmas.Grind.{common_steps}
+use Rattle.std.proofs.lemmas.Bool.Decides.{nat_tests}
 use Rattle.pef_model.specs.declared.state.Run.{Run}
 use Rattle.pef_model.specs.declared.state.Ctx.{Ctx}
 use Rattle.pef_model.specs.declared.state.Ctx.TheVariants as ctx
-use Rattle.pef_model.specs.declared.command.TheConstants.{UV_RETURN}
+use Rattle.pef_model.specs.declared.command.TheConstants.{UV_RETURN, EXTERNAL_INTERRUPT}
 use Rattle.pef_model.specs.declared.command.Cmd.{Cmd}
-use Rattle.pef_model.specs.declared.command.Cmd.TheVariants.{HLd, HSt, UReturn, GLi, GLd, GSt}
+use Rattle.pef_model.specs.declared.command.Cmd.TheVariants.{HLd, HSt, UReturn, GLi, GLd, GSt, GIrq}
+use Rattle.pef_model.specs.declared.entry.Exit.TheVariants as exit
 use Rattle.pef_model.specs.declared.entry.Answer.{Answer}
-use Rattle.pef_model.specs.declared.entry.Answer.TheVariants.{Done, Val, Ret, Enter, Gone, Hole, Context}
+use Rattle.pef_model.specs.declared.entry.Answer.TheVariants.{Done, Val, Ret, Enter, Exit, Again, Gone, Hole, Context}
 use Rattle.pef_model.specs.Plan.{Plan}
 use Rattle.pef_model.specs.Event.{Event}
-use Rattle.pef_model.specs.Registers.{number_of, load_return}
+use Rattle.pef_model.specs.Registers.{number_of, interrupt_registers, load_return}
 use Rattle.pef_model.specs.Cpu.{CpuPart, start_cpu, next_cpu, cpu_after_guest, own_after_load, last_after}
 use Rattle.pef_model.specs.Target.{touches_cpu}
 use Rattle.pef_model.specs.History.{cpu_after, Extends}
 use Rattle.pef_model.specs.SearchLaw.{loaded_value, IsCommand}
-use Rattle.pef_model.specs.StepLaw.{is_kept, given_by_load, own_given_in, let_out, EachEntryLeavesCpu}
-use Rattle.pef_model.proofs.Folds.{same_test, counts}
+use Rattle.pef_model.specs.StepLaw.{is_kept, given_by_load, own_given_in, selected_lpid, selected_vid, let_out, EachEntryLeavesCpu}
+use Rattle.pef_model.proofs.Folds.{same_test, test_same, counts}
 use Rattle.pef_model.proofs.NextValues.{cpu_by, cpu_by_is}
 use Rattle.pef_model.proofs.Assigned.{returned_value, set_value}
 use Rattle.pef_model.proofs.Outcomes.{Outcome, outcome}
 
 -- the context after a guest's step, by its answer
 abbrev pub ctx_after_guest : Run → Answer → Ctx
+ctx_after_guest run (Exit exit) = ctx.Hv
 ctx_after_guest run Gone = ctx.Hv
 ctx_after_guest run a = ctx.Guest run
 
@@ -42,9 +46,14 @@ after_guest run (GLd rd gpa) Hole after shown h = h.0
 after_guest run (GSt rs gpa) Gone after shown h = h.0
 after_guest run (GSt rs gpa) Done after shown h = h.0
 after_guest run (GSt rs gpa) Hole after shown h = h.0
+after_guest run (GLd rd gpa) Again after shown h = h.0
+after_guest run (GSt rs gpa) Again after shown h = h.0
+after_guest run GIrq Gone after shown h = h.0
+after_guest run GIrq (Exit exit.Irq) after shown h = h.0
 after_guest run cmd a after shown h = absurd h
 
-ctx_left_by_guest : (cpu : CpuPart) (run : Run) (a : Answer) → cpu.ctx ≡ ctx.Guest run → (cpu_after_guest cpu a).ctx ≡ ctx_after_guest run a
+ctx_left_by_guest : (cpu : CpuPart) (run : Run) (a : Answer) → cpu.ctx ≡ ctx.Guest run → (cpu_after_guest cpu run a).ctx ≡ ctx_after_guest run a
+ctx_left_by_guest cpu run (Exit exit) h = refl
 ctx_left_by_guest cpu run Gone h = refl
 ctx_left_by_guest cpu run a h = h
 
@@ -59,13 +68,15 @@ context_leaves cpu ctx.Hv after (UReturn r0 r2 outs) shown before h = absurd h
 context_leaves cpu ctx.Hv after (GLi rd value) shown before h = (λ i. record cpu { ctx = (h.0 ∙ sym before) i })
 context_leaves cpu ctx.Hv after (GLd rd gpa) shown before h = (λ i. record cpu { ctx = (h.0 ∙ sym before) i })
 context_leaves cpu ctx.Hv after (GSt rs gpa) shown before h = (λ i. record cpu { ctx = (h.0 ∙ sym before) i })
+context_leaves cpu ctx.Hv after GIrq shown before h = (λ i. record cpu { ctx = (h.0 ∙ sym before) i })
 context_leaves cpu (ctx.Guest run) after cmd shown before h = refl
 
 last_by_hypervisor : (old a : Answer) (after : Ctx) → last_after old a ≡ (if is_kept ctx.Hv a after then a else old)
 last_by_hypervisor old Context after = refl
 last_by_hypervisor old a after = refl
 
-last_by_guest : (cpu : CpuPart) (run : Run) (a : Answer) → (cpu_after_guest cpu a).last ≡ (if is_kept (ctx.Guest run) a (ctx_after_guest run a) then a else cpu.last)
+last_by_guest : (cpu : CpuPart) (run : Run) (a : Answer) → (cpu_after_guest cpu run a).last ≡ (if is_kept (ctx.Guest run) a (ctx_after_guest run a) then a else cpu.last)
+last_by_guest cpu run (Exit exit) = refl
 last_by_guest cpu run Gone = refl
 last_by_guest cpu run a = refl
 
@@ -106,6 +117,13 @@ zero_at zero i = refl
 zero_at (suc n) zero = refl
 zero_at (suc n) (suc i) = zero_at n i
 
+-- R3 shows the interrupt, and every other register 0
+interrupt_shows : (r : ℕ) → r < 32 → get_or interrupt_registers r 0 ≡ (if r == 3 then EXTERNAL_INTERRUPT else 0)
+interrupt_shows r small = by_test (r == 3) refl where
+  by_test : (b : Bool) → (r == 3) ≡ b → get_or interrupt_registers r 0 ≡ (if b then EXTERNAL_INTERRUPT else 0)
+  by_test true t = ap (λ (n : ℕ). get_or interrupt_registers n 0) (test_same r 3 t)
+  by_test false t = let other : 3 ≢ r = grind (arith, nat_tests) in let zero = zero_at 32 r in grind (arith, common_steps)
+
 own_left : (cpu : CpuPart) (c after : Ctx) (cmd : Cmd) (a : Answer) (r : ℕ) → IsCommand cmd → length cpu.own ≡ 32 → r < 32 →
     get_or (cpu_by cpu c after cmd a).own r 0 ≡ unwrap_or (own_given_in c cmd a r) (get_or cpu.own r 0)
 own_left cpu ctx.Hv after (HLd ra) a r k full small = own_by_load cpu.own a r full
@@ -114,12 +132,15 @@ own_left cpu ctx.Hv after (UReturn r0 r2 outs) a r k full small = own_by_return 
 own_left cpu ctx.Hv after (GLi rd value) a r k full small = refl
 own_left cpu ctx.Hv after (GLd rd gpa) a r k full small = refl
 own_left cpu ctx.Hv after (GSt rs gpa) a r k full small = refl
+own_left cpu ctx.Hv after GIrq a r k full small = refl
+own_left cpu (ctx.Guest run) after cmd (Exit exit.Irq) r k full small = interrupt_shows r small
 own_left cpu (ctx.Guest run) after cmd Gone r k full small = zero_at 32 r
 own_left cpu (ctx.Guest run) after cmd a r k full small = refl
 
 -- the selection after an entry
-pub selection_left : (cpu : CpuPart) (c after : Ctx) (cmd : Cmd) (a : Answer) → ((cpu_by cpu c after cmd a).lpid ≡ cpu.lpid) × ((cpu_by cpu c after cmd a).vid ≡ cpu.vid)
+pub selection_left : (cpu : CpuPart) (c after : Ctx) (cmd : Cmd) (a : Answer) → ((cpu_by cpu c after cmd a).lpid ≡ selected_lpid c a cpu.lpid) × ((cpu_by cpu c after cmd a).vid ≡ selected_vid c a cpu.vid)
 selection_left cpu ctx.Hv after cmd a = (refl, refl)
+selection_left cpu (ctx.Guest run) after cmd (Exit exit) = (refl, refl)
 selection_left cpu (ctx.Guest run) after cmd Gone = (refl, refl)
 selection_left cpu (ctx.Guest run) after cmd a = (refl, refl)
 
@@ -133,6 +154,7 @@ shown_is ctx.Hv (UReturn r0 r2 outs) (Ret code) after shown h = h.1
 shown_is ctx.Hv (GLi rd value) Context after shown h = h.1
 shown_is ctx.Hv (GLd rd gpa) Context after shown h = h.1
 shown_is ctx.Hv (GSt rs gpa) Context after shown h = h.1
+shown_is ctx.Hv GIrq Context after shown h = h.1
 shown_is (ctx.Guest run) (HLd ra) Context after shown h = h.1
 shown_is (ctx.Guest run) (HSt ra value) Context after shown h = h.1
 shown_is (ctx.Guest run) (UReturn r0 r2 outs) Gone after shown h = h.1
@@ -145,6 +167,10 @@ shown_is (ctx.Guest run) (GLd rd gpa) Hole after shown h = h.1
 shown_is (ctx.Guest run) (GSt rs gpa) Gone after shown h = h.1
 shown_is (ctx.Guest run) (GSt rs gpa) Done after shown h = h.1
 shown_is (ctx.Guest run) (GSt rs gpa) Hole after shown h = h.1
+shown_is (ctx.Guest run) (GLd rd gpa) Again after shown h = h.1
+shown_is (ctx.Guest run) (GSt rs gpa) Again after shown h = h.1
+shown_is (ctx.Guest run) GIrq Gone after shown h = h.1
+shown_is (ctx.Guest run) GIrq (Exit exit.Irq) after shown h = h.1
 shown_is c cmd a after shown h = absurd h
 
 -- a CPU after an entry of its own, by the fields of the entry

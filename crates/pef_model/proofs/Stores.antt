@@ -6,13 +6,14 @@ use Rattle.pef_model.specs.declared.state.Kind.TheVariants as kind
 use Rattle.pef_model.specs.declared.state.Ctx.{Ctx}
 use Rattle.pef_model.specs.declared.state.Ctx.TheVariants as ctx
 use Rattle.pef_model.specs.declared.command.Cmd.{Cmd}
-use Rattle.pef_model.specs.declared.command.Cmd.TheVariants.{HLd, HSt, UReturn, GLi, GLd, GSt}
+use Rattle.pef_model.specs.declared.command.Cmd.TheVariants.{HLd, HSt, UReturn, GLi, GLd, GSt, GIrq}
+use Rattle.pef_model.specs.declared.entry.Exit.TheVariants as exit
 use Rattle.pef_model.specs.declared.entry.Answer.{Answer}
-use Rattle.pef_model.specs.declared.entry.Answer.TheVariants.{Done, Val, Ret, Enter, Gone, Hole, Context, Nothing}
+use Rattle.pef_model.specs.declared.entry.Answer.TheVariants.{Done, Val, Ret, Enter, Exit, Again, Gone, Hole, Context, Nothing}
 use Rattle.pef_model.specs.Plan.{Plan}
 use Rattle.pef_model.specs.Event.{Event, newest}
 use Rattle.pef_model.specs.Target.{is_guest, target_in, target_of_running, touches_guest}
-use Rattle.pef_model.specs.GuestPart.{GuestPart, is_invalid, page_of, with_secure_page, with_page_backed, next_part, part_after_in, part_after_hypervisor, part_after_return, part_after_guest, part_after_access}
+use Rattle.pef_model.specs.GuestPart.{GuestPart, is_invalid, page_of, with_secure_page, with_page_backed, next_part, part_after_in, part_after_hypervisor, part_after_return, part_after_interrupt, part_after_guest, part_after_access, secure_page}
 use Rattle.pef_model.specs.Guest.{Guest, start_guest, next_guest, stored_by, stored_in, stored_by_command, backed_by}
 use Rattle.pef_model.specs.History.{guest_after, reg}
 use Rattle.pef_model.specs.SearchLaw.{zero_where_backed, access_decides, step_decides, decides_doubleword, LastStoreIsNewest, is_store, is_store_by, HasNoStore, IsStep, LastStoreIsStored, LastStoreIsZero}
@@ -70,6 +71,8 @@ decided_alike plan past lpid gpa l (ctx.Guest run) cmd a = by_command cmd a wher
   by_command (GLd rd at) Done = refl
   by_command (GLd rd at) (Ret code) = refl
   by_command (GLd rd at) Enter = refl
+  by_command (GLd rd at) (Exit exit) = refl
+  by_command (GLd rd at) Again = refl
   by_command (GLd rd at) Gone = refl
   by_command (GLd rd at) Hole = refl
   by_command (GLd rd at) Context = refl
@@ -79,10 +82,13 @@ decided_alike plan past lpid gpa l (ctx.Guest run) cmd a = by_command cmd a wher
   by_command (GSt rs at) (Val value) = refl
   by_command (GSt rs at) (Ret code) = refl
   by_command (GSt rs at) Enter = refl
+  by_command (GSt rs at) (Exit exit) = refl
+  by_command (GSt rs at) Again = refl
   by_command (GSt rs at) Gone = refl
   by_command (GSt rs at) Hole = refl
   by_command (GSt rs at) Context = refl
   by_command (GSt rs at) Nothing = refl
+  by_command GIrq a = refl
 
 content_newest : (plan : Plan) (lpid gpa : ℕ) (past : List Event) → (guest_after plan lpid past).content gpa ≡ newest (decides_doubleword plan lpid gpa) 0 past
 content_newest plan lpid gpa [] = refl
@@ -114,7 +120,7 @@ last_store_is_newest plan past lpid gpa =
 -- A page that isn't Invalid stays so.
 stays_accessed : (g : GuestPart) (gfn p : ℕ) → is_invalid (g.pages p) ≡ false → is_invalid ((with_page_backed g gfn).pages p) ≡ false
 stays_accessed g gfn p h = by_kind (is_invalid (g.pages gfn)) where
-  by_place : (b : Bool) → is_invalid (if b then (record { kind = kind.Secure }) else g.pages p) ≡ false
+  by_place : (b : Bool) → is_invalid (if b then secure_page else g.pages p) ≡ false
   by_place true = refl
   by_place false = h
 
@@ -127,6 +133,8 @@ stays_after_access g gfn p Done h = stays_accessed g gfn p h
 stays_after_access g gfn p (Val value) h = stays_accessed g gfn p h
 stays_after_access g gfn p (Ret code) h = h
 stays_after_access g gfn p Enter h = h
+stays_after_access g gfn p (Exit exit) h = h
+stays_after_access g gfn p Again h = h
 stays_after_access g gfn p Gone h = h
 stays_after_access g gfn p Hole h = h
 stays_after_access g gfn p Context h = h
@@ -137,10 +145,24 @@ stays_after_return g vid cpu p Enter h = h
 stays_after_return g vid cpu p Done h = h
 stays_after_return g vid cpu p (Val value) h = h
 stays_after_return g vid cpu p (Ret code) h = h
+stays_after_return g vid cpu p (Exit exit) h = h
+stays_after_return g vid cpu p Again h = h
 stays_after_return g vid cpu p Gone h = h
 stays_after_return g vid cpu p Hole h = h
 stays_after_return g vid cpu p Context h = h
 stays_after_return g vid cpu p Nothing h = h
+
+stays_after_interrupt : (g : GuestPart) (vid p : ℕ) (a : Answer) → is_invalid (g.pages p) ≡ false → is_invalid ((part_after_interrupt g vid a).pages p) ≡ false
+stays_after_interrupt g vid p (Exit exit.Irq) h = h
+stays_after_interrupt g vid p Done h = h
+stays_after_interrupt g vid p (Val value) h = h
+stays_after_interrupt g vid p (Ret code) h = h
+stays_after_interrupt g vid p Enter h = h
+stays_after_interrupt g vid p Again h = h
+stays_after_interrupt g vid p Gone h = h
+stays_after_interrupt g vid p Hole h = h
+stays_after_interrupt g vid p Context h = h
+stays_after_interrupt g vid p Nothing h = h
 
 stays : (plan : Plan) (g : GuestPart) (e : Event) (p : ℕ) → is_invalid (g.pages p) ≡ false → is_invalid ((next_part plan g e).pages p) ≡ false
 stays plan g e p h = by_ctx e.saw.before where
@@ -151,18 +173,20 @@ stays plan g e p h = by_ctx e.saw.before where
   by_hypervisor (GLi rd value) = h
   by_hypervisor (GLd rd gpa) = h
   by_hypervisor (GSt rs gpa) = h
+  by_hypervisor GIrq = h
 
-  by_guest : (cmd : Cmd) → is_invalid ((part_after_guest plan g cmd e.trace.answer).pages p) ≡ false
-  by_guest (HLd ra) = h
-  by_guest (HSt ra value) = h
-  by_guest (UReturn r0 r2 outs) = h
-  by_guest (GLi rd value) = h
-  by_guest (GLd rd gpa) = stays_after_access g (page_of plan gpa) p e.trace.answer h
-  by_guest (GSt rs gpa) = stays_after_access g (page_of plan gpa) p e.trace.answer h
+  by_guest : (vid : ℕ) (cmd : Cmd) → is_invalid ((part_after_guest plan g vid cmd e.trace.answer).pages p) ≡ false
+  by_guest vid (HLd ra) = h
+  by_guest vid (HSt ra value) = h
+  by_guest vid (UReturn r0 r2 outs) = h
+  by_guest vid (GLi rd value) = h
+  by_guest vid (GLd rd gpa) = stays_after_access g (page_of plan gpa) p e.trace.answer h
+  by_guest vid (GSt rs gpa) = stays_after_access g (page_of plan gpa) p e.trace.answer h
+  by_guest vid GIrq = stays_after_interrupt g vid p e.trace.answer h
 
   by_ctx : (c : Ctx) → is_invalid ((part_after_in c plan g e).pages p) ≡ false
   by_ctx ctx.Hv = by_hypervisor e.trace.cmd
-  by_ctx (ctx.Guest run) = by_guest e.trace.cmd
+  by_ctx (ctx.Guest run) = by_guest run.vid e.trace.cmd
 
 -- An access backs no page that has a frame.
 backs_nothing : (plan : Plan) (g : Guest) (at gpa : ℕ) → is_invalid (g.part.pages (page_of plan gpa)) ≡ false → backed_by plan g at gpa ≡ None
@@ -187,7 +211,7 @@ record Holds (plan : Plan) (g : Guest) (gpa value : ℕ) : Type 0 where
 accessed_has_frame : (g : GuestPart) (gfn : ℕ) → is_invalid ((with_page_backed g gfn).pages gfn) ≡ false
 accessed_has_frame g gfn = by_kind (is_invalid (g.pages gfn)) refl where
   by_kind : (b : Bool) → is_invalid (g.pages gfn) ≡ b → is_invalid ((if b then with_secure_page g gfn else g).pages gfn) ≡ false
-  by_kind true h = ap (λ (b : Bool). is_invalid (if b then (record { kind = kind.Secure }) else g.pages gfn)) (same_test gfn)
+  by_kind true h = ap (λ (b : Bool). is_invalid (if b then secure_page else g.pages gfn)) (same_test gfn)
   by_kind false h = h
 
 stored_holds : (plan : Plan) (g : Guest) (e : Event) (run : Run) (rs gpa : ℕ) → IsStep run (GSt rs gpa) Done e →
@@ -217,6 +241,7 @@ decides_nothing plan g lpid gpa l (ctx.Guest run) cmd a h touched other = by_com
       ap (λ (b : Bool). if b then Some (slice_index (g.registers run.vid).gpr rs) else backed_by plan g at gpa) (second_is_false _ _ t k)
       ∙ backs_nothing plan g at gpa h
   by_command (GSt rs at) a t k = refl
+  by_command GIrq a t k = refl
 
 kept_holds : (plan : Plan) (g : Guest) (e : Event) (lpid gpa value : ℕ) → touches_guest plan lpid e ≡ true → is_store lpid gpa e ≡ false →
     Holds plan g gpa value → Holds plan (next_guest plan g e) gpa value
@@ -272,6 +297,7 @@ zero_by_entry plan g lpid gpa l (ctx.Guest run) cmd a touched other = by_command
       ap (λ (b : Bool). unwrap_or (if b then Some (slice_index (g.registers run.vid).gpr rs) else backed_by plan g at gpa) 0) (second_is_false _ _ t k)
       ∙ zero_by_backing plan g at gpa
   by_command (GSt rs at) a t k = refl
+  by_command GIrq a t k = refl
 
 content_zero : (plan : Plan) (past : List Event) (lpid gpa : ℕ) → HasNoStore lpid gpa past → (guest_after plan lpid past).content gpa ≡ 0
 content_zero plan [] lpid gpa none = refl

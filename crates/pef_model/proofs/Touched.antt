@@ -1,10 +1,12 @@
 -- The objects that an entry touches decide whether it extends a history.
 use Rattle.std.proofs.Common.{◌≡◌, ℕ, Bool, true, false, ◌==◌, ◌&&◌, nat_lt, if◌then◌else◌, List, refl, ap, sym, ◌∙◌, Some}
 use Rattle.std.specs.Prelude.{is_some}
+use Rattle.pef_model.specs.declared.state.Kind.{Kind}
+use Rattle.pef_model.specs.declared.state.Kind.TheVariants as kind
 use Rattle.pef_model.specs.declared.state.Ctx.{Ctx}
 use Rattle.pef_model.specs.declared.state.Ctx.TheVariants as ctx
 use Rattle.pef_model.specs.declared.command.Cmd.{Cmd}
-use Rattle.pef_model.specs.declared.command.Cmd.TheVariants.{HLd, HSt, UReturn, GLi, GLd, GSt}
+use Rattle.pef_model.specs.declared.command.Cmd.TheVariants.{HLd, HSt, UReturn, GLi, GLd, GSt, GIrq}
 use Rattle.pef_model.specs.declared.command.Code.TheVariants.{UInvalid}
 use Rattle.pef_model.specs.declared.entry.Answer.{Answer}
 use Rattle.pef_model.specs.declared.entry.Answer.TheVariants.{Enter, Ret}
@@ -13,25 +15,36 @@ use Rattle.pef_model.specs.Plan.{Plan}
 use Rattle.pef_model.specs.Event.{Event, mark_of}
 use Rattle.pef_model.specs.Target.{Ask, Target, Alone, AtGuest, AtFrame, target_in, is_guest, is_number, touches_frame, touches_guest, touches_pool}
 use Rattle.pef_model.specs.Cpu.{CpuPart}
-use Rattle.pef_model.specs.GuestPart.{GuestPart, is_invalid, has_place, page_of}
+use Rattle.pef_model.specs.GuestPart.{Page, GuestPart, has_place, page_of}
 use Rattle.pef_model.specs.Guest.{Guest}
-use Rattle.pef_model.specs.Deed.{answering, may_return_in, is_waiting, NoPage, reach_of, deed_access, deed_running, deed_gone, deed_hypervisor, deed_guest_in, deed_guest, deed_frame}
+use Rattle.pef_model.specs.Deed.{answering, may_return_in, is_waiting, NoPage, Moves, reach_of, reach_kind, reach_invalid, deed_access, deed_running, deed_gone, deed_hypervisor, deed_guest_in, deed_guest, deed_frame}
 use Rattle.pef_model.specs.History.{cpu_after, guest_after, pool_after, frame_after, ask_of, entry_of, deed_after, next_entry, next_entry_by}
 use Rattle.pef_model.specs.ReadLaw.{TouchedObjectsDecide, AskedIsTold}
 use Rattle.pef_model.proofs.Folds.{same_test}
 
 -- an access that didn't ask for a frame is the same whether one is free or not
-access_asks : (ask : Ask) (success : Answer) (invalid any free : Bool) → (is_some (deed_access ask success (reach_of invalid any)).pool ≡ true → any ≡ free) →
-    deed_access ask success (reach_of invalid any) ≡ deed_access ask success (reach_of invalid free)
-access_asks ask success false any free h = refl
-access_asks ask success true true free h = ap (λ (b : Bool). deed_access ask success (reach_of true b)) (h refl)
-access_asks ask success true false free h = ap (λ (b : Bool). deed_access ask success (reach_of true b)) (h refl)
+invalid_asks : (ask : Ask) (success : Answer) (any free : Bool) → (is_some (deed_access ask success (reach_invalid any)).pool ≡ true → any ≡ free) →
+    deed_access ask success (reach_invalid any) ≡ deed_access ask success (reach_invalid free)
+invalid_asks ask success true free h = ap (λ (b : Bool). deed_access ask success (reach_invalid b)) (h refl)
+invalid_asks ask success false free h = ap (λ (b : Bool). deed_access ask success (reach_invalid b)) (h refl)
 
-placed_asks : (ask : Ask) (success : Answer) (placed invalid any free : Bool) →
-    (is_some (deed_access ask success (if placed then reach_of invalid any else NoPage)).pool ≡ true → any ≡ free) →
-    deed_access ask success (if placed then reach_of invalid any else NoPage) ≡ deed_access ask success (if placed then reach_of invalid free else NoPage)
-placed_asks ask success true invalid any free h = access_asks ask success invalid any free h
-placed_asks ask success false invalid any free h = refl
+kind_asks : (ask : Ask) (success : Answer) (k : Kind) (any free : Bool) → (is_some (deed_access ask success (reach_kind k any)).pool ≡ true → any ≡ free) →
+    deed_access ask success (reach_kind k any) ≡ deed_access ask success (reach_kind k free)
+kind_asks ask success kind.Invalid any free h = invalid_asks ask success any free h
+kind_asks ask success kind.Secure any free h = refl
+kind_asks ask success kind.Out any free h = refl
+kind_asks ask success (kind.Shared frame fresh) any free h = refl
+
+access_asks : (ask : Ask) (success : Answer) (moves : Bool) (k : Kind) (any free : Bool) → (is_some (deed_access ask success (if moves then Moves else reach_kind k any)).pool ≡ true → any ≡ free) →
+    deed_access ask success (if moves then Moves else reach_kind k any) ≡ deed_access ask success (if moves then Moves else reach_kind k free)
+access_asks ask success true k any free h = refl
+access_asks ask success false k any free h = kind_asks ask success k any free h
+
+placed_asks : (ask : Ask) (success : Answer) (placed : Bool) (page : Page) (any free : Bool) →
+    (is_some (deed_access ask success (if placed then reach_of page any else NoPage)).pool ≡ true → any ≡ free) →
+    deed_access ask success (if placed then reach_of page any else NoPage) ≡ deed_access ask success (if placed then reach_of page free else NoPage)
+placed_asks ask success true page any free h = access_asks ask success (is_some page.mover) page.kind any free h
+placed_asks ask success false page any free h = refl
 
 running_asks : (plan : Plan) (g : Guest) (any free : Bool) (ask : Ask) (cmd : Cmd) → (is_some (deed_running plan g any ask cmd).pool ≡ true → any ≡ free) →
     deed_running plan g any ask cmd ≡ deed_running plan g free ask cmd
@@ -39,8 +52,9 @@ running_asks plan g any free ask (HLd ra) h = refl
 running_asks plan g any free ask (HSt ra value) h = refl
 running_asks plan g any free ask (UReturn r0 r2 outs) h = refl
 running_asks plan g any free ask (GLi rd value) h = refl
-running_asks plan g any free ask (GLd rd gpa) h = placed_asks ask _ (has_place plan gpa) (is_invalid (g.part.pages (page_of plan gpa))) any free h
-running_asks plan g any free ask (GSt rs gpa) h = placed_asks ask _ (has_place plan gpa) (is_invalid (g.part.pages (page_of plan gpa))) any free h
+running_asks plan g any free ask (GLd rd gpa) h = placed_asks ask _ (has_place plan gpa) (g.part.pages (page_of plan gpa)) any free h
+running_asks plan g any free ask (GSt rs gpa) h = placed_asks ask _ (has_place plan gpa) (g.part.pages (page_of plan gpa)) any free h
+running_asks plan g any free ask GIrq h = refl
 
 -- what was not asked of the pool makes no difference
 deed_asks : (plan : Plan) (g : Guest) (any free : Bool) (ask : Ask) (cmd : Cmd) (c : Ctx) → (is_some (deed_guest_in c plan g any ask cmd).pool ≡ true → any ≡ free) →
@@ -83,23 +97,34 @@ touched_objects_decide plan past other e agree extends = record { cpu = extends.
   by_target (AtFrame n) is = ap (at past) is ∙ ap (λ (bytes : List ℕ). entry_of ask (mark_of e) e.trace.cmd (deed_frame plan n bytes ask e.trace.cmd)) (frames n is) ∙ sym (ap (at other) is)
   by_target (AtGuest lpid) is = ap (at past) is ∙ ap (entry_of ask (mark_of e) e.trace.cmd) (deeds lpid is) ∙ sym (ap (at other) is)
 
-access_tells : (ask : Ask) (success : Answer) (invalid any : Bool) (saw : PoolSaw) → (deed_access ask success (reach_of invalid any)).pool ≡ Some saw → saw.any ≡ any
-access_tells ask success false any saw h = cc
-access_tells ask success true true saw h = cc
-access_tells ask success true false saw h = cc
+invalid_tells : (ask : Ask) (success : Answer) (any : Bool) (saw : PoolSaw) → (deed_access ask success (reach_invalid any)).pool ≡ Some saw → saw.any ≡ any
+invalid_tells ask success true saw h = cc
+invalid_tells ask success false saw h = cc
 
-placed_tells : (ask : Ask) (success : Answer) (placed invalid any : Bool) (saw : PoolSaw) →
-    (deed_access ask success (if placed then reach_of invalid any else NoPage)).pool ≡ Some saw → saw.any ≡ any
-placed_tells ask success true invalid any saw h = access_tells ask success invalid any saw h
-placed_tells ask success false invalid any saw h = cc
+kind_tells : (ask : Ask) (success : Answer) (k : Kind) (any : Bool) (saw : PoolSaw) → (deed_access ask success (reach_kind k any)).pool ≡ Some saw → saw.any ≡ any
+kind_tells ask success kind.Invalid any saw h = invalid_tells ask success any saw h
+kind_tells ask success kind.Secure any saw h = cc
+kind_tells ask success kind.Out any saw h = cc
+kind_tells ask success (kind.Shared frame fresh) any saw h = cc
+
+access_tells : (ask : Ask) (success : Answer) (moves : Bool) (k : Kind) (any : Bool) (saw : PoolSaw) →
+    (deed_access ask success (if moves then Moves else reach_kind k any)).pool ≡ Some saw → saw.any ≡ any
+access_tells ask success true k any saw h = cc
+access_tells ask success false k any saw h = kind_tells ask success k any saw h
+
+placed_tells : (ask : Ask) (success : Answer) (placed : Bool) (page : Page) (any : Bool) (saw : PoolSaw) →
+    (deed_access ask success (if placed then reach_of page any else NoPage)).pool ≡ Some saw → saw.any ≡ any
+placed_tells ask success true page any saw h = access_tells ask success (is_some page.mover) page.kind any saw h
+placed_tells ask success false page any saw h = cc
 
 running_tells : (plan : Plan) (g : Guest) (any : Bool) (ask : Ask) (cmd : Cmd) (saw : PoolSaw) → (deed_running plan g any ask cmd).pool ≡ Some saw → saw.any ≡ any
 running_tells plan g any ask (HLd ra) saw h = cc
 running_tells plan g any ask (HSt ra value) saw h = cc
 running_tells plan g any ask (UReturn r0 r2 outs) saw h = cc
 running_tells plan g any ask (GLi rd value) saw h = cc
-running_tells plan g any ask (GLd rd gpa) saw h = placed_tells ask _ (has_place plan gpa) (is_invalid (g.part.pages (page_of plan gpa))) any saw h
-running_tells plan g any ask (GSt rs gpa) saw h = placed_tells ask _ (has_place plan gpa) (is_invalid (g.part.pages (page_of plan gpa))) any saw h
+running_tells plan g any ask (GLd rd gpa) saw h = placed_tells ask _ (has_place plan gpa) (g.part.pages (page_of plan gpa)) any saw h
+running_tells plan g any ask (GSt rs gpa) saw h = placed_tells ask _ (has_place plan gpa) (g.part.pages (page_of plan gpa)) any saw h
+running_tells plan g any ask GIrq saw h = cc
 
 hypervisor_tells : (g : GuestPart) (any : Bool) (ask : Ask) (cmd : Cmd) (saw : PoolSaw) → (deed_hypervisor g ask cmd).pool ≡ Some saw → saw.any ≡ any
 hypervisor_tells g any ask (UReturn r0 r2 outs) saw h = by_test (may_return_in g.phase && is_waiting (g.vcpus ask.vid).state) h where
@@ -111,6 +136,7 @@ hypervisor_tells g any ask (HSt ra value) saw h = cc
 hypervisor_tells g any ask (GLi rd value) saw h = cc
 hypervisor_tells g any ask (GLd rd gpa) saw h = cc
 hypervisor_tells g any ask (GSt rs gpa) saw h = cc
+hypervisor_tells g any ask GIrq saw h = cc
 
 pub asked_is_told : AskedIsTold
 asked_is_told plan g any ask cmd saw is = by_ctx ask.before is where

@@ -6,7 +6,7 @@ use Rattle.pef_model.specs.declared.state.Run.{Run}
 use Rattle.pef_model.specs.declared.state.Ctx.{Ctx}
 use Rattle.pef_model.specs.declared.state.Ctx.TheVariants as ctx
 use Rattle.pef_model.specs.declared.command.Cmd.{Cmd}
-use Rattle.pef_model.specs.declared.command.Cmd.TheVariants.{HLd, HSt, UReturn, GLi, GLd, GSt}
+use Rattle.pef_model.specs.declared.command.Cmd.TheVariants.{HLd, HSt, UReturn, GLi, GLd, GSt, GIrq}
 use Rattle.pef_model.specs.declared.entry.Answer.{Answer}
 use Rattle.pef_model.specs.declared.entry.Answer.TheVariants.{Done}
 use Rattle.pef_model.specs.Plan.{Plan, plan_of}
@@ -16,7 +16,7 @@ use Rattle.pef_model.specs.Cpu.{CpuPart, start_cpu, next_cpu}
 use Rattle.pef_model.specs.GuestPart.{GuestPart, start_part, next_part}
 use Rattle.pef_model.specs.Memory.{start_pool, next_pool, start_frame, next_frame}
 use Rattle.pef_model.specs.Guest.{Guest}
-use Rattle.pef_model.specs.Deed.{Reach, NoPage, InFrame, Backs, NoFrame, answer_alone, answer_frame, deed_access, deed_running, deed_gone, deed_guest, reach}
+use Rattle.pef_model.specs.Deed.{Reach, NoPage, InFrame, Backs, NoFrame, Moves, answer_alone, answer_frame, deed_access, deed_running, deed_gone, deed_guest, reach}
 use Rattle.pef_model.specs.History.{public_state, cpu_after, guest_after, pool_after, frame_after, ask_of, entry_of, deed_after, next_entry_by, Extends, IsLegal}
 use Rattle.pef_model.specs.Report.{command_name}
 use Rattle.pef_model.specs.SecretLaw.{open_cmd, open_answer, open_answer_of_guest, open_entry, SecretsStayIn, AgreeButValue}
@@ -101,6 +101,7 @@ running_gives_none plan past run l v last cmd = by_command cmd where
   by_reach success InFrame h = cc
   by_reach success Backs h = cc
   by_reach success NoFrame h = cc
+  by_reach success Moves h = cc
 
   by_running : (cmd : Cmd) → (deed_running plan g free ask cmd).after ≡ ctx.Hv → open_answer_of_guest (deed_running plan g free ask cmd).answer ≡ (deed_running plan g free ask cmd).answer
   by_running (HLd ra) h = cc
@@ -109,6 +110,7 @@ running_gives_none plan past run l v last cmd = by_command cmd where
   by_running (GLi rd value) h = cc
   by_running (GLd rd gpa) h = by_reach _ (reach plan g.part free gpa) h
   by_running (GSt rs gpa) h = by_reach Done (reach plan g.part free gpa) h
+  by_running GIrq h = refl
 
   by_generation : (cmd : Cmd) (b : Bool) → (if b then deed_running plan g free ask cmd else deed_gone ask).after ≡ ctx.Hv →
       open_answer_of_guest (if b then deed_running plan g free ask cmd else deed_gone ask).answer ≡ (if b then deed_running plan g free ask cmd else deed_gone ask).answer
@@ -123,6 +125,7 @@ running_gives_none plan past run l v last cmd = by_command cmd where
   by_command (GLi rd value) h = by_generation (GLi rd value) (run.generation == g.part.generation) h
   by_command (GLd rd gpa) h = by_generation (GLd rd gpa) (run.generation == g.part.generation) h
   by_command (GSt rs gpa) h = by_generation (GSt rs gpa) (run.generation == g.part.generation) h
+  by_command GIrq h = by_generation GIrq (run.generation == g.part.generation) h
 
 gives_none : (plan : Plan) (past : List Event) (e : Event) → Extends plan past e → e.saw.after ≡ ctx.Hv → open_answer e.saw.before e.trace.answer ≡ e.trace.answer
 gives_none plan past e extends after = by_ctx e.saw.before refl where

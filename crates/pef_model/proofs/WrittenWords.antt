@@ -1,6 +1,7 @@
 -- Lemmas on words that are written: a number and a register are read again.
 use Rattle.std.proofs.Common.{◌≡◌, ◌≤◌, ◌<◌, ◌≢◌, ℕ, ◌+◌, ◌*◌, ◌/◌, ◌%◌, ◌^◌, Bool, true, false, cond, ◌&&◌, List, [], ◌∷◌, length, get_or, refl, sym, subst, arith, zero, suc}
-use Rattle.std.specs.Prelude.{Some, nat_eq, nat_le, ◌==◌, codes}
+use Rattle.std.specs.Prelude.{Option, Some, None, nat_eq, nat_lt, nat_le, ◌==◌, codes, option_and_then, if◌then◌else◌}
+use Rattle.pef_model.specs.Plan.{IsWithin}
 use Rattle.std.specs.Char.{digit_value, is_digit}
 use Rattle.std.specs.Fmt.{digits, decimal, digit_glyph, digits_onto}
 use Rattle.std.specs.List.{list_all, starts_with}
@@ -9,7 +10,7 @@ use Rattle.std.proofs.lemmas.Bool.{lt-ltb}
 use Rattle.std.proofs.lemmas.Bool.Decides.{nat_tests}
 use Rattle.std.proofs.lemmas.Nat.{div_below}
 use Rattle.std.proofs.lemmas.Fmt.{digits_is_IsNumeral, decimal_is_IsNumeral, length-decimal-le, decimal_digit, first_decimal}
-use Rattle.pef_model.specs.Script.{numeral_in, number_in, has_leading_zero, register_in}
+use Rattle.pef_model.specs.Words.{numeral_in, number_in, number_within, number_below, has_leading_zero, register_in}
 use Rattle.pef_model.specs.ScriptText.{number_text, register_text}
 
 -- numbers of m + 1 hexadecimal digits are below this
@@ -96,3 +97,23 @@ no_leading_zero (suc r) h = no_zero (decimal (suc r)) (first_decimal (suc r) (om
 pub register_reads : (r : ℕ) → r < 32 → register_in (register_text r) ≡ Some r
 register_reads r h =
     rw (no_leading_zero r h, decimal_reads 2 r (omega arith) (omega arith) (omega arith), lt-ltb r 32 h) refl
+
+within_reads : (least greatest n : ℕ) (found : Option ℕ) → found ≡ Some n → least ≤ n → n ≤ greatest → option_and_then (λ m. if nat_le least m && nat_le m greatest then Some m else None) found ≡ Some n
+within_reads least greatest n None e low high = absurd (cc)
+within_reads least greatest n (Some m) e low high =
+    let same : m ≡ n = cc in
+    rw (same, le_test least n low, le_test n greatest high) refl
+
+-- a number in its range is read again
+pub number_within_reads : (hex : Bool) (least greatest n : ℕ) → n < 2 ^ 64 → IsWithin least greatest n → number_within least greatest (number_text hex n) ≡ Some n
+number_within_reads hex least greatest n fits within = within_reads least greatest n (number_in (number_text hex n)) (number_reads hex n fits) within.0 within.1
+
+below_reads : (limit n : ℕ) (found : Option ℕ) → found ≡ Some n → n < limit → option_and_then (λ m. if nat_lt m limit then Some m else None) found ≡ Some n
+below_reads limit n None e below = absurd (cc)
+below_reads limit n (Some m) e below =
+    let same : m ≡ n = cc in
+    rw (same, lt-ltb n limit below) refl
+
+-- a number below a limit is read again
+pub number_below_reads : (hex : Bool) (limit n : ℕ) → n < 2 ^ 64 → n < limit → number_below limit (number_text hex n) ≡ Some n
+number_below_reads hex limit n fits below = below_reads limit n (number_in (number_text hex n)) (number_reads hex n fits) below

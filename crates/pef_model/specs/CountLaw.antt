@@ -7,7 +7,7 @@ use Rattle.pef_model.specs.declared.state.Run.{Run}
 use Rattle.pef_model.specs.declared.state.Ctx.TheVariants as ctx
 use Rattle.pef_model.specs.Plan.{Plan}
 use Rattle.pef_model.specs.Event.{Event}
-use Rattle.pef_model.specs.GuestPart.{GuestPart, is_invalid}
+use Rattle.pef_model.specs.GuestPart.{GuestPart, is_secure}
 use Rattle.pef_model.specs.Guest.{start_guest}
 use Rattle.pef_model.specs.Deed.{may_return_in}
 use Rattle.pef_model.specs.History.{cpu_after, guest_after, pool_after, IsLegal}
@@ -42,7 +42,7 @@ NoVcpuRunsTwice =
 abbrev pub OrderHasSecurePages : Type 0
 OrderHasSecurePages =
     (plan : Plan) (past : List Event) (lpid gfn : ℕ) →
-    count_by (λ p. p == gfn) (part_after plan past lpid).order ≡ (if is_invalid ((part_after plan past lpid).pages gfn) then 0 else 1)
+    count_by (λ p. p == gfn) (part_after plan past lpid).order ≡ (if is_secure ((part_after plan past lpid).pages gfn) then 1 else 0)
 
 -- an order grows at its end alone
 abbrev pub OrderGrows : Type 0

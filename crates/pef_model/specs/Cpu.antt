@@ -1,14 +1,17 @@
 -- A CPU: what the hypervisor sees of it, and what an entry makes of it.
 use Rattle.std.specs.Prelude.{ℕ, ◌^◌, List, replicate, slice_set}
+use Rattle.pef_model.specs.declared.state.Run.{Run}
 use Rattle.pef_model.specs.declared.state.Ctx.{Ctx}
 use Rattle.pef_model.specs.declared.state.Ctx.TheVariants as ctx
 use Rattle.pef_model.specs.declared.command.Cmd.{Cmd}
-use Rattle.pef_model.specs.declared.command.Cmd.TheVariants.{HLd, HSt, UReturn, GLi, GLd, GSt}
+use Rattle.pef_model.specs.declared.command.Cmd.TheVariants.{HLd, HSt, UReturn, GLi, GLd, GSt, GIrq}
+use Rattle.pef_model.specs.declared.entry.Exit.{Exit}
+use Rattle.pef_model.specs.declared.entry.Exit.TheVariants as exit
 use Rattle.pef_model.specs.declared.entry.Answer.{Answer}
 use Rattle.pef_model.specs.declared.entry.Answer.TheVariants as answer
 use Rattle.pef_model.specs.Plan.{Plan}
 use Rattle.pef_model.specs.Event.{Event}
-use Rattle.pef_model.specs.Registers.{zero_registers, load_return, with_code}
+use Rattle.pef_model.specs.Registers.{zero_registers, interrupt_registers, load_return, with_code}
 
 -- the context, the hypervisor's 32 registers, the selected guest and vCPU, the last answer, the hand of one page
 pub record CpuPart : Type 0 where
@@ -41,6 +44,7 @@ own_after own (UReturn r0 r2 outs) a = own_after_return (load_return own r0 r2 o
 own_after own (GLi rd value) a = own
 own_after own (GLd rd gpa) a = own
 own_after own (GSt rs gpa) a = own
+own_after own GIrq a = own
 
 -- the last answer: Context isn't kept
 abbrev pub last_after : Answer → Answer → Answer
@@ -51,15 +55,20 @@ last_after old a = a
 abbrev pub cpu_after_hypervisor : CpuPart → Event → CpuPart
 cpu_after_hypervisor cpu e = record cpu { ctx = e.saw.after; own = own_after cpu.own e.trace.cmd e.trace.answer; last = last_after cpu.last e.trace.answer }
 
--- a CPU after a step of a guest that goes on, or that has ended
-abbrev pub cpu_after_guest : CpuPart → Answer → CpuPart
-cpu_after_guest cpu answer.Gone = record cpu { ctx = ctx.Hv; own = zero_registers; last = answer.Gone }
-cpu_after_guest cpu a = cpu
+-- what the CPU's registers show the hypervisor where a guest leaves
+abbrev pub left_registers : Exit → List ℕ
+left_registers exit.Irq = interrupt_registers
+
+-- a CPU after a step of a guest: one that leaves is selected, and shows no more than its exit says; one that has ended shows nothing
+abbrev pub cpu_after_guest : CpuPart → Run → Answer → CpuPart
+cpu_after_guest cpu run (answer.Exit exit) = record { ctx = ctx.Hv; own = left_registers exit; lpid = run.lpid; vid = run.vid; last = answer.Exit exit; hand = cpu.hand }
+cpu_after_guest cpu run answer.Gone = record cpu { ctx = ctx.Hv; own = zero_registers; last = answer.Gone }
+cpu_after_guest cpu run a = cpu
 
 -- a CPU after an entry of its own, by the context before it
 abbrev pub cpu_after_in : Ctx → CpuPart → Event → CpuPart
 cpu_after_in ctx.Hv cpu e = cpu_after_hypervisor cpu e
-cpu_after_in (ctx.Guest run) cpu e = cpu_after_guest cpu e.trace.answer
+cpu_after_in (ctx.Guest run) cpu e = cpu_after_guest cpu run e.trace.answer
 
 -- a CPU after an entry that touches it
 abbrev pub next_cpu : CpuPart → Event → CpuPart

@@ -1,20 +1,23 @@
 -- What a step does, row by row: its answer, and what it shows.
-use Rattle.std.specs.Prelude.{ℕ, ◌==◌, Bool, true, false, ◌&&◌, if◌then◌else◌, List, [], ◌∷◌, Option, Some, None}
+use Rattle.std.specs.Prelude.{ℕ, ◌==◌, Bool, true, false, ◌&&◌, if◌then◌else◌, List, [], ◌∷◌, Option, Some, None, is_some}
 use Rattle.pef_model.specs.declared.state.Phase.{Phase}
 use Rattle.pef_model.specs.declared.state.Phase.TheVariants as phase
+use Rattle.pef_model.specs.declared.state.Kind.{Kind}
+use Rattle.pef_model.specs.declared.state.Kind.TheVariants as kind
 use Rattle.pef_model.specs.declared.state.VState.{VState}
 use Rattle.pef_model.specs.declared.state.VState.TheVariants as vstate
 use Rattle.pef_model.specs.declared.state.Ctx.{Ctx}
 use Rattle.pef_model.specs.declared.state.Ctx.TheVariants as ctx
 use Rattle.pef_model.specs.declared.command.Code.TheVariants.{UInvalid}
 use Rattle.pef_model.specs.declared.command.Cmd.{Cmd}
-use Rattle.pef_model.specs.declared.command.Cmd.TheVariants.{HLd, HSt, UReturn, GLi, GLd, GSt}
+use Rattle.pef_model.specs.declared.command.Cmd.TheVariants.{HLd, HSt, UReturn, GLi, GLd, GSt, GIrq}
+use Rattle.pef_model.specs.declared.entry.Exit.TheVariants as exit
 use Rattle.pef_model.specs.declared.entry.Answer.{Answer}
 use Rattle.pef_model.specs.declared.entry.Answer.TheVariants as answer
 use Rattle.pef_model.specs.declared.entry.PoolSaw.{PoolSaw}
 use Rattle.pef_model.specs.Plan.{Plan}
 use Rattle.pef_model.specs.Target.{Ask}
-use Rattle.pef_model.specs.GuestPart.{GuestPart, page_of, has_place, is_invalid}
+use Rattle.pef_model.specs.GuestPart.{Page, GuestPart, page_of, has_place}
 use Rattle.pef_model.specs.Guest.{Guest, private_doubleword}
 use Rattle.pef_model.specs.Memory.{offset_of}
 use Rattle.pef_model.specs.Doubleword.{doubleword}
@@ -70,6 +73,7 @@ abbrev pub is_waiting : VState → Bool
 is_waiting vstate.Idle = false
 is_waiting vstate.Fresh = true
 is_waiting (vstate.Running cpu) = false
+is_waiting (vstate.Parked pending) = true
 
 -- UV_RETURN of the hypervisor: the selected vCPU runs, if it waits in a Secure or Starting guest
 abbrev pub deed_return : GuestPart → Ask → Deed
@@ -84,16 +88,27 @@ pub data Reach : Type 0 where
   InFrame : Reach
   Backs : Reach
   NoFrame : Reach
+  Moves : Reach
 
--- what an access to a page meets: an Invalid page is backed where a frame is free
-abbrev pub reach_of : Bool → Bool → Reach
-reach_of true true = Backs
-reach_of true false = NoFrame
-reach_of false any = InFrame
+-- what an access to an Invalid page meets: the page is backed where a frame is free
+abbrev pub reach_invalid : Bool → Reach
+reach_invalid true = Backs
+reach_invalid false = NoFrame
+
+-- what an access to a page at rest meets
+abbrev pub reach_kind : Kind → Bool → Reach
+reach_kind kind.Invalid any = reach_invalid any
+reach_kind kind.Secure any = InFrame
+reach_kind kind.Out any = NoPage
+reach_kind (kind.Shared frame fresh) any = NoPage
+
+-- what an access to a page meets: nothing is done with one that moves
+abbrev pub reach_of : Page → Bool → Reach
+reach_of page any = if is_some page.mover then Moves else reach_kind page.kind any
 
 -- what an access of a guest meets
 abbrev pub reach : Plan → GuestPart → Bool → ℕ → Reach
-reach plan g any gpa = if has_place plan gpa then reach_of (is_invalid (g.pages (page_of plan gpa))) any else NoPage
+reach plan g any gpa = if has_place plan gpa then reach_of (g.pages (page_of plan gpa)) any else NoPage
 
 -- an access, with its answer where it is done
 abbrev pub deed_access : Ask → Answer → Reach → Deed
@@ -101,6 +116,11 @@ deed_access ask success NoPage = answering ask answer.Hole
 deed_access ask success InFrame = answering ask success
 deed_access ask success Backs = taking (answering ask success) true
 deed_access ask success NoFrame = taking (answering ask answer.Hole) false
+deed_access ask success Moves = answering ask answer.Again
+
+-- an interrupt takes the guest from the CPU, and lets nothing out
+abbrev pub deed_interrupt : Ask → Deed
+deed_interrupt ask = record (answering ask (answer.Exit exit.Irq)) { after = ctx.Hv }
 
 -- a command of a guest that runs; any: a secure frame is free
 abbrev pub deed_running : Plan → Guest → Bool → Ask → Cmd → Deed
@@ -110,6 +130,7 @@ deed_running plan g any ask (UReturn r0 r2 outs) = record (answering ask (answer
 deed_running plan g any ask (GLi rd value) = answering ask answer.Done
 deed_running plan g any ask (GLd rd gpa) = deed_access ask (answer.Val (private_doubleword plan g gpa)) (reach plan g.part any gpa)
 deed_running plan g any ask (GSt rs gpa) = deed_access ask answer.Done (reach plan g.part any gpa)
+deed_running plan g any ask GIrq = deed_interrupt ask
 
 -- a guest whose generation is another by now lets nothing out, and the hypervisor runs
 abbrev pub deed_gone : Ask → Deed
@@ -123,6 +144,7 @@ deed_hypervisor g ask (UReturn r0 r2 outs) = deed_return g ask
 deed_hypervisor g ask (GLi rd value) = deed_alone ask (GLi rd value)
 deed_hypervisor g ask (GLd rd gpa) = deed_alone ask (GLd rd gpa)
 deed_hypervisor g ask (GSt rs gpa) = deed_alone ask (GSt rs gpa)
+deed_hypervisor g ask GIrq = deed_alone ask GIrq
 
 -- a command at a guest, by the CPU's context
 abbrev pub deed_guest_in : Ctx → Plan → Guest → Bool → Ask → Cmd → Deed

@@ -1,10 +1,9 @@
 -- The laws of the grammar.
-use Rattle.std.specs.Prelude.{◌≡◌, ℕ, Bool, List}
-use Rattle.std.specs.List.{AllByRecursion}
-use Rattle.pef_model.specs.declared.command.Cmd.{Cmd}
+use Rattle.std.specs.Prelude.{◌≡◌, ℕ, ◌+◌, Bool, List, length, IfSome}
+use Rattle.pef_model.specs.Plan.{IsWithin}
 use Rattle.pef_model.specs.Script.{Script, IsScript, Reads}
-use Rattle.pef_model.specs.Commands.{first_script}
-use Rattle.pef_model.specs.ScriptText.{script_text, CanBeWritten}
+use Rattle.pef_model.specs.ScriptText.{script_text, IsWritable}
+use Rattle.pef_model.specs.Words.{lines_of}
 
 -- each text reads as at most one script
 abbrev pub ReadsOne : Type 0
@@ -14,10 +13,16 @@ ReadsOne = (text : List ℕ) (s t : Script) → Reads text s → Reads text t �
 abbrev pub ReadsScripts : Type 0
 ReadsScripts = (text : List ℕ) (s : Script) → Reads text s → IsScript s
 
--- the text that is written for commands reads as their script
+-- the text that is written for a script reads as it: nine lines, and then a line for each command
 abbrev pub ReadsWhatIsWritten : Type 0
-ReadsWhatIsWritten = (hex : Bool) (cmds : List Cmd) → AllByRecursion CanBeWritten cmds → Reads (script_text hex cmds) (first_script cmds)
+ReadsWhatIsWritten = (hex : Bool) (s : Script) → IsWritable 10 s → Reads (script_text hex s) s
 
--- what is read is the script of commands that can be written
+-- a script can be written, its first command's line is one from 4 to 10, and its last command's is the last of the text's lines
+pub record IsReadFrom (text : List ℕ) (s : Script) (first : ℕ) : Type 0 where
+  pub starts : IsWithin 4 10 first
+  pub writable : IsWritable first s
+  pub whole : IfSome (lines_of text) (λ lines. first + length s.lines ≡ length lines + 1)
+
+-- what is read can be written
 abbrev pub ReadsWhatCanBeWritten : Type 0
-ReadsWhatCanBeWritten = (text : List ℕ) (s : Script) → Reads text s → (cmds : List Cmd) × AllByRecursion CanBeWritten cmds × (s ≡ first_script cmds)
+ReadsWhatCanBeWritten = (text : List ℕ) (s : Script) → Reads text s → (first : ℕ) × IsReadFrom text s first

@@ -1,23 +1,28 @@
 -- A guest's public part, and what an entry makes of it.
-use Rattle.std.specs.Prelude.{ℕ, ◌/◌, ◌%◌, ◌^◌, ◌==◌, nat_lt, Bool, true, false, ◌&&◌, if◌then◌else◌, List, [], ◌∷◌, ◌++◌}
+use Rattle.std.specs.Prelude.{ℕ, ◌/◌, ◌%◌, ◌^◌, ◌==◌, nat_lt, Bool, true, false, ◌&&◌, if◌then◌else◌, List, [], ◌∷◌, ◌++◌, Option, None}
 use Rattle.pef_model.specs.declared.state.Phase.{Phase}
 use Rattle.pef_model.specs.declared.state.Phase.TheVariants as phase
 use Rattle.pef_model.specs.declared.state.Kind.{Kind}
 use Rattle.pef_model.specs.declared.state.Kind.TheVariants as kind
+use Rattle.pef_model.specs.declared.state.Mover.{Mover}
+use Rattle.pef_model.specs.declared.state.Pending.{Pending}
+use Rattle.pef_model.specs.declared.state.Pending.TheVariants as pending
 use Rattle.pef_model.specs.declared.state.VState.{VState}
 use Rattle.pef_model.specs.declared.state.VState.TheVariants as vstate
 use Rattle.pef_model.specs.declared.state.Ctx.{Ctx}
 use Rattle.pef_model.specs.declared.state.Ctx.TheVariants as ctx
 use Rattle.pef_model.specs.declared.command.Cmd.{Cmd}
-use Rattle.pef_model.specs.declared.command.Cmd.TheVariants.{HLd, HSt, UReturn, GLi, GLd, GSt}
+use Rattle.pef_model.specs.declared.command.Cmd.TheVariants.{HLd, HSt, UReturn, GLi, GLd, GSt, GIrq}
+use Rattle.pef_model.specs.declared.entry.Exit.TheVariants as exit
 use Rattle.pef_model.specs.declared.entry.Answer.{Answer}
 use Rattle.pef_model.specs.declared.entry.Answer.TheVariants as answer
 use Rattle.pef_model.specs.Plan.{Plan}
 use Rattle.pef_model.specs.Event.{Event}
 
--- a page, as far as it is public: its kind
+-- a page, as far as it is public: its kind, and who moves it
 pub record Page : Type 0 where
   pub kind : Kind
+  pub mover : Option Mover
 
 -- a vCPU, as far as it is public: its state, and the guest's generation when it was taken up
 pub record VcpuPart : Type 0 where
@@ -38,11 +43,11 @@ put f at x n = if n == at then x else f n
 
 -- a page that has no frame yet
 abbrev pub invalid_page : Page
-invalid_page = record { kind = kind.Invalid }
+invalid_page = record { kind = kind.Invalid; mover = None }
 
 -- a page in its secure frame
 abbrev pub secure_page : Page
-secure_page = record { kind = kind.Secure }
+secure_page = record { kind = kind.Secure; mover = None }
 
 -- a vCPU in this state that was never taken up
 abbrev pub new_vcpu : VState → VcpuPart
@@ -77,7 +82,7 @@ page_of plan gpa = gpa / 2 ^ plan.shift
 abbrev pub has_place : Plan → ℕ → Bool
 has_place plan gpa = (gpa % 8 == 0) && nat_lt (page_of plan gpa) plan.pages
 
--- whether a page has no frame yet
+-- whether a page is Invalid
 abbrev pub is_invalid : Page → Bool
 is_invalid page = is_invalid_kind page.kind where
   is_invalid_kind : Kind → Bool
@@ -85,6 +90,15 @@ is_invalid page = is_invalid_kind page.kind where
   is_invalid_kind kind.Secure = false
   is_invalid_kind kind.Out = false
   is_invalid_kind (kind.Shared frame fresh) = false
+
+-- whether a page lies in a secure frame, or moves out of it
+abbrev pub is_secure : Page → Bool
+is_secure page = is_secure_kind page.kind where
+  is_secure_kind : Kind → Bool
+  is_secure_kind kind.Invalid = false
+  is_secure_kind kind.Secure = true
+  is_secure_kind kind.Out = false
+  is_secure_kind (kind.Shared frame fresh) = false
 
 -- a page that becomes Secure is the last in the order
 abbrev pub with_secure_page : GuestPart → ℕ → GuestPart
@@ -98,6 +112,10 @@ with_page_backed g gfn = if is_invalid (g.pages gfn) then with_secure_page g gfn
 abbrev pub with_running_vcpu : GuestPart → ℕ → ℕ → GuestPart
 with_running_vcpu g vid cpu = record g { vcpus = put g.vcpus vid (record { state = vstate.Running cpu; generation = g.generation }) }
 
+-- a vCPU that leaves is parked, in the generation in which it was taken up
+abbrev pub with_parked_vcpu : GuestPart → ℕ → Pending → GuestPart
+with_parked_vcpu g vid pending = record g { vcpus = put g.vcpus vid (record { state = vstate.Parked pending; generation = (g.vcpus vid).generation }) }
+
 -- after an answer of UV_RETURN in the hypervisor
 abbrev pub part_after_return : GuestPart → ℕ → ℕ → Answer → GuestPart
 part_after_return g vid cpu answer.Enter = with_running_vcpu g vid cpu
@@ -109,6 +127,11 @@ part_after_access g gfn answer.Done = with_page_backed g gfn
 part_after_access g gfn (answer.Val value) = with_page_backed g gfn
 part_after_access g gfn other = g
 
+-- after the answer to an interrupt
+abbrev pub part_after_interrupt : GuestPart → ℕ → Answer → GuestPart
+part_after_interrupt g vid (answer.Exit exit.Irq) = with_parked_vcpu g vid pending.Irq
+part_after_interrupt g vid other = g
+
 -- after a step of the hypervisor
 abbrev pub part_after_hypervisor : GuestPart → Cmd → Event → GuestPart
 part_after_hypervisor g (HLd ra) e = g
@@ -117,20 +140,22 @@ part_after_hypervisor g (UReturn r0 r2 outs) e = part_after_return g e.saw.vid e
 part_after_hypervisor g (GLi rd value) e = g
 part_after_hypervisor g (GLd rd gpa) e = g
 part_after_hypervisor g (GSt rs gpa) e = g
+part_after_hypervisor g GIrq e = g
 
--- after a step of the guest
-abbrev pub part_after_guest : Plan → GuestPart → Cmd → Answer → GuestPart
-part_after_guest plan g (HLd ra) a = g
-part_after_guest plan g (HSt ra value) a = g
-part_after_guest plan g (UReturn r0 r2 outs) a = g
-part_after_guest plan g (GLi rd value) a = g
-part_after_guest plan g (GLd rd gpa) a = part_after_access g (page_of plan gpa) a
-part_after_guest plan g (GSt rs gpa) a = part_after_access g (page_of plan gpa) a
+-- after a step of the guest's vCPU of this number
+abbrev pub part_after_guest : Plan → GuestPart → ℕ → Cmd → Answer → GuestPart
+part_after_guest plan g vid (HLd ra) a = g
+part_after_guest plan g vid (HSt ra value) a = g
+part_after_guest plan g vid (UReturn r0 r2 outs) a = g
+part_after_guest plan g vid (GLi rd value) a = g
+part_after_guest plan g vid (GLd rd gpa) a = part_after_access g (page_of plan gpa) a
+part_after_guest plan g vid (GSt rs gpa) a = part_after_access g (page_of plan gpa) a
+part_after_guest plan g vid GIrq a = part_after_interrupt g vid a
 
 -- by the context before the entry
 abbrev pub part_after_in : Ctx → Plan → GuestPart → Event → GuestPart
 part_after_in ctx.Hv plan g e = part_after_hypervisor g e.trace.cmd e
-part_after_in (ctx.Guest run) plan g e = part_after_guest plan g e.trace.cmd e.trace.answer
+part_after_in (ctx.Guest run) plan g e = part_after_guest plan g run.vid e.trace.cmd e.trace.answer
 
 -- a guest's public part after an entry that touches it
 abbrev pub next_part : Plan → GuestPart → Event → GuestPart

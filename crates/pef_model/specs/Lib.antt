@@ -10,6 +10,8 @@ pub mod GuestPart
 pub mod Memory
 pub mod Deed
 pub mod History
+pub mod Words
+pub mod Header
 pub mod Script
 pub mod Run
 pub mod Report
@@ -20,7 +22,6 @@ pub mod SecretLaw
 pub mod SearchLaw
 pub mod StepLaw
 pub mod CountLaw
-pub mod Commands
 pub mod ScriptText
 pub mod GrammarLaw
 pub mod NormalLaw

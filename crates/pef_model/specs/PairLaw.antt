@@ -1,6 +1,6 @@
 -- Pairs of runs, computed: one in which a secret differs, and one in which the hypervisor's own values do.
 use Rattle.std.specs.Prelude.{◌≡◌, ◌≢◌, ℕ, [], ◌∷◌, replicate}
-use Rattle.pef_model.specs.declared.command.Cmd.TheVariants.{HLd, HSt, UReturn, GLi, GLd, GSt}
+use Rattle.pef_model.specs.declared.command.Cmd.TheVariants.{HLd, HSt, UReturn, GLi, GLd, GSt, GIrq}
 use Rattle.pef_model.specs.Plan.{plan_of}
 use Rattle.pef_model.specs.Script.{Script}
 use Rattle.pef_model.specs.Run.{run_of}
@@ -9,13 +9,14 @@ use Rattle.pef_model.specs.View.{view}
 use Rattle.pef_model.specs.Alike.{IsAlike}
 use Rattle.pef_model.specs.RunLaw.{small_config, line_at, return_with}
 
--- a guest stores a value and loads it, while the hypervisor stores and loads on another CPU
+-- a guest stores a value and loads it, while the hypervisor works on another CPU; an interrupt takes the guest from its CPU, and it goes on on the other
 abbrev pub secret_script : ℕ → Script
 secret_script secret = record {
   config = small_config;
   lines =
       line_at 1 0 (return_with 0) ∷ line_at 2 0 (GLi 20 secret) ∷ line_at 3 0 (GSt 20 0x8) ∷ line_at 4 1 (HSt 0x10 5) ∷ line_at 5 0 (GLd 6 0x8)
-      ∷ line_at 6 1 (HLd 0x10) ∷ line_at 7 1 (return_with 0) ∷ line_at 8 0 (UReturn 1 2 (replicate 9 3)) ∷ [];
+      ∷ line_at 6 1 (HLd 0x10) ∷ line_at 7 1 (return_with 0) ∷ line_at 8 0 (UReturn 1 2 (replicate 9 3)) ∷ line_at 9 0 GIrq
+      ∷ line_at 10 1 (return_with 0) ∷ line_at 11 1 (GLd 7 0x8) ∷ line_at 12 1 GIrq ∷ line_at 13 0 (HLd 0x8) ∷ [];
 }
 
 -- the runs of that script with two secrets

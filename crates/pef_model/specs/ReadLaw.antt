@@ -2,7 +2,7 @@
 use Rattle.std.specs.Prelude.{◌≡◌, ℕ, Bool, true, List, Some}
 use Rattle.std.specs.List.{filter}
 use Rattle.pef_model.specs.declared.command.Cmd.{Cmd}
-use Rattle.pef_model.specs.declared.command.Cmd.TheVariants.{HLd, HSt, UReturn, GLi, GLd, GSt}
+use Rattle.pef_model.specs.declared.command.Cmd.TheVariants.{HLd, HSt, UReturn, GLi, GLd, GSt, GIrq}
 use Rattle.pef_model.specs.declared.entry.Answer.TheVariants.{Enter}
 use Rattle.pef_model.specs.declared.entry.PoolSaw.{PoolSaw}
 use Rattle.pef_model.specs.Plan.{Plan}
@@ -36,6 +36,7 @@ IsReturn (UReturn r0 r2 outs) = Unit {0}
 IsReturn (GLi rd value) = ⊥
 IsReturn (GLd rd gpa) = ⊥
 IsReturn (GSt rs gpa) = ⊥
+IsReturn GIrq = ⊥
 
 -- two entries agree in what a CPU's record reads of them
 pub record AgreeForCpu (e f : Event) : Type 0 where

@@ -1,6 +1,6 @@
 -- Registers as lists of 32, and what a call loads into them.
 use Rattle.std.specs.Prelude.{ℕ, List, ◌++◌, take, drop, slice_set, replicate}
-use Rattle.pef_model.specs.declared.command.TheConstants.{UV_RETURN}
+use Rattle.pef_model.specs.declared.command.TheConstants.{UV_RETURN, EXTERNAL_INTERRUPT}
 use Rattle.pef_model.specs.declared.command.Code.{Code}
 use Rattle.pef_model.specs.declared.command.Code.TheVariants.{UInvalid}
 use Rattle.pef_model.specs.declared.state.Regs.{Regs}
@@ -12,6 +12,10 @@ number_of UInvalid = 9
 -- registers that are all zero
 abbrev pub zero_registers : List ℕ
 zero_registers = replicate 32 0
+
+-- what the registers show where an interrupt takes a guest from the CPU: the interrupt in R3, and nothing else
+abbrev pub interrupt_registers : List ℕ
+interrupt_registers = slice_set zero_registers 3 EXTERNAL_INTERRUPT
 
 -- the registers of a vCPU that hasn't run
 abbrev pub fresh_registers : Regs

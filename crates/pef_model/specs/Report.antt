@@ -7,9 +7,10 @@ use Rattle.sha2.specs.Sha256.{sha256}
 use Rattle.pef_model.specs.declared.command.Code.{Code}
 use Rattle.pef_model.specs.declared.command.Code.TheVariants.{UInvalid}
 use Rattle.pef_model.specs.declared.command.Cmd.{Cmd}
-use Rattle.pef_model.specs.declared.command.Cmd.TheVariants.{HLd, HSt, UReturn, GLi, GLd, GSt}
+use Rattle.pef_model.specs.declared.command.Cmd.TheVariants.{HLd, HSt, UReturn, GLi, GLd, GSt, GIrq}
+use Rattle.pef_model.specs.declared.entry.Exit.TheVariants as exit
 use Rattle.pef_model.specs.declared.entry.Answer.{Answer}
-use Rattle.pef_model.specs.declared.entry.Answer.TheVariants.{Done, Val, Ret, Enter, Gone, Hole, Context, Nothing}
+use Rattle.pef_model.specs.declared.entry.Answer.TheVariants.{Done, Val, Ret, Enter, Exit, Again, Gone, Hole, Context, Nothing}
 use Rattle.pef_model.specs.Plan.{Plan}
 use Rattle.pef_model.specs.Event.{Event}
 use Rattle.pef_model.specs.History.{frame_after, pool_after}
@@ -26,6 +27,7 @@ command_name (UReturn r0 r2 outs) = codes "u.return"
 command_name (GLi rd value) = codes "g.li"
 command_name (GLd rd gpa) = codes "g.ld"
 command_name (GSt rs gpa) = codes "g.st"
+command_name GIrq = codes "g.irq"
 
 -- a code's name
 abbrev pub code_name : Code → List ℕ
@@ -37,6 +39,8 @@ answer_text Done = codes "done"
 answer_text (Val value) = codes "val " ++ value_text value
 answer_text (Ret code) = codes "ret " ++ code_name code
 answer_text Enter = codes "enter"
+answer_text (Exit exit.Irq) = codes "exit irq"
+answer_text Again = codes "again"
 answer_text Gone = codes "gone"
 answer_text Hole = codes "hole"
 answer_text Context = codes "context"

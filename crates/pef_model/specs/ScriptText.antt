@@ -1,9 +1,12 @@
--- How the commands of a script are written.
-use Rattle.std.specs.Prelude.{◌≡◌, ℕ, ◌^◌, ◌<◌, Bool, false, if◌then◌else◌, List, [], ◌∷◌, ◌++◌, replicate, codes}
-use Rattle.std.specs.List.{flat_map, join_with_byte}
+-- How a script is written: each line is its words, parted by one space, and ends in LF.
+use Rattle.std.specs.Prelude.{◌≡◌, ℕ, ◌+◌, ◌^◌, ◌<◌, Bool, false, if◌then◌else◌, List, [], ◌∷◌, ◌++◌, map, replicate, codes}
+use Rattle.std.specs.List.{AllByRecursion, flat_map, join_with_byte}
 use Rattle.std.specs.Fmt.{digits, decimal}
+use Rattle.pef_model.specs.declared.config.Config.{Config}
 use Rattle.pef_model.specs.declared.command.Cmd.{Cmd}
-use Rattle.pef_model.specs.declared.command.Cmd.TheVariants.{HLd, HSt, UReturn, GLi, GLd, GSt}
+use Rattle.pef_model.specs.declared.command.Cmd.TheVariants.{HLd, HSt, UReturn, GLi, GLd, GSt, GIrq}
+use Rattle.pef_model.specs.Plan.{IsInRange}
+use Rattle.pef_model.specs.Script.{Line, Script}
 
 -- a number in hexadecimal or in decimal
 abbrev pub number_text : Bool → ℕ → List ℕ
@@ -13,6 +16,10 @@ number_text hex n = if hex then codes "0x" ++ digits 16 false n else decimal n
 abbrev pub register_text : ℕ → List ℕ
 register_text r = codes "r" ++ decimal r
 
+-- a seal by its name
+abbrev pub seal_text : Bool → List ℕ
+seal_text vault = if vault then codes "vault" else codes "stream"
+
 -- a command's name and operands, with numbers in hexadecimal or in decimal
 abbrev pub command_text : Bool → Cmd → List (List ℕ)
 command_text hex (HLd ra) = codes "h.ld" ∷ number_text hex ra ∷ []
@@ -21,14 +28,33 @@ command_text hex (UReturn r0 r2 outs) = codes "u.return" ∷ number_text hex r0 
 command_text hex (GLi rd value) = codes "g.li" ∷ register_text rd ∷ number_text hex value ∷ []
 command_text hex (GLd rd gpa) = codes "g.ld" ∷ register_text rd ∷ number_text hex gpa ∷ []
 command_text hex (GSt rs gpa) = codes "g.st" ∷ register_text rs ∷ number_text hex gpa ∷ []
+command_text hex GIrq = codes "g.irq" ∷ []
 
--- the line of a command of CPU 0
-abbrev pub line_text : Bool → Cmd → List ℕ
-line_text hex cmd = join_with_byte 32 (codes "0" ∷ command_text hex cmd) ++ codes "\n"
+-- a command line's words: its CPU, the command's name, its operands
+abbrev pub line_words : Bool → Line → List (List ℕ)
+line_words hex line = number_text hex line.cpu ∷ command_text hex line.cmd
 
--- the text of a script of these commands
-abbrev pub script_text : Bool → List Cmd → List ℕ
-script_text hex cmds = codes "pef 1\nborn 1\nbegin\n" ++ flat_map (line_text hex) cmds
+-- the words of the lines before the commands: the script's first line, each size and the seal, `born 1` and `begin`
+abbrev pub header_words : Bool → Config → List (List (List ℕ))
+header_words hex config =
+    (codes "pef" ∷ codes "1" ∷ [])
+    ∷ (codes "shift" ∷ number_text hex config.shift ∷ [])
+    ∷ (codes "normal" ∷ number_text hex config.normal ∷ [])
+    ∷ (codes "secure" ∷ number_text hex config.secure ∷ [])
+    ∷ (codes "cpus" ∷ number_text hex config.cpus ∷ [])
+    ∷ (codes "pages" ∷ number_text hex config.pages ∷ [])
+    ∷ (codes "seal" ∷ seal_text config.vault ∷ [])
+    ∷ (codes "born" ∷ codes "1" ∷ [])
+    ∷ (codes "begin" ∷ [])
+    ∷ []
+
+-- the text of a line's words
+abbrev pub words_text : List (List ℕ) → List ℕ
+words_text words = join_with_byte 32 words ++ codes "\n"
+
+-- the text of a script
+abbrev pub script_text : Bool → Script → List ℕ
+script_text hex script = flat_map words_text (header_words hex script.config ++ map (line_words hex) script.lines)
 
 -- a command whose register is below 32, whose numbers are below 2^64, and which returns nothing in R4 to R12
 abbrev pub CanBeWritten : Cmd → Type 0
@@ -38,3 +64,25 @@ CanBeWritten (UReturn r0 r2 outs) = (r0 < 2 ^ 64) × (r2 < 2 ^ 64) × (outs ≡ 
 CanBeWritten (GLi rd value) = (rd < 32) × (value < 2 ^ 64)
 CanBeWritten (GLd rd gpa) = (rd < 32) × (gpa < 2 ^ 64)
 CanBeWritten (GSt rs gpa) = (rs < 32) × (gpa < 2 ^ 64)
+CanBeWritten GIrq = Unit {0}
+
+-- the lines' numbers count up from this one
+abbrev pub CountsFrom : ℕ → List Line → Type 0
+CountsFrom number [] = Unit {0}
+CountsFrom number (line ∷ more) = (line.number ≡ number) × CountsFrom (number + 1) more
+
+-- what no line of a script sets: one guest with one vCPU, which is born secure, the key and the entropy words
+pub record HasDefaults (config : Config) : Type 0 where
+  pub guests : config.guests ≡ 1
+  pub vcpus : config.vcpus ≡ 1
+  pub key : config.key ≡ replicate 32 0
+  pub born : config.born ≡ 1 ∷ []
+  pub entropy : config.entropy ≡ []
+
+-- a script that a text can say, whose first command has this line: its sizes are in their ranges, and each line is one of a machine's CPUs with a command that can be written
+pub record IsWritable (first : ℕ) (script : Script) : Type 0 where
+  pub range : IsInRange script.config
+  pub defaults : HasDefaults script.config
+  pub counts : CountsFrom first script.lines
+  pub cpus : AllByRecursion (λ (line : Line). line.cpu < script.config.cpus) script.lines
+  pub cmds : AllByRecursion (λ (line : Line). CanBeWritten line.cmd) script.lines

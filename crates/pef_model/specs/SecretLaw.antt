@@ -3,7 +3,7 @@ use Rattle.std.specs.Prelude.{◌≡◌, ℕ, Bool, List, map}
 use Rattle.pef_model.specs.declared.state.Ctx.{Ctx}
 use Rattle.pef_model.specs.declared.state.Ctx.TheVariants as ctx
 use Rattle.pef_model.specs.declared.command.Cmd.{Cmd}
-use Rattle.pef_model.specs.declared.command.Cmd.TheVariants.{HLd, HSt, UReturn, GLi, GLd, GSt}
+use Rattle.pef_model.specs.declared.command.Cmd.TheVariants.{HLd, HSt, UReturn, GLi, GLd, GSt, GIrq}
 use Rattle.pef_model.specs.declared.entry.Answer.{Answer}
 use Rattle.pef_model.specs.declared.entry.Answer.TheVariants.{Val}
 use Rattle.pef_model.specs.Plan.{Plan}
@@ -24,6 +24,7 @@ open_cmd (UReturn r0 r2 outs) = UReturn r0 r2 outs
 open_cmd (GLi rd value) = GLi rd 0
 open_cmd (GLd rd gpa) = GLd rd gpa
 open_cmd (GSt rs gpa) = GSt rs gpa
+open_cmd GIrq = GIrq
 
 -- a guest's answer without the value that it alone knows
 abbrev pub open_answer_of_guest : Answer → Answer

@@ -37,11 +37,11 @@ pub record DifferInSecrets (one other : Script) : Type 0 where
   pub lines : map open_line one.lines ≡ map open_line other.lines
 
 -- what the guests let out, entry by entry
-abbrev pub let_out : List Event → List (List ℕ)
-let_out past = map (λ (e : Event). e.saw.shown) past
+abbrev pub all_let_out : List Event → List (List ℕ)
+all_let_out past = map (λ (e : Event). e.saw.shown) past
 
 -- the runs of two scripts that differ in secrets alone are alike but for sealed bytes, where the guests let out the same
 abbrev pub SecretsGiveAlikeRuns : Type 0
 SecretsGiveAlikeRuns =
-    (one other : Script) → DifferInSecrets one other → let_out (run_of one) ≡ let_out (run_of other) →
+    (one other : Script) → DifferInSecrets one other → all_let_out (run_of one) ≡ all_let_out (run_of other) →
     IsAlikeOpen one.config (run_of one) other.config (run_of other)

@@ -4,21 +4,18 @@ use Rattle.pef_model.specs.declared.state.Run.{Run}
 use Rattle.pef_model.specs.declared.state.Regs.{Regs}
 use Rattle.pef_model.specs.declared.state.Ctx.{Ctx}
 use Rattle.pef_model.specs.declared.state.Ctx.TheVariants as ctx
-use Rattle.pef_model.specs.declared.command.TheConstants.{UV_RETURN}
+use Rattle.pef_model.specs.declared.command.TheConstants.{UV_RETURN, EXTERNAL_INTERRUPT}
 use Rattle.pef_model.specs.declared.command.Cmd.{Cmd}
 use Rattle.pef_model.specs.declared.command.Cmd.TheVariants.{HLd, UReturn}
+use Rattle.pef_model.specs.declared.entry.Exit.TheVariants as exit
 use Rattle.pef_model.specs.declared.entry.Answer.{Answer}
 use Rattle.pef_model.specs.declared.entry.Answer.TheVariants as answer
 use Rattle.pef_model.specs.Plan.{Plan}
 use Rattle.pef_model.specs.Event.{Event}
 use Rattle.pef_model.specs.Registers.{number_of}
+use Rattle.pef_model.specs.View.{is_hypervisor}
 use Rattle.pef_model.specs.History.{cpu_after, guest_after, Extends}
 use Rattle.pef_model.specs.SearchLaw.{loaded_value, IsCommand}
-
--- whether the hypervisor runs in a context
-abbrev pub is_hypervisor : Ctx → Bool
-is_hypervisor ctx.Hv = true
-is_hypervisor (ctx.Guest run) = false
 
 -- whether the hypervisor keeps an answer as its last: it isn't Context, and the hypervisor ran before the step or runs after it
 abbrev pub is_kept : Ctx → Answer → Ctx → Bool
@@ -41,19 +38,30 @@ given_by_command (HLd ra) a r = given_by_load a r
 given_by_command (UReturn r0 r2 outs) a r = given_by_return r0 r2 outs a r
 given_by_command cmd a r = None
 
--- the end of a guest that ran gives the hypervisor zeros
-abbrev pub given_by_end : Answer → Option ℕ
-given_by_end answer.Gone = Some 0
-given_by_end a = None
+-- a guest that leaves gives the hypervisor what its exit shows, and the end of one that ran gives zeros
+abbrev pub given_by_leaving : Answer → ℕ → Option ℕ
+given_by_leaving (answer.Exit exit.Irq) r = Some (if r == 3 then EXTERNAL_INTERRUPT else 0)
+given_by_leaving answer.Gone r = Some 0
+given_by_leaving a r = None
 
 -- the value that a step gives one of the hypervisor's registers
 abbrev pub own_given_in : Ctx → Cmd → Answer → ℕ → Option ℕ
 own_given_in ctx.Hv cmd a r = given_by_command cmd a r
-own_given_in (ctx.Guest run) cmd a r = given_by_end a
+own_given_in (ctx.Guest run) cmd a r = given_by_leaving a r
 
 -- the value that an entry gives one of the hypervisor's registers on its CPU
 abbrev pub own_given : Event → ℕ → Option ℕ
 own_given e r = own_given_in e.saw.before e.trace.cmd e.trace.answer r
+
+-- the guest that is selected after a step: the one that ran where it leaves
+abbrev pub selected_lpid : Ctx → Answer → ℕ → ℕ
+selected_lpid (ctx.Guest run) (answer.Exit exit) old = run.lpid
+selected_lpid before a old = old
+
+-- the vCPU that is selected after a step
+abbrev pub selected_vid : Ctx → Answer → ℕ → ℕ
+selected_vid (ctx.Guest run) (answer.Exit exit) old = run.vid
+selected_vid before a old = old
 
 -- what a step lets out: a guest's UV_RETURN that came back its operands, every other step nothing
 abbrev pub let_out : Ctx → Cmd → Answer → List ℕ
@@ -70,10 +78,10 @@ pub record LeavesCpu (plan : Plan) (past : List Event) (e : Event) : Type 0 wher
   pub last : (cpu_after plan e.trace.cpu (e ∷ past)).last ≡ (if is_kept e.saw.before e.trace.answer e.saw.after then e.trace.answer else (cpu_after plan e.trace.cpu past).last)
   -- each of the hypervisor's registers has what the entry gives it, and else is as it was
   pub own : (r : ℕ) → r < 32 → slice_index (cpu_after plan e.trace.cpu (e ∷ past)).own r ≡ unwrap_or (own_given e r) (slice_index (cpu_after plan e.trace.cpu past).own r)
-  -- the selected guest stays
-  pub lpid : (cpu_after plan e.trace.cpu (e ∷ past)).lpid ≡ (cpu_after plan e.trace.cpu past).lpid
-  -- the selected vCPU stays
-  pub vid : (cpu_after plan e.trace.cpu (e ∷ past)).vid ≡ (cpu_after plan e.trace.cpu past).vid
+  -- the selected guest stays, but where one leaves
+  pub lpid : (cpu_after plan e.trace.cpu (e ∷ past)).lpid ≡ selected_lpid e.saw.before e.trace.answer (cpu_after plan e.trace.cpu past).lpid
+  -- and so does the selected vCPU
+  pub vid : (cpu_after plan e.trace.cpu (e ∷ past)).vid ≡ selected_vid e.saw.before e.trace.answer (cpu_after plan e.trace.cpu past).vid
   -- the entry shows what the step lets out
   pub shown : e.saw.shown ≡ let_out e.saw.before e.trace.cmd e.trace.answer
 

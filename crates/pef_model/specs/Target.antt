@@ -3,7 +3,7 @@ use Rattle.std.specs.Prelude.{ℕ, ◌/◌, ◌%◌, ◌^◌, ◌==◌, nat_lt, 
 use Rattle.pef_model.specs.declared.state.Ctx.{Ctx}
 use Rattle.pef_model.specs.declared.state.Ctx.TheVariants as ctx
 use Rattle.pef_model.specs.declared.command.Cmd.{Cmd}
-use Rattle.pef_model.specs.declared.command.Cmd.TheVariants.{HLd, HSt, UReturn, GLi, GLd, GSt}
+use Rattle.pef_model.specs.declared.command.Cmd.TheVariants.{HLd, HSt, UReturn, GLi, GLd, GSt, GIrq}
 use Rattle.pef_model.specs.declared.entry.Answer.{Answer}
 use Rattle.pef_model.specs.Plan.{Plan}
 use Rattle.pef_model.specs.Event.{Event}
@@ -45,6 +45,7 @@ target_of_hypervisor plan lpid (UReturn r0 r2 outs) = AtGuest lpid
 target_of_hypervisor plan lpid (GLi rd value) = Alone
 target_of_hypervisor plan lpid (GLd rd gpa) = Alone
 target_of_hypervisor plan lpid (GSt rs gpa) = Alone
+target_of_hypervisor plan lpid GIrq = Alone
 
 -- a guest's own commands aim at the guest, whatever they name, and the hypervisor's at nothing
 abbrev pub target_of_running : ℕ → Cmd → Target
@@ -54,6 +55,7 @@ target_of_running lpid (UReturn r0 r2 outs) = AtGuest lpid
 target_of_running lpid (GLi rd value) = AtGuest lpid
 target_of_running lpid (GLd rd gpa) = AtGuest lpid
 target_of_running lpid (GSt rs gpa) = AtGuest lpid
+target_of_running lpid GIrq = AtGuest lpid
 
 -- the target of a step
 abbrev pub target_in : Plan → Ctx → ℕ → Cmd → Target

@@ -1,6 +1,10 @@
 -- Words at the edge of the grammar, each computed from the definitions.
-use Rattle.std.specs.Prelude.{◌≡◌, codes, Some, None}
-use Rattle.pef_model.specs.Script.{number_in, register_in, script_of}
+use Rattle.std.specs.Prelude.{◌≡◌, true, [], ◌∷◌, codes, Option, Some, None}
+use Rattle.pef_model.specs.declared.config.Config.{Config}
+use Rattle.pef_model.specs.declared.command.Cmd.TheVariants.{GLd, GIrq}
+use Rattle.pef_model.specs.Header.{born_one}
+use Rattle.pef_model.specs.Script.{Script, script_of}
+use Rattle.pef_model.specs.Words.{number_in, register_in}
 
 -- numbers below 2^64, in 1 to 20 decimal or 1 to 16 hexadecimal digits of either case
 pub record NumbersAtTheEdge : Type 0 where
@@ -27,7 +31,7 @@ pub record RegistersAtTheEdge : Type 0 where
   pub upper_case : register_in (codes "R1") ≡ None
   pub no_letter : register_in (codes "1") ≡ None
 
--- lines that end in LF, words parted by one space, on CPU 0
+-- lines that end in LF, words parted by one space
 pub record LinesAtTheEdge : Type 0 where
   pub empty : script_of (codes "") ≡ None
   pub no_begin : script_of (codes "pef 1\nborn 1\n") ≡ None
@@ -37,12 +41,68 @@ pub record LinesAtTheEdge : Type 0 where
   pub space_at_the_end : script_of (codes "pef 1\nborn 1\nbegin\n0 g.ld r1 0 \n") ≡ None
   pub tab : script_of (codes "pef 1\nborn 1\nbegin\n0\tg.ld r1 0\n") ≡ None
   pub carriage_return : script_of (codes "pef 1\nborn 1\nbegin\n0 g.ld r1 0\r\n") ≡ None
-  pub other_cpu : script_of (codes "pef 1\nborn 1\nbegin\n1 g.ld r1 0\n") ≡ None
+  pub no_cpu : script_of (codes "pef 1\nborn 1\nbegin\n1 g.ld r1 0\n") ≡ None
+  pub cpu_is_no_number : script_of (codes "pef 1\nborn 1\nbegin\nr0 g.ld r1 0\n") ≡ None
+  pub name_alone : script_of (codes "pef 1\nborn 1\nbegin\n0 g.ld\n") ≡ None
+  pub cpu_alone : script_of (codes "pef 1\nborn 1\nbegin\n0\n") ≡ None
   pub unknown_command : script_of (codes "pef 1\nborn 1\nbegin\n0 g.no r1 0\n") ≡ None
   pub missing_operand : script_of (codes "pef 1\nborn 1\nbegin\n0 g.ld r1\n") ≡ None
+  pub interrupt_with_operand : script_of (codes "pef 1\nborn 1\nbegin\n0 g.irq 0\n") ≡ None
+  pub interrupt_with_space : script_of (codes "pef 1\nborn 1\nbegin\n0 g.irq \n") ≡ None
+
+-- the script of a configuration without commands
+abbrev pub idle : Config → Option Script
+idle config = Some (record { config = config; lines = [] })
+
+-- each size from its least to its greatest value
+pub record SizesAtTheEdge : Type 0 where
+  pub shift_too_small : script_of (codes "pef 1\nshift 7\nborn 1\nbegin\n") ≡ None
+  pub least_shift : script_of (codes "pef 1\nshift 8\nborn 1\nbegin\n") ≡ idle (record born_one { shift = 8 })
+  pub greatest_shift : script_of (codes "pef 1\nshift 0x10\nborn 1\nbegin\n") ≡ idle (record born_one { shift = 16 })
+  pub shift_too_great : script_of (codes "pef 1\nshift 17\nborn 1\nbegin\n") ≡ None
+  pub no_normal : script_of (codes "pef 1\nnormal 0\nborn 1\nbegin\n") ≡ None
+  pub least_normal : script_of (codes "pef 1\nnormal 1\nborn 1\nbegin\n") ≡ idle (record born_one { normal = 1 })
+  pub greatest_normal : script_of (codes "pef 1\nnormal 1024\nborn 1\nbegin\n") ≡ idle (record born_one { normal = 1024 })
+  pub normal_too_great : script_of (codes "pef 1\nnormal 1025\nborn 1\nbegin\n") ≡ None
+  pub no_secure : script_of (codes "pef 1\nsecure 0\nborn 1\nbegin\n") ≡ None
+  pub least_secure : script_of (codes "pef 1\nsecure 1\nborn 1\nbegin\n") ≡ idle (record born_one { secure = 1 })
+  pub greatest_secure : script_of (codes "pef 1\nsecure 1024\nborn 1\nbegin\n") ≡ idle (record born_one { secure = 1024 })
+  pub secure_too_great : script_of (codes "pef 1\nsecure 1025\nborn 1\nbegin\n") ≡ None
+  pub no_cpu : script_of (codes "pef 1\ncpus 0\nborn 1\nbegin\n") ≡ None
+  pub least_cpus : script_of (codes "pef 1\ncpus 1\nborn 1\nbegin\n") ≡ idle (record born_one { cpus = 1 })
+  pub greatest_cpus : script_of (codes "pef 1\ncpus 16\nborn 1\nbegin\n") ≡ idle (record born_one { cpus = 16 })
+  pub cpus_too_great : script_of (codes "pef 1\ncpus 17\nborn 1\nbegin\n") ≡ None
+  pub no_page : script_of (codes "pef 1\npages 0\nborn 1\nbegin\n") ≡ None
+  pub least_pages : script_of (codes "pef 1\npages 1\nborn 1\nbegin\n") ≡ idle (record born_one { pages = 1 })
+  pub greatest_pages : script_of (codes "pef 1\npages 1024\nborn 1\nbegin\n") ≡ idle (record born_one { pages = 1024 })
+  pub pages_too_great : script_of (codes "pef 1\npages 1025\nborn 1\nbegin\n") ≡ None
+
+-- configuration lines in their order, each at most once, before `born 1`, and CPUs below their number
+pub record HeadersAtTheEdge : Type 0 where
+  pub empty : script_of (codes "pef 1\nborn 1\nbegin\n") ≡ idle born_one
+  pub stream : script_of (codes "pef 1\nseal stream\nborn 1\nbegin\n") ≡ idle born_one
+  pub vault : script_of (codes "pef 1\nseal vault\nborn 1\nbegin\n") ≡ idle (record born_one { vault = true })
+  pub all : script_of (codes "pef 1\nshift 9\nnormal 2\nsecure 3\ncpus 4\npages 5\nseal vault\nborn 1\nbegin\n")
+      ≡ idle (record born_one { shift = 9; normal = 2; secure = 3; cpus = 4; pages = 5; vault = true })
+  pub other_seal : script_of (codes "pef 1\nseal wax\nborn 1\nbegin\n") ≡ None
+  pub twice : script_of (codes "pef 1\nshift 8\nshift 8\nborn 1\nbegin\n") ≡ None
+  pub wrong_order : script_of (codes "pef 1\nnormal 2\nshift 8\nborn 1\nbegin\n") ≡ None
+  pub seal_too_soon : script_of (codes "pef 1\nseal vault\npages 2\nborn 1\nbegin\n") ≡ None
+  pub behind_born : script_of (codes "pef 1\nborn 1\nshift 8\nbegin\n") ≡ None
+  pub not_born : script_of (codes "pef 1\nshift 8\nbegin\n") ≡ None
+  pub not_first : script_of (codes "shift 8\npef 1\nborn 1\nbegin\n") ≡ None
+  pub three_words : script_of (codes "pef 1\nshift 8 8\nborn 1\nbegin\n") ≡ None
+  pub no_number : script_of (codes "pef 1\nshift\nborn 1\nbegin\n") ≡ None
+  pub last_cpu : script_of (codes "pef 1\ncpus 2\nborn 1\nbegin\n0x1 g.ld r3 4\n")
+      ≡ Some (record { config = record born_one { cpus = 2 }; lines = record { number = 5; cpu = 1; cmd = GLd 3 4 } ∷ [] })
+  pub cpu_too_great : script_of (codes "pef 1\ncpus 2\nborn 1\nbegin\n2 g.ld r3 4\n") ≡ None
+  pub interrupt : script_of (codes "pef 1\ncpus 2\nborn 1\nbegin\n1 g.irq\n")
+      ≡ Some (record { config = record born_one { cpus = 2 }; lines = record { number = 5; cpu = 1; cmd = GIrq } ∷ [] })
 
 -- the edge, whole
 pub record WordsAtTheEdge : Type 0 where
   pub numbers : NumbersAtTheEdge
   pub registers : RegistersAtTheEdge
   pub lines : LinesAtTheEdge
+  pub sizes : SizesAtTheEdge
+  pub headers : HeadersAtTheEdge

@@ -8,6 +8,10 @@ use std::marker::Model;
 /// The number of the ultracall UV_RETURN, which its caller puts into R3. This project's own.
 pub const UV_RETURN: u64 = 8;
 
+/// What R3 shows the hypervisor where an external interrupt takes a secure guest from the CPU: the interrupt's vector. This
+/// project's own choice of register.
+pub const EXTERNAL_INTERRUPT: u64 = 0x500;
+
 /// The number of one of the registers R0 to R31, seen as that number.
 #[derive(Clone, Copy, Debug, PartialEq, Eq)]
 pub struct Reg {
@@ -82,4 +86,6 @@ pub enum Cmd {
     GLd { rd: Reg, gpa: u64 },
     /// The guest stores a register at a guest address, in bytes.
     GSt { rs: Reg, gpa: u64 },
+    /// An external interrupt comes while the guest runs.
+    GIrq,
 }

@@ -7,6 +7,13 @@ use crate::state::Ctx;
 use std::alloc::{AllocError, Global};
 use std::marker::Model;
 
+/// Why a guest leaves for the hypervisor.
+#[derive(Clone, Copy, Debug, PartialEq, Eq)]
+pub enum Exit {
+    /// An external interrupt of a secure guest.
+    Irq,
+}
+
 /// The answer of a step.
 #[derive(Clone, Copy, Debug, PartialEq, Eq)]
 pub enum Answer {
@@ -18,10 +25,14 @@ pub enum Answer {
     Ret(Code),
     /// A vCPU runs from now on.
     Enter,
+    /// The guest leaves, and the hypervisor runs from now on.
+    Exit(Exit),
+    /// Nothing can be done at present: the page is on the move.
+    Again,
     /// The guest that the CPU ran has ended; the hypervisor runs from now on.
     Gone,
-    /// The address is none that can be accessed: it is no multiple of 8, lies in no page or frame, or no secure frame is
-    /// free to back its page.
+    /// The address is none that can be accessed: it is no multiple of 8, lies in no page or frame, its page has no frame
+    /// and isn't Invalid, or no secure frame is free to back it.
     Hole,
     /// The command is none of the CPU's context.
     Context,

@@ -12,12 +12,12 @@ pub fn reads_scripts()
     ensures { ReadsScripts }
 {}
 
-/// The text that is written for commands reads as their script.
+/// The text that is written for a script whose first command has line 10 reads as it.
 pub fn reads_what_is_written()
     ensures { ReadsWhatIsWritten }
 {}
 
-/// What is read is the script of commands that can be written.
+/// What is read is a script that can be written, and its last command's line is the last of the text.
 pub fn reads_what_can_be_written()
     ensures { ReadsWhatCanBeWritten }
 {}

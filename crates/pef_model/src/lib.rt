@@ -9,7 +9,7 @@ pub mod laws;
 pub mod state;
 pub mod step_laws;
 
-pub use command::{Cmd, Code, Reg, UV_RETURN};
+pub use command::{Cmd, Code, EXTERNAL_INTERRUPT, Reg, UV_RETURN};
 pub use config::{Config, EntropyWord, EntropyWords, Lpids};
-pub use entry::{Answer, Entry, Exposed, History, PoolSaw, Saw, Trace};
-pub use state::{Ctx, Digest32, Kind, Mover, Phase, Regs, Run, Tag, VState, Way};
+pub use entry::{Answer, Entry, Exit, Exposed, History, PoolSaw, Saw, Trace};
+pub use state::{Ctx, Digest32, Kind, Mover, Pending, Phase, Regs, Run, Tag, VState, Way};

@@ -69,6 +69,13 @@ pub struct Tag {
     pub version: u64,
 }
 
+/// What a vCPU that has left waits for.
+#[derive(Clone, Copy, Debug, PartialEq, Eq)]
+pub enum Pending {
+    /// An interrupt took it from its CPU.
+    Irq,
+}
+
 /// The state of a vCPU.
 #[derive(Clone, Copy, Debug, PartialEq, Eq)]
 pub enum VState {
@@ -78,6 +85,8 @@ pub enum VState {
     Fresh,
     /// It runs on the CPU of this number.
     Running(u8),
+    /// It has left, and UV_RETURN takes it up again, on any CPU.
+    Parked(Pending),
 }
 
 /// Which vCPU runs, and in which life of its guest.

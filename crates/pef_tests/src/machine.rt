@@ -1,10 +1,13 @@
-//! A secure guest stores 7 and loads 7, and what may not be done is refused.
+//! Secure guests store and load, leave for an interrupt and go on, and what may not be done is refused.
 
-ghost use Rattle.std.specs.Prelude.{◌≡◌, ◌<◌, IfOk};
+ghost use Rattle.std.specs.Prelude.{◌≡◌, ◌<◌, length, IfOk};
 
 use pef_core::Machine;
-use pef_model::{Answer, Cmd, Code, Config, Reg};
+use pef_model::{Answer, Cmd, Code, Config, Exit, Reg};
+use pef_seal::StreamSeal;
+use pef_top::stream_sealers;
 use std::alloc::{AllocError, Global};
+use std::process::Abort;
 use std::test::Fail;
 
 fn register(number: u8) -> Reg
@@ -17,13 +20,35 @@ fn register(number: u8) -> Reg
     }
 }
 
-/// A machine whose guest 1 is secure from the start.
-fn secure_machine(alloc: Global) -> Result<Machine, AllocError>
-    ensures { IfOk result (λ machine. machine.steps ≡ 0) }
+/// A machine with two CPUs, whose guest 1 is not secure.
+fn normal_machine(alloc: Global) -> Result<Machine<StreamSeal>, AllocError>
+    ensures { IfOk result (λ machine. length machine.cpus ≡ 2) }
 {
     let mut config = Config::with_defaults(alloc);
+    config.cpus = 2;
+    Machine::build(alloc, &config, stream_sealers(alloc, &config)?)
+}
+
+/// A machine with two CPUs, whose guest 1 is secure from the start.
+fn secure_machine(alloc: Global) -> Result<Machine<StreamSeal>, AllocError>
+    ensures { IfOk result (λ machine. length machine.cpus ≡ 2) }
+{
+    let mut config = Config::with_defaults(alloc);
+    config.cpus = 2;
     config.born.push(1)?;
-    Machine::build(alloc, &config)
+    Machine::build(alloc, &config, stream_sealers(alloc, &config)?)
+}
+
+/// Does the steps one after another, each by its CPU, and compares what it answers.
+fn run(rt: &impl Abort, machine: &mut Machine<StreamSeal>, steps: &[(u8, Cmd, Answer)])
+    requires { length machine.old.cpus ≡ 2 }
+    ensures { length machine.new.cpus ≡ 2 }
+{
+    for (cpu, cmd, answer) in steps {
+        assert!(rt; *cpu < 2);
+        assert!(rt; machine.steps() < 100);
+        assert_eq!(rt; machine.step(*cpu, cmd), *answer);
+    }
 }
 
 fn u_return() -> Cmd {
@@ -34,40 +59,40 @@ fn u_return() -> Cmd {
     }
 }
 
+fn immediate(value: u64) -> Cmd {
+    Cmd::GLi {
+        rd: register(20),
+        value,
+    }
+}
+
+fn store(gpa: u64) -> Cmd {
+    Cmd::GSt {
+        rs: register(20),
+        gpa,
+    }
+}
+
+fn load(gpa: u64) -> Cmd {
+    Cmd::GLd {
+        rd: register(6),
+        gpa,
+    }
+}
+
 #[test]
 fn stores_and_loads(rt: HostRuntime) -> Result<(), Fail> {
     let mut machine = secure_machine(rt.alloc())?;
     assert_eq!(rt; machine.free(), 16);
-    assert_eq!(rt; machine.step(0, &u_return()), Answer::Enter);
-    assert_eq!(rt;
-        machine.step(
-            0,
-            &Cmd::GLi {
-                rd: register(20),
-                value: 7
-            }
-        ),
-        Answer::Done
-    );
-    assert_eq!(rt;
-        machine.step(
-            0,
-            &Cmd::GSt {
-                rs: register(20),
-                gpa: 0
-            }
-        ),
-        Answer::Done
-    );
-    assert_eq!(rt;
-        machine.step(
-            0,
-            &Cmd::GLd {
-                rd: register(6),
-                gpa: 0
-            }
-        ),
-        Answer::Val(7)
+    run(
+        &rt,
+        &mut machine,
+        &[
+            (0, u_return(), Answer::Enter),
+            (0, immediate(7), Answer::Done),
+            (0, store(0), Answer::Done),
+            (0, load(0), Answer::Val(7)),
+        ],
     );
     assert_eq!(rt; machine.free(), 15);
     assert_eq!(rt; machine.steps(), 4);
@@ -77,113 +102,155 @@ fn stores_and_loads(rt: HostRuntime) -> Result<(), Fail> {
 #[test]
 fn refuses(rt: HostRuntime) -> Result<(), Fail> {
     let mut machine = secure_machine(rt.alloc())?;
-    assert_eq!(rt;
-        machine.step(
-            0,
-            &Cmd::GLd {
-                rd: register(6),
-                gpa: 0
-            }
-        ),
-        Answer::Context
-    );
-    assert_eq!(rt; machine.step(0, &u_return()), Answer::Enter);
-    assert_eq!(rt; machine.step(0, &u_return()), Answer::Ret(Code::UInvalid));
-    assert_eq!(rt;
-        machine.step(
-            0,
-            &Cmd::GLd {
-                rd: register(6),
-                gpa: 4
-            }
-        ),
-        Answer::Hole
-    );
-    // The guest has 16 pages of 64 KiB.
-    assert_eq!(rt;
-        machine.step(
-            0,
-            &Cmd::GLd {
-                rd: register(6),
-                gpa: 0x10_0000
-            }
-        ),
-        Answer::Hole
-    );
-    assert_eq!(rt;
-        machine.step(
-            0,
-            &Cmd::GSt {
-                rs: register(6),
-                gpa: 0x10_0000
-            }
-        ),
-        Answer::Hole
+    run(
+        &rt,
+        &mut machine,
+        &[
+            (0, load(0), Answer::Context),
+            (0, Cmd::GIrq, Answer::Context),
+            (0, u_return(), Answer::Enter),
+            (0, u_return(), Answer::Ret(Code::UInvalid)),
+            (0, load(4), Answer::Hole),
+            // The guest has 16 pages of 64 KiB.
+            (0, load(0x10_0000), Answer::Hole),
+            (0, store(0x10_0000), Answer::Hole),
+        ],
     );
     assert_eq!(rt; machine.free(), 16);
-    assert_eq!(rt; machine.steps(), 6);
+    assert_eq!(rt; machine.steps(), 7);
+    Ok(())
+}
+
+#[test]
+fn an_interrupted_guest_goes_on_where_it_was(rt: HostRuntime) -> Result<(), Fail> {
+    let mut machine = secure_machine(rt.alloc())?;
+    run(
+        &rt,
+        &mut machine,
+        &[
+            (0, u_return(), Answer::Enter),
+            (0, immediate(7), Answer::Done),
+            (0, Cmd::GIrq, Answer::Exit(Exit::Irq)),
+            // The hypervisor runs, and has its own commands and no guest's.
+            (0, store(8), Answer::Context),
+            (0, Cmd::HLd { ra: 0 }, Answer::Val(0)),
+            (0, u_return(), Answer::Enter),
+            // The guest still has the value in its register.
+            (0, store(8), Answer::Done),
+            (0, load(8), Answer::Val(7)),
+            (0, Cmd::HLd { ra: 0 }, Answer::Context),
+        ],
+    );
+    Ok(())
+}
+
+#[test]
+fn two_cpus_store_and_load_one_page_in_turn(rt: HostRuntime) -> Result<(), Fail> {
+    let mut machine = secure_machine(rt.alloc())?;
+    run(
+        &rt,
+        &mut machine,
+        &[
+            (0, u_return(), Answer::Enter),
+            (0, immediate(7), Answer::Done),
+            (0, store(0), Answer::Done),
+            (0, Cmd::GIrq, Answer::Exit(Exit::Irq)),
+            (1, u_return(), Answer::Enter),
+            (1, load(0), Answer::Val(7)),
+            (1, immediate(8), Answer::Done),
+            (1, store(8), Answer::Done),
+            (1, Cmd::GIrq, Answer::Exit(Exit::Irq)),
+            (0, u_return(), Answer::Enter),
+            (0, load(0), Answer::Val(7)),
+            (0, load(8), Answer::Val(8)),
+        ],
+    );
+    // Both CPUs reached one page.
+    assert_eq!(rt; machine.free(), 15);
+    Ok(())
+}
+
+#[test]
+fn a_cpu_takes_no_vcpu_that_runs_elsewhere(rt: HostRuntime) -> Result<(), Fail> {
+    let mut machine = secure_machine(rt.alloc())?;
+    run(
+        &rt,
+        &mut machine,
+        &[
+            (0, u_return(), Answer::Enter),
+            (1, u_return(), Answer::Ret(Code::UInvalid)),
+            // The hypervisor still runs on CPU 1, and the guest on CPU 0.
+            (1, load(0), Answer::Context),
+            (0, load(0), Answer::Val(0)),
+        ],
+    );
     Ok(())
 }
 
 #[test]
 fn keeps_a_guest_out_that_is_not_born_secure(rt: HostRuntime) -> Result<(), Fail> {
-    let config = Config::with_defaults(rt.alloc());
-    let mut machine = Machine::build(rt.alloc(), &config)?;
-    assert_eq!(rt; machine.step(0, &u_return()), Answer::Ret(Code::UInvalid));
+    let mut machine = normal_machine(rt.alloc())?;
+    run(
+        &rt,
+        &mut machine,
+        &[(0, u_return(), Answer::Ret(Code::UInvalid))],
+    );
     Ok(())
 }
 
 #[test]
 fn loads_what_the_hypervisor_stored(rt: HostRuntime) -> Result<(), Fail> {
-    let config = Config::with_defaults(rt.alloc());
-    let mut machine = Machine::build(rt.alloc(), &config)?;
+    let mut machine = normal_machine(rt.alloc())?;
     assert_eq!(rt; machine.normal(), 16);
-    let store = Cmd::HSt {
-        ra: 8,
-        value: 0x0102_0304_0506_0708,
-    };
-    assert_eq!(rt; machine.step(0, &store), Answer::Done);
-    assert_eq!(rt;
-        machine.step(0, &Cmd::HLd { ra: 8 }),
-        Answer::Val(0x0102_0304_0506_0708)
+    let value = 0x0102_0304_0506_0708;
+    run(
+        &rt,
+        &mut machine,
+        &[
+            (0, Cmd::HSt { ra: 8, value }, Answer::Done),
+            (0, Cmd::HLd { ra: 8 }, Answer::Val(value)),
+            (0, Cmd::HLd { ra: 0 }, Answer::Val(0)),
+            (0, Cmd::HLd { ra: 0xF_FFF8 }, Answer::Val(0)),
+        ],
     );
-    assert_eq!(rt; machine.step(0, &Cmd::HLd { ra: 0 }), Answer::Val(0));
-    assert_eq!(rt; machine.step(0, &Cmd::HLd { ra: 0xF_FFF8 }), Answer::Val(0));
     assert_eq!(rt; machine.steps(), 4);
     assert!(rt; machine.normal() > 15);
-    assert_eq!(rt; machine.frame(0).len(), 0x1_0000);
+    assert_eq!(rt; machine.frame(0).bytes().len(), 0x1_0000);
     assert_eq!(rt;
-        &machine.frame(0)[..24],
+        &machine.frame(0).bytes()[..24],
         [
             0, 0, 0, 0, 0, 0, 0, 0, 1, 2, 3, 4, 5, 6, 7, 8, 0, 0, 0, 0, 0, 0, 0, 0
         ]
         .as_slice()
     );
-    assert!(rt; machine.frame(1).iter().all(|byte| *byte == 0));
+    assert!(rt; machine.frame(1).bytes().iter().all(|byte| *byte == 0));
     Ok(())
 }
 
 #[test]
 fn refuses_a_real_address_with_no_place(rt: HostRuntime) -> Result<(), Fail> {
     let mut machine = secure_machine(rt.alloc())?;
-    assert_eq!(rt; machine.step(0, &Cmd::HLd { ra: 4 }), Answer::Hole);
-    assert_eq!(rt;
-        machine.step(0, &Cmd::HSt { ra: 4, value: 7 }),
-        Answer::Hole
-    );
-    // There are 16 normal frames of 64 KiB.
-    assert_eq!(rt; machine.step(0, &Cmd::HLd { ra: 0x10_0000 }), Answer::Hole);
-    let past = Cmd::HSt {
-        ra: 0x10_0000,
-        value: 7,
-    };
-    assert_eq!(rt; machine.step(0, &past), Answer::Hole);
-    assert_eq!(rt; machine.step(0, &u_return()), Answer::Enter);
-    // A guest has no such command.
-    assert_eq!(rt; machine.step(0, &Cmd::HLd { ra: 0 }), Answer::Context);
-    assert_eq!(rt;
-        machine.step(0, &Cmd::HSt { ra: 0, value: 7 }),
-        Answer::Context
+    run(
+        &rt,
+        &mut machine,
+        &[
+            (0, Cmd::HLd { ra: 4 }, Answer::Hole),
+            (0, Cmd::HSt { ra: 4, value: 7 }, Answer::Hole),
+            // There are 16 normal frames of 64 KiB.
+            (0, Cmd::HLd { ra: 0x10_0000 }, Answer::Hole),
+            (
+                0,
+                Cmd::HSt {
+                    ra: 0x10_0000,
+                    value: 7,
+                },
+                Answer::Hole,
+            ),
+            (0, u_return(), Answer::Enter),
+            // A guest has no such command.
+            (0, Cmd::HLd { ra: 0 }, Answer::Context),
+            (0, Cmd::HSt { ra: 0, value: 7 }, Answer::Context),
+        ],
     );
     assert_eq!(rt; machine.steps(), 7);
     Ok(())

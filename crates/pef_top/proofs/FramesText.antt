@@ -42,9 +42,9 @@ abbrev pub frames_after : Plan → List Event → List ℕ
 frames_after plan past = frames_below plan.normal (λ n. frame_after plan n past)
 
 -- the normal frames of a machine that fits a history have the text of those after it
-pub frames_text-fits : (plan : Plan) (machine : State) (past : List Event) → Fits plan machine past → frames_text machine.normal ≡ frames_after plan past
+pub frames_text-fits : {S : Type 0} (plan : Plan) (machine : State S) (past : List Event) → Fits plan machine past → frames_text machine.normal.frames ≡ frames_after plan past
 frames_text-fits plan machine past fits =
-    let frames : List (List ℕ) = machine.normal in
-    let shown = fits.normal in
+    let frames : List (List ℕ) = machine.normal.frames in
+    let shown = fits.normal_is in
     frames_below-alike (length frames) (frame_at frames) (λ n. frame_after plan n past) (λ i below. shown.bytes i (omega (arith, shown.count)))
     ∙ ap (λ (count : ℕ). frames_below count (λ n. frame_after plan n past)) shown.count

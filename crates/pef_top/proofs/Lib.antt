@@ -1,9 +1,9 @@
 pub mod CutParts
 pub mod Numerals
 pub mod Lines
+pub mod Scripts
 pub mod OneWord
 pub mod LineText
 pub mod FramesText
 pub mod RunText
-pub mod Reported
 pub mod Pairs

@@ -3,7 +3,9 @@ use Rattle.pef_top.specs.declared.fault.RunFault.{RunFault}
 use Rattle.pef_top.specs.declared.fault.RunFault.TheVariants as fault
 use Rattle.pef_top.specs.declared.input.InputFault.{InputFault}
 use Rattle.pef_top.specs.declared.input.InputFault.TheVariants as input
+use Rattle.pef_top.specs.declared.limits.Limit.TheVariants as limit
 use Rattle.pef_top.specs.declared.outcome.RunOutcome.{RunOutcome}
+use Rattle.pef_top.specs.Limits.{IsOver}
 use Rattle.pef_top.specs.Outcome.{plain, limit_passed}
 
 -- the outcome of a fault
@@ -12,10 +14,18 @@ outcome_of fault.Script = plain 1
 outcome_of fault.Read = plain 3
 outcome_of fault.Write = plain 4
 outcome_of fault.Memory = plain 5
-outcome_of fault.TooLong = limit_passed
+outcome_of (fault.Limit passed) = limit_passed passed
 
 -- a fault of reading as one of the run
 abbrev pub fault_of_input : InputFault → RunFault
 fault_of_input input.Read = fault.Read
-fault_of_input input.TooLong = fault.TooLong
+fault_of_input input.TooLong = fault.Limit limit.Script
 fault_of_input input.Memory = fault.Memory
+
+-- where a fault is that of a limit on memory, the bytes are more than it
+abbrev pub IsFault : RunFault → Type 0
+IsFault fault.Script = Unit {0}
+IsFault fault.Read = Unit {0}
+IsFault fault.Write = Unit {0}
+IsFault fault.Memory = Unit {0}
+IsFault (fault.Limit passed) = IsOver passed

@@ -3,7 +3,6 @@ use Rattle.std.specs.Prelude.{ℕ, List, ◌++◌, length, reverse, codes, decim
 use Rattle.std.specs.List.{flat_map}
 use Rattle.pef_model.specs.declared.command.Cmd.{Cmd}
 use Rattle.pef_model.specs.declared.entry.Answer.{Answer}
-use Rattle.pef_model.specs.Commands.{first_script}
 use Rattle.pef_model.specs.Plan.{plan_of}
 use Rattle.pef_model.specs.Report.{command_name, answer_text, entry_line, frames_below, report}
 use Rattle.pef_model.specs.Run.{run_of}
@@ -15,8 +14,8 @@ abbrev pub line_text : ℕ → ℕ → Cmd → Answer → List ℕ
 line_text line cpu cmd a = decimal line ++ (codes " " ++ (decimal cpu ++ (codes " " ++ (command_name cmd ++ (codes " " ++ (answer_text a ++ codes "\n"))))))
 
 -- the lines of the entries of a script's run, the oldest first
-abbrev pub entries_text : List Cmd → List ℕ
-entries_text cmds = flat_map entry_line (reverse (run_of (first_script cmds)))
+abbrev pub entries_text : Script → List ℕ
+entries_text script = flat_map entry_line (reverse (run_of script))
 
 -- the lines of normal frames that hold these bytes, in order
 abbrev pub frames_text : List (List ℕ) → List ℕ

@@ -1,8 +1,12 @@
 -- What a top call did, by what its devices tell.
-use Rattle.std.specs.Prelude.{◌≡◌, ◌≢◌, ℕ, ◌≤◌, ◌<◌, List, [], length, Option, Some, None}
+use Rattle.std.specs.Prelude.{◌≡◌, ◌≢◌, ℕ, ◌≤◌, List, [], length, Option, Some, None, option_map}
 use Rattle.pef_io.specs.Sink.{appended, AppendsPrefix}
-use Rattle.pef_model.specs.Script.{Script, script_of, Reads}
+use Rattle.pef_model.specs.Script.{Script, script_of}
+use Rattle.pef_top.specs.declared.limits.Limit.{Limit}
 use Rattle.pef_top.specs.declared.outcome.TheConstants.{SCRIPT_LIMIT}
+use Rattle.pef_top.specs.declared.outcome.RunOutcome.{RunOutcome}
+use Rattle.pef_top.specs.Limits.{limit_in}
+use Rattle.pef_top.specs.Outcome.{plain, limit_passed}
 use Rattle.pef_top.specs.Text.{report_text}
 
 -- the whole report of the script that a text is was written
@@ -10,9 +14,9 @@ abbrev pub WritesReport : Option Script → Option (List ℕ) → Option (List �
 WritesReport None old new = ⊥
 WritesReport (Some script) old new = new ≡ appended old (report_text script)
 
--- an input was read to its end, is a script, and its whole report was written
+-- an input that passes no limit was read to its end, is a script, and its whole report was written
 pub record Reports (text : List ℕ) (left old new : Option (List ℕ)) : Type 0 where
-  pub limit : length text ≤ SCRIPT_LIMIT
+  pub limit : limit_in text ≡ None
   pub read : left ≡ Some []
   pub report : WritesReport (script_of text) old new
 
@@ -26,10 +30,15 @@ abbrev pub BeginsReport : Option Script → Option (List ℕ) → Option (List �
 BeginsReport None old new = ⊥
 BeginsReport (Some script) old new = AppendsPrefix old new (report_text script)
 
+-- an input passes no limit, and a first part of its report was written
+pub record Begins (text : List ℕ) (old new : Option (List ℕ)) : Type 0 where
+  pub limit : limit_in text ≡ None
+  pub report : BeginsReport (script_of text) old new
+
 -- that holds of the input, where the source tells it
 abbrev pub IfBegins : Option (List ℕ) → Option (List ℕ) → Option (List ℕ) → Type 0
 IfBegins None old new = Unit {0}
-IfBegins (Some text) old new = BeginsReport (script_of text) old new
+IfBegins (Some text) old new = Begins text old new
 
 -- an input within the limit was read to its end and is no script
 pub record IsNoScript (text : List ℕ) (left : Option (List ℕ)) : Type 0 where
@@ -47,13 +56,20 @@ pub record IsUntouched (old new : Option (List ℕ)) (before now : ℕ) : Type 0
   pub bytes : new ≡ old
   pub faults : now ≡ before
 
--- the status that is due for an input, unless memory is wanting: 0 for a script, 1 for what is none, 6 past the limit
-pub record IsDue (text : List ℕ) (status : ℕ) : Type 0 where
-  pub script : (script : Script) → length text ≤ SCRIPT_LIMIT → Reads text script → status ≢ 5 → status ≡ 0
-  pub no_script : length text ≤ SCRIPT_LIMIT → script_of text ≡ None → status ≢ 5 → status ≡ 1
-  pub too_long : SCRIPT_LIMIT < length text → status ≢ 5 → status ≡ 6
+-- an input passes a limit, and it's the one that the outcome says
+abbrev pub IfPasses : Option (List ℕ) → RunOutcome → Type 0
+IfPasses None outcome = Unit {0}
+IfPasses (Some text) outcome = option_map limit_passed (limit_in text) ≡ Some outcome
+
+-- the outcome that is due for an input, unless memory is wanting or a device fails: 6 where it passes a limit, by the first, and else 0 for a script and 1 for what is none
+abbrev pub due : List ℕ → RunOutcome
+due text = of (limit_in text) (script_of text) where
+  of : Option Limit → Option Script → RunOutcome
+  of (Some passed) found = limit_passed passed
+  of None None = plain 1
+  of None (Some script) = plain 0
 
 -- that holds of the input, where the source tells it
-abbrev pub AnswersAsDue : Option (List ℕ) → ℕ → Type 0
-AnswersAsDue None status = Unit {0}
-AnswersAsDue (Some text) status = IsDue text status
+abbrev pub AnswersAsDue : Option (List ℕ) → RunOutcome → Type 0
+AnswersAsDue None outcome = Unit {0}
+AnswersAsDue (Some text) outcome = outcome.status ≢ 5 → outcome ≡ due text

@@ -4,6 +4,7 @@ ghost use Rattle.std.specs.Prelude.{◌≡◌};
 ghost use Rattle.pef_top.specs.Fault.{outcome_of, fault_of_input};
 
 use crate::input::InputFault;
+use crate::limits::Limit;
 use crate::outcome::RunOutcome;
 use pef_io::Failed;
 use std::alloc::AllocError;
@@ -19,8 +20,8 @@ pub enum RunFault {
     Write,
     /// There was no memory.
     Memory,
-    /// The input has more bytes than a script may have.
-    TooLong,
+    /// A limit is passed.
+    Limit(Limit),
 }
 
 impl RunFault {
@@ -33,7 +34,7 @@ impl RunFault {
             RunFault::Read => RunOutcome::plain(3),
             RunFault::Write => RunOutcome::plain(4),
             RunFault::Memory => RunOutcome::plain(5),
-            RunFault::TooLong => RunOutcome::too_long(),
+            RunFault::Limit(passed) => RunOutcome::limit_passed(passed),
         }
     }
 }
@@ -44,7 +45,7 @@ impl From<InputFault> for RunFault {
     fn from(fault: InputFault) -> RunFault {
         match fault {
             InputFault::Read => RunFault::Read,
-            InputFault::TooLong => RunFault::TooLong,
+            InputFault::TooLong => RunFault::Limit(Limit::Script),
             InputFault::Memory => RunFault::Memory,
         }
     }

@@ -2,6 +2,8 @@
 
 ghost use Rattle.std.specs.Prelude.{◌≡◌};
 
+use crate::limits::{Limit, MEMORY_LIMIT};
+
 /// The most bytes that a script may have. This project's own.
 pub const SCRIPT_LIMIT: usize = 16_777_216;
 
@@ -39,15 +41,20 @@ impl RunOutcome {
         }
     }
 
-    /// Limit 1 is passed: reading stopped one byte past it.
-    pub(crate) fn too_long() -> RunOutcome
-        ensures { result ≡ limit_passed }
+    /// A limit is passed: its number, what stood, and the limit. Of limit 1 stood what was read, one byte past it.
+    pub(crate) fn limit_passed(passed: Limit) -> RunOutcome
+        ensures { result ≡ limit_passed passed }
     {
+        let (line, left, right) = match passed {
+            Limit::Script => (1, SCRIPT_LIMIT as u64 + 1, SCRIPT_LIMIT as u64),
+            Limit::Frames { bytes } => (3, bytes, MEMORY_LIMIT),
+            Limit::Pages { bytes } => (4, bytes, MEMORY_LIMIT),
+        };
         RunOutcome {
             status: 6,
-            line: 1,
-            left: SCRIPT_LIMIT as u64 + 1,
-            right: SCRIPT_LIMIT as u64,
+            line,
+            left,
+            right,
         }
     }
 }

@@ -10,7 +10,7 @@ ghost use Rattle.pef_top.specs.Text.{line_text};
 
 use itoa::Buffer;
 use pef_io::{Failed, Sink, put, put_all, put_value};
-use pef_model::{Answer, Cmd, Code};
+use pef_model::{Answer, Cmd, Code, Exit};
 use sha2::{Digest, Sha256};
 
 /// A command's name in a report.
@@ -24,6 +24,7 @@ fn name_of(cmd: &Cmd) -> &'static [u8]
         Cmd::GLi { .. } => b"g.li",
         Cmd::GLd { .. } => b"g.ld",
         Cmd::GSt { .. } => b"g.st",
+        Cmd::GIrq => b"g.irq",
     }
 }
 
@@ -52,6 +53,8 @@ fn put_answer<K: Sink>(sink: &mut K, answer: &Answer) -> Result<(), Failed>
         }
         Answer::Ret(code) => put_all(sink, &[b"ret ", name_of_code(*code)]),
         Answer::Enter => put(sink, b"enter"),
+        Answer::Exit(Exit::Irq) => put(sink, b"exit irq"),
+        Answer::Again => put(sink, b"again"),
         Answer::Gone => put(sink, b"gone"),
         Answer::Hole => put(sink, b"hole"),
         Answer::Context => put(sink, b"context"),

@@ -2,15 +2,17 @@
 
 ghost use Rattle.std.specs.Prelude.{◌≡◌, ◌≢◌, ◌≤◌, ◌↔◌, [], ◌∷◌, map, codes, string_bytes, OnOk, IfErr, Err};
 ghost use Rattle.pef_io.specs.Cause.{Rose};
-ghost use Rattle.pef_top.specs.Input.{IsTooLong};
-ghost use Rattle.pef_top.specs.Outcome.{IsOutcome};
-ghost use Rattle.pef_top.specs.Top.{IfReports, IfNoScript, IfBegins, IsUntouched, AnswersAsDue};
+ghost use Rattle.pef_top.specs.declared.limits.Limit.{Limit};
+ghost use Rattle.pef_top.specs.Fault.{IsFault};
+ghost use Rattle.pef_top.specs.Outcome.{IsOutcome, limit_passed};
+ghost use Rattle.pef_top.specs.Top.{IfReports, IfNoScript, IfPasses, IfBegins, IsUntouched, AnswersAsDue};
 
 use crate::fault::RunFault;
 use crate::input::read_all;
+use crate::limits::check_limits;
 use crate::outcome::RunOutcome;
 use crate::reader::read_script;
-use crate::run::{first_machine, write_report};
+use crate::run::run_on_machine;
 use crate::words::is_run;
 use pef_io::{Sink, Source};
 use std::alloc::Global;
@@ -29,26 +31,27 @@ fn run_script<S: Source, K: Sink>(
     ensures write { result ≡ Err RunFault.Write → Rose (K.faults sink.old) (K.faults sink.new) }
     ensures begins { result ≡ Err RunFault.Write →
         IfBegins (S.left source.old) (K.written sink.old) (K.written sink.new) }
-    ensures too_long { result ≡ Err RunFault.TooLong → IsTooLong (S.left source.old) }
+    ensures limit { (passed : Limit) → result ≡ Err (RunFault.Limit passed) →
+        IfPasses (S.left source.old) (limit_passed passed) }
+    ensures over { IfErr result IsFault }
     ensures untouched { IfErr result (λ e. e ≢ RunFault.Write →
         IsUntouched (K.written sink.old) (K.written sink.new) (K.faults sink.old) (K.faults sink.new)) }
     ensures source { S.faults source.old ≤ S.faults source.new }
     ensures sink { K.faults sink.old ≤ K.faults sink.new }
 {
     let text = read_all(alloc, source)?;
-    let Some(cmds) = read_script(alloc, &text)? else {
+    let Some(script) = read_script(alloc, &text)? else {
         return Err(RunFault::Script);
     };
-    let mut machine = first_machine(alloc)?;
-    write_report(&mut machine, &cmds, sink)?;
-    Ok(())
+    check_limits(&script.config)?;
+    run_on_machine(alloc, &script, sink)
 }
 
 /// Runs the script that a source gives, and writes its report to a sink.
 ///
 /// The words are those after the program's name. Refusals come in this order: the words; a failed read or a script that is
-/// too long, as reading goes; an input that is no script; want of memory, which may come wherever memory is taken; a
-/// failed write. At a failed write a first part of the report was written, and at every other refusal nothing.
+/// too long, as reading goes; an input that is no script; limit 3, and then limit 4; want of memory, which may come wherever
+/// memory is taken; a failed write. At a failed write a first part of the report was written, and at every other refusal nothing.
 pub fn pef_run<S: Source, K: Sink>(
     alloc: Global,
     words: &[String],
@@ -64,7 +67,7 @@ pub fn pef_run<S: Source, K: Sink>(
     ensures write { result.status ≡ 4 → Rose (K.faults sink.old) (K.faults sink.new) }
     ensures begins { result.status ≡ 4 →
         IfBegins (S.left source.old) (K.written sink.old) (K.written sink.new) }
-    ensures too_long { result.status ≡ 6 → IsTooLong (S.left source.old) }
+    ensures limit { result.status ≡ 6 → IfPasses (S.left source.old) result }
 
     // These are all the statuses, and what the other fields say.
     ensures fields { IsOutcome result }
@@ -81,7 +84,7 @@ pub fn pef_run<S: Source, K: Sink>(
     ensures complete { map (λ word. string_bytes word) words.now ≡ codes "run" ∷ [] →
         ¬ (Rose (S.faults source.old) (S.faults source.new)) →
         ¬ (Rose (K.faults sink.old) (K.faults sink.new)) →
-        AnswersAsDue (S.left source.old) result.status }
+        AnswersAsDue (S.left source.old) result }
 {
     if !is_run(words) {
         return RunOutcome::plain(2);
@@ -91,3 +94,6 @@ pub fn pef_run<S: Source, K: Sink>(
         Err(fault) => fault.outcome(),
     }
 }
+
+#[cfg(test)]
+mod tests;

@@ -1,40 +1,92 @@
 use super::*;
-use pef_model::Reg;
+use pef_model::{Cmd, Reg};
 use std::test::Fail;
 
 #[test]
-fn a_text_is_read_as_its_commands(rt: HostRuntime) -> Result<(), Fail> {
+fn a_text_is_read_as_its_lines(rt: HostRuntime) -> Result<(), Fail> {
     let text =
-        b"pef 1\nborn 1\nbegin\n0 u.return 3 0x100\n0 g.li r20 0xAbCdEf\n0 g.st r31 007\n0 g.ld r0 18446744073709551615\n0 h.ld 0x10\n0 h.st 24 0xFF\n";
+        b"pef 1\ncpus 0x10\nborn 1\nbegin\n0 u.return 3 0x100\n15 g.li r20 0xAbCdEf\n0xF g.st r31 007\n00 g.ld r0 18446744073709551615\n1 h.ld 0x10\n2 h.st 24 0xFF\n3 g.irq\n";
     let wanted = [
-        Cmd::UReturn {
-            r0: 3,
-            r2: 256,
-            outs: [0; 9],
-        },
-        Cmd::GLi {
-            rd: Reg::new(20).unwrap(),
-            value: 11_259_375,
-        },
-        Cmd::GSt {
-            rs: Reg::new(31).unwrap(),
-            gpa: 7,
-        },
-        Cmd::GLd {
-            rd: Reg::new(0).unwrap(),
-            gpa: u64::MAX,
-        },
-        Cmd::HLd { ra: 16 },
-        Cmd::HSt { ra: 24, value: 255 },
+        (
+            0,
+            Cmd::UReturn {
+                r0: 3,
+                r2: 256,
+                outs: [0; 9],
+            },
+        ),
+        (
+            15,
+            Cmd::GLi {
+                rd: Reg::new(20).unwrap(),
+                value: 11_259_375,
+            },
+        ),
+        (
+            15,
+            Cmd::GSt {
+                rs: Reg::new(31).unwrap(),
+                gpa: 7,
+            },
+        ),
+        (
+            0,
+            Cmd::GLd {
+                rd: Reg::new(0).unwrap(),
+                gpa: u64::MAX,
+            },
+        ),
+        (1, Cmd::HLd { ra: 16 }),
+        (2, Cmd::HSt { ra: 24, value: 255 }),
+        (3, Cmd::GIrq),
     ];
-    let found = read_script(rt.alloc(), text)?;
-    assert!(rt; found.is_some_and(|cmds| cmds.as_slice() == wanted.as_slice()));
+    let script = read_script(rt.alloc(), text)?.expect(&rt, "a script");
+    assert!(rt; script.lines.len() == wanted.len());
+    for (i, (cpu, cmd)) in wanted.into_iter().enumerate() {
+        // The first command stands on line 5 of the text.
+        assert!(rt; script.lines[i].number as usize == 5 + i);
+        assert!(rt; script.lines[i].cpu == cpu);
+        assert!(rt; script.lines[i].cmd == cmd);
+    }
+    Ok(())
+}
+
+#[test]
+fn each_configuration_line_sets_its_value(rt: HostRuntime) -> Result<(), Fail> {
+    let text =
+        b"pef 1\nshift 9\nnormal 2\nsecure 0x3\ncpus 4\npages 5\nseal vault\nborn 1\nbegin\n";
+    let script = read_script(rt.alloc(), text)?.expect(&rt, "a script");
+    let config = &script.config;
+    assert!(rt; config.shift == 9);
+    assert!(rt; config.normal == 2);
+    assert!(rt; config.secure == 3);
+    assert!(rt; config.cpus == 4);
+    assert!(rt; config.pages == 5);
+    assert!(rt; config.vault);
+    assert!(rt; config.guests == 1);
+    assert!(rt; config.vcpus == 1);
+    assert!(rt; config.born.as_slice() == [1u16].as_slice());
+    assert!(rt; script.lines.is_empty());
+    Ok(())
+}
+
+#[test]
+fn what_no_line_says_is_the_default(rt: HostRuntime) -> Result<(), Fail> {
+    let text = b"pef 1\nseal stream\nborn 1\nbegin\n";
+    let script = read_script(rt.alloc(), text)?.expect(&rt, "a script");
+    let config = &script.config;
+    assert!(rt; config.shift == 16);
+    assert!(rt; config.normal == 16);
+    assert!(rt; config.secure == 16);
+    assert!(rt; config.cpus == 1);
+    assert!(rt; config.pages == 16);
+    assert!(rt; !config.vault);
     Ok(())
 }
 
 #[test]
 fn a_faulty_text_is_not_read(rt: HostRuntime) -> Result<(), Fail> {
-    let faulty: [&[u8]; 14] = [
+    let faulty: [&[u8]; 28] = [
         b"",
         b"pef 1\nborn 1\n0 g.li r1 7\n",
         b"pef 1\nborn 1\nbegin\n\n",
@@ -48,10 +100,24 @@ fn a_faulty_text_is_not_read(rt: HostRuntime) -> Result<(), Fail> {
         b"pef 1\nborn 1\nbegin\n0 h.ld\n",
         b"pef 1\nborn 1\nbegin\n0 h.ld 8 8\n",
         b"pef 1\nborn 1\nbegin\n1 h.ld 8\n",
+        b"pef 1\nborn 1\nbegin\n0 g.irq 0\n",
+        b"pef 1\nborn 1\nbegin\n0 g.irq \n",
         b"pef 1\nborn 1\nbegin\n0 h.st 8\n",
+        b"pef 1\ncpus 2\nborn 1\nbegin\n2 h.ld 8\n",
+        b"pef 1\nshift 7\nborn 1\nbegin\n",
+        b"pef 1\nshift 17\nborn 1\nbegin\n",
+        b"pef 1\nnormal 0\nborn 1\nbegin\n",
+        b"pef 1\nsecure 1025\nborn 1\nbegin\n",
+        b"pef 1\ncpus 17\nborn 1\nbegin\n",
+        b"pef 1\npages 4294967297\nborn 1\nbegin\n",
+        b"pef 1\nseal wax\nborn 1\nbegin\n",
+        b"pef 1\npages 4\npages 4\nborn 1\nbegin\n",
+        b"pef 1\npages 4\ncpus 2\nborn 1\nbegin\n",
+        b"pef 1\nborn 1\npages 4\nbegin\n",
+        b"pef 1\nshift 8\nbegin\n",
     ];
     for text in faulty {
-        assert!(rt; read_script(rt.alloc(), text)?.is_none());
+        assert!(rt; text.len() <= SCRIPT_LIMIT && read_script(rt.alloc(), text)?.is_none());
     }
     Ok(())
 }

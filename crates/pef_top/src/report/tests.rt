@@ -14,3 +14,24 @@ fn a_frame_has_a_line_unless_it_is_zero(rt: HostRuntime) -> Result<(), Fail> {
     assert!(rt; sink.bytes() == wanted.as_slice());
     Ok(())
 }
+
+#[test]
+fn each_answer_has_its_words(rt: HostRuntime) -> Result<(), Fail> {
+    for (answer, line) in [
+        (Answer::Done, "12 3 g.irq done\n"),
+        (Answer::Val(0xfff8), "12 3 g.irq val 0xfff8\n"),
+        (Answer::Ret(Code::UInvalid), "12 3 g.irq ret U_INVALID\n"),
+        (Answer::Enter, "12 3 g.irq enter\n"),
+        (Answer::Exit(Exit::Irq), "12 3 g.irq exit irq\n"),
+        (Answer::Again, "12 3 g.irq again\n"),
+        (Answer::Gone, "12 3 g.irq gone\n"),
+        (Answer::Hole, "12 3 g.irq hole\n"),
+        (Answer::Context, "12 3 g.irq context\n"),
+        (Answer::Nothing, "12 3 g.irq nothing\n"),
+    ] {
+        let mut sink = MemSink::build(rt.alloc(), 100, Vec::new(rt.alloc()))?;
+        assert!(rt; put_entry(&mut sink, 12, 3, &Cmd::GIrq, &answer).is_ok());
+        assert!(rt; sink.bytes() == line.as_bytes());
+    }
+    Ok(())
+}

@@ -9,14 +9,14 @@ use Rattle.pef_top.proofs.run.put_frames.Goals as goal
 -- the lines of the frames below this one, and a prefix of this one's
 pub returns-in_err-put_frame-clause-prefix : goal.returns-in_err-put_frame-clause-prefix
 returns-in_err-put_frame-clause-prefix g c =
-    let frames : List (List ℕ) = c.args.machine.now.normal in
+    let frames : List (List ℕ) = c.args.machine.now.normal.frames in
     let n : ℕ = c.loop-number.number in
     let within : n < length frames = omega (arith, c.normal-number-end.ensures, c.loop-number-test.true) in
     let split = frames_below-split (length frames) n (frame_at frames) within in
     let old = g.K.Sink.written c.args.sink.now in
     let middle = g.K.Sink.written c.loop-number.sink in
     let new = g.K.Sink.written c.put_frame.new.sink in
-    let part : AppendsPrefix middle new (frame_line n (frame_at frames n)) = rw (← c.frame.ensures) c.in_err-put_frame.ensures.prefix in
+    let part : AppendsPrefix middle new (frame_line n (frame_at frames n)) = rw (← c.frame.ensures, ← c.bytes.ensures) c.in_err-put_frame.ensures.prefix in
     on_err_holds c.from_residual.result
     (rw split.1
     (AppendsPrefix-after old middle new (frames_below n (frame_at frames)) (frame_line n (frame_at frames n) ++ split.0) c.loop-number.invariant.written

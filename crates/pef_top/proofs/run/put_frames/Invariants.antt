@@ -7,6 +7,6 @@ use Rattle.pef_top.proofs.run.put_frames.Given as goal
 -- the lines of the frames below this one were written
 abbrev pub invariant-loop-number : goal.invariant-loop-number
 invariant-loop-number g l = record {
-  written : g.K.Sink.written l.sink ≡ appended (g.K.Sink.written l.fn.sink) (frames_below l.number (frame_at l.machine.normal));
+  written : g.K.Sink.written l.sink ≡ appended (g.K.Sink.written l.fn.sink) (frames_below l.number (frame_at l.machine.normal.frames));
   never_falls : g.K.Sink.faults l.fn.sink ≤ g.K.Sink.faults l.sink;
 }

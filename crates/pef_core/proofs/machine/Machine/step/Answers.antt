@@ -1,29 +1,60 @@
--- what the call at the guest or at the CPU did makes the step, since the machine's other parts stay
-use Rattle.std.proofs.Common.{◌≡◌, ◌+◌, true, ◌⊎◌, inl, inr, refl, subst, sym, ◌∙◌}
-use Rattle.pef_model.proofs.Folds.{test_same}
+use Rattle.std.proofs.Common.{rules, ◌≡◌, ◌+◌, ◌<◌, length, sym, ap, subst, ◌∙◌}
+use Rattle.std.specs.Prelude.{slice_get}
+use Rattle.pef_model.specs.declared.state.Ctx.TheVariants as ctx
 use Rattle.pef_core.specs.State.{State}
-use Rattle.pef_core.specs.Rows.{has_real_address}
 use Rattle.pef_core.specs.Steps.{Continues}
-use Rattle.pef_core.proofs.StepLemmas.{hypervisor_steps, running_steps}
-use Rattle.pef_core.proofs.machine.Machine.step.Goals.{then-has_real_address, else-has_real_address}
+use Rattle.pef_core.specs.Refused.{LeavesRest}
+use Rattle.pef_core.proofs.Leaving.{steps_aside}
+use Rattle.pef_core.proofs.WholeAfter.{one_step_more}
+use Rattle.pef_core.proofs.Places.{has_context}
 use Rattle.pef_core.proofs.machine.Machine.step.Goals as goal
 
-pub returns-in-Hv-clause-step : goal.returns-in-Hv-clause-step
-returns-in-Hv-clause-step c =
-    let m = c.self.inside in
-    let old : State = record { cpu = m.cpu; guest = m.guest; shift = m.normal.shift; normal = m.normal.frames; free = m.free; steps = m.steps } in
-    let new : State = record { cpu = c.command.new.cpu; guest = c.command.new.guest; shift = c.command.new.normal.shift; normal = c.command.new.normal.frames; free = m.free; steps = m.steps + 1 } in
-    subst (λ (s : State). Continues s new c.args.cpu c.args.cmd.now c.command.result) c.self.view_is
-    (hypervisor_steps old new c.args.cpu c.args.cmd.now c.command.result c.requires.cpu
-    (record { ctx = c.in-Hv.is; lpid = c.self.invariant.lpid; vid = c.self.invariant.vid }) refl c.command.ensures.row)
+-- one step more is counted
+pub invariant_of-self : goal.invariant_of-self
+invariant_of-self g c = one_step_more g.S.Seal.takes (record { cpus = c.self.inside.cpus.items; guests = c.self.inside.guests.items; pool = c.self.inside.pool; normal = c.self.inside.normal; steps = c.self.inside.steps }) c.self.invariant
 
-pub returns-then-run-self-clause-step : goal.returns-then-run-self-clause-step
-returns-then-run-self-clause-step c =
-    let m = c.self.inside in
-    let did = c.command-then-run-self in
-    let old : State = record { cpu = m.cpu; guest = m.guest; shift = m.normal.shift; normal = m.normal.frames; free = m.free; steps = m.steps } in
-    let new : State = record { cpu = m.cpu; guest = did.new.self; shift = m.normal.shift; normal = m.normal.frames; free = did.new.free; steps = m.steps + 1 } in
-    let current : (has_real_address c.args.cmd.now ≡ true) ⊎ (c.in-Guest.run'.generation ≡ m.guest.generation) =
-    elim c.if-has_real_address.branch [ then-has_real_address w ↦ inl (sym c.has_real_address.ensures ∙ w.if-has_real_address.true) | else-has_real_address w ↦ inr (test_same c.in-Guest.run'.generation m.guest.generation (sym w.value-is ∙ c.if-run-self.true)) ] in
-    subst (λ (s : State). Continues s new c.args.cpu c.args.cmd.now did.result) c.self.view_is
-    (running_steps old new c.args.cpu c.in-Guest.run' c.args.cmd.now did.result c.requires.cpu c.self.invariant c.in-Guest.is current refl refl did.ensures.row)
+pub invariant_of-self-in-Guest : goal.invariant_of-self-in-Guest
+invariant_of-self-in-Guest g c = one_step_more g.S.Seal.takes (record { cpus = c.self.inside.cpus.items; guests = c.self.inside.guests.items; pool = c.self.inside.pool; normal = c.self.inside.normal; steps = c.self.inside.steps }) c.self.invariant
+
+pub step_hypervisor-requires-clause-hypervisor : goal.step_hypervisor-requires-clause-hypervisor
+step_hypervisor-requires-clause-hypervisor g c =
+    has_context c.self.inside.cpus.items c.args.cpu c.index.result.now ctx.Hv (subst (λ m. c.args.cpu < length m.cpus) (sym c.self.view_is) c.requires.cpu) (search rules) c.in-Hv.is
+
+pub step_running-requires-clause-runs : goal.step_running-requires-clause-runs
+step_running-requires-clause-runs g c =
+    has_context c.self.inside.cpus.items c.args.cpu c.index.result.now (ctx.Guest c.in-Guest.run') (subst (λ m. c.args.cpu < length m.cpus) (sym c.self.view_is) c.requires.cpu) (search rules) c.in-Guest.is
+
+-- the steps that are counted don't matter to a history
+pub returns-in-Hv-clause-step : goal.returns-in-Hv-clause-step
+returns-in-Hv-clause-step g c =
+    subst (λ m. Continues m c.step_hypervisor.new.self c.args.cpu c.args.cmd.now c.step_hypervisor.result) c.self.view_is
+    (λ plan past line place stamp fits.
+    c.step_hypervisor.ensures.step plan past line place stamp
+    (record { cpu_count = fits.cpu_count; guest_count = fits.guest_count; cpus = fits.cpus; guests = fits.guests; normal_is = fits.normal_is; free = fits.free }))
+
+pub returns-in-Guest-clause-step : goal.returns-in-Guest-clause-step
+returns-in-Guest-clause-step g c =
+    subst (λ m. Continues m c.step_running.new.self c.args.cpu c.args.cmd.now c.step_running.result) c.self.view_is
+    (λ plan past line place stamp fits.
+    c.step_running.ensures.step plan past line place stamp
+    (record { cpu_count = fits.cpu_count; guest_count = fits.guest_count; cpus = fits.cpus; guests = fits.guests; normal_is = fits.normal_is; free = fits.free }))
+
+-- the context that was read is the CPU's
+pub returns-in-Hv-clause-refused : goal.returns-in-Hv-clause-refused
+returns-in-Hv-clause-refused g c own there =
+    let has = has_context c.self.inside.cpus.items c.args.cpu c.index.result.now ctx.Hv (subst (λ m. c.args.cpu < length m.cpus) (sym c.self.view_is) c.requires.cpu) (search rules) c.in-Hv.is in
+    let context : own.ctx ≡ ctx.Hv = has.is own (ap (λ m. slice_get m.cpus c.args.cpu) c.self.view_is ∙ there) in
+    let old : State _ = record { cpus = c.self.inside.cpus.items; guests = c.self.inside.guests.items; pool = c.self.inside.pool; normal = c.self.inside.normal; steps = c.self.inside.steps } in
+    subst (λ x. LeavesRest c.args.cpu x c.args.self.now c.step_hypervisor.new.self c.step_hypervisor.result) (sym context)
+    (subst (λ m. LeavesRest c.args.cpu ctx.Hv m c.step_hypervisor.new.self c.step_hypervisor.result) c.self.view_is
+    (steps_aside c.args.cpu ctx.Hv old c.step_hypervisor.new.self (c.self.inside.steps + 1) c.step_hypervisor.result c.step_hypervisor.ensures.refused))
+
+pub returns-in-Guest-clause-refused : goal.returns-in-Guest-clause-refused
+returns-in-Guest-clause-refused g c own there =
+    let run = c.in-Guest.run' in
+    let has = has_context c.self.inside.cpus.items c.args.cpu c.index.result.now (ctx.Guest run) (subst (λ m. c.args.cpu < length m.cpus) (sym c.self.view_is) c.requires.cpu) (search rules) c.in-Guest.is in
+    let context : own.ctx ≡ ctx.Guest run = has.is own (ap (λ m. slice_get m.cpus c.args.cpu) c.self.view_is ∙ there) in
+    let old : State _ = record { cpus = c.self.inside.cpus.items; guests = c.self.inside.guests.items; pool = c.self.inside.pool; normal = c.self.inside.normal; steps = c.self.inside.steps } in
+    subst (λ x. LeavesRest c.args.cpu x c.args.self.now c.step_running.new.self c.step_running.result) (sym context)
+    (subst (λ m. LeavesRest c.args.cpu (ctx.Guest run) m c.step_running.new.self c.step_running.result) c.self.view_is
+    (steps_aside c.args.cpu (ctx.Guest run) old c.step_running.new.self (c.self.inside.steps + 1) c.step_running.result c.step_running.ensures.refused))

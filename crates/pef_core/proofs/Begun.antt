@@ -1,0 +1,162 @@
+-- The machine as it begins is whole, and has no history behind it.
+use Rattle.std.proofs.Common.{◌≡◌, ℕ, zero, suc, ◌+◌, ◌^◌, ◌<◌, ◌==◌, nat_lt, Bool, true, false, if◌then◌else◌, List, [], ◌∷◌, ◌++◌, length, replicate, Option, None, refl, ap, sym, subst, ◌∙◌, arith, append-nil}
+use Rattle.std.specs.Prelude.{slice_index_or}
+use Rattle.std.specs.List.{count_by, flat_map}
+use Rattle.std.proofs.lemmas.List.{length-replicate, get_or-replicate}
+use Rattle.pef_model.specs.declared.config.Config.{Config}
+use Rattle.pef_model.specs.declared.state.Kind.TheVariants as kind
+use Rattle.pef_model.specs.declared.state.Mover.{Mover}
+use Rattle.pef_model.specs.declared.state.VState.TheVariants.{Idle}
+use Rattle.pef_model.specs.Plan.{Plan, plan_of, IsInRange}
+use Rattle.pef_model.specs.Registers.{fresh_registers}
+use Rattle.pef_model.specs.GuestPart.{start_part_of}
+use Rattle.pef_model.specs.Guest.{start_guest}
+use Rattle.pef_frames.specs.Frame.{FrameState, numbers_of}
+use Rattle.pef_frames.specs.Pool.{PoolState, full_pool}
+use Rattle.pef_frames.proofs.Counts.{starts_with_each_once}
+use Rattle.std.proofs.lemmas.List.FromFn.{length-range_with_len}
+use Rattle.pef_pages.specs.declared.page.Page.{Page}
+use Rattle.pef_pages.specs.Cells.{kind_of, mover_of}
+use Rattle.pef_pages.specs.Pages.{invalid_page, invalid_pages, page_at, held}
+use Rattle.pef_guest.specs.declared.cpu.Cpu.{Cpu}
+use Rattle.pef_guest.specs.declared.vcpu.Vcpu.{Vcpu}
+use Rattle.pef_guest.specs.declared.guest.Guest.{Guest}
+use Rattle.pef_guest.specs.Start.{IsStartCpu, IsStartGuest, start_vcpu, start_state, start_phase}
+use Rattle.pef_guest.specs.Shows.{ShowsPages, ShowsVcpu, Shows, vcpu_at}
+use Rattle.pef_core.specs.Normal.{NormalState, ShowsNormal, zero_frames}
+use Rattle.pef_core.specs.Start.{AreStartCpus, AreStartGuests, Begins}
+use Rattle.pef_core.specs.State.{State, Each, IsCpuOf, IsGuestOf, IsVcpu, HasVcpu, RunsVcpu, FramesOnce, IsWholeMachine}
+use Rattle.pef_core.specs.Steps.{Fits}
+use Rattle.pef_core.proofs.Lists.{each_map, element_at}
+
+-- each page of a guest is Invalid, whatever its number
+page_begun : (count gfn : ℕ) → page_at {F = FrameState} (invalid_pages count) gfn ≡ invalid_page
+page_begun zero gfn = refl
+page_begun (suc count) zero = refl
+page_begun (suc count) (suc gfn) = page_begun count gfn
+
+-- no page has a frame
+none_held : (count : ℕ) → held {F = FrameState} (invalid_pages count) ≡ []
+none_held zero = refl
+none_held (suc count) = none_held count
+
+shows_pages : (plan : Plan) (b : Bool) → ShowsPages plan (invalid_pages plan.pages) (record { part = start_part_of b; content = λ gpa. 0; registers = λ vid. fresh_registers })
+shows_pages plan b = record {
+  count = length-replicate plan.pages invalid_page;
+  kinds = λ gfn below. ap (λ (page : Page FrameState). kind_of page.cell) (page_begun plan.pages gfn) ∙ kinds b gfn;
+  movers = λ gfn below. ap (λ (page : Page FrameState). mover_of page.cell) (page_begun plan.pages gfn) ∙ movers b gfn;
+  order = order b;
+  holds = λ gfn frame secure there. let none = sym (ap (λ (page : Page FrameState). kind_of page.cell) (page_begun plan.pages gfn)) ∙ secure in cc;
+} where
+  kinds : (b : Bool) (gfn : ℕ) → kind.Invalid ≡ ((start_part_of b).pages gfn).kind
+  kinds true gfn = refl
+  kinds false gfn = refl
+
+  movers : (b : Bool) (gfn : ℕ) → (let none : Option Mover = None in none) ≡ ((start_part_of b).pages gfn).mover
+  movers true gfn = refl
+  movers false gfn = refl
+
+  order : (b : Bool) → [] ≡ (start_part_of b).order
+  order true = refl
+  order false = refl
+
+-- a guest as it begins shows the one of the model
+module _ {S : Type 0} (config : Config) (lpid : ℕ) (guest : Guest S) (start : IsStartGuest config lpid guest.sealer guest) where
+  vcpu_begun : (vid : ℕ) → vid < config.vcpus → vcpu_at guest vid ≡ start_vcpu (start_state ((plan_of config).is_born lpid))
+  vcpu_begun vid below =
+      ap (λ (vcpus : List Vcpu). slice_index_or vcpus vid (start_vcpu Idle)) start.vcpus ∙ get_or-replicate config.vcpus vid (start_vcpu (start_state ((plan_of config).is_born lpid))) (start_vcpu Idle) below
+
+  phase : (b : Bool) → start_phase b ≡ (start_part_of b).phase
+  phase true = refl
+  phase false = refl
+
+  generation : (b : Bool) → 1 ≡ (start_part_of b).generation
+  generation true = refl
+  generation false = refl
+
+  shows_vcpu : (b : Bool) (vid : ℕ) → ShowsVcpu (start_vcpu (start_state b)) ((start_part_of b).vcpus vid) fresh_registers
+  shows_vcpu true vid = record { state = refl; generation = refl; registers = refl }
+  shows_vcpu false vid = record { state = refl; generation = refl; registers = refl }
+
+  pub shows_guest : Shows (plan_of config) guest (start_guest (plan_of config) lpid)
+  shows_guest = record {
+    shift = start.shift;
+    phase = start.phase ∙ phase ((plan_of config).is_born lpid);
+    generation = start.generation ∙ generation ((plan_of config).is_born lpid);
+    pages = subst (λ pages. ShowsPages (plan_of config) pages (start_guest (plan_of config) lpid)) (sym start.pages) (shows_pages (plan_of config) ((plan_of config).is_born lpid));
+    count = ap length start.vcpus ∙ length-replicate config.vcpus (start_vcpu (start_state ((plan_of config).is_born lpid)));
+    vcpus = λ vid below.
+        subst (λ vcpu. ShowsVcpu vcpu ((start_part_of ((plan_of config).is_born lpid)).vcpus vid) fresh_registers) (sym (vcpu_begun vid below)) (shows_vcpu ((plan_of config).is_born lpid) vid);
+  }
+
+module _ {S : Type 0} (takes : S → ℕ → ℕ → Type 0) (config : Config) (range : IsInRange config) (cpus : List Cpu) (guests : List (Guest S)) (pool : PoolState) (normal : NormalState)
+    (cpus_are : AreStartCpus config cpus) (guests_are : AreStartGuests takes config guests) (pool_is : pool ≡ full_pool config.secure (2 ^ config.shift))
+    (normal_is : normal ≡ zero_frames config.shift config.normal) where
+  -- there is a guest 1 with a vCPU 0
+  first_vcpu : IsVcpu guests 1 0
+  first_vcpu =
+      let some : 0 < length guests = (let count = guests_are.count in let least = range.guests.0 in omega arith) in
+      let one = element_at guests 0 some in
+      let begins : Begins takes config 1 one.0 = guests_are.each 0 one.0 one.1 in
+      let vcpus : length one.0.vcpus.items ≡ config.vcpus = ap length begins.start.vcpus ∙ length-replicate config.vcpus _ in
+      record { least = omega arith; has = subst (λ o. HasVcpu o 0) (sym one.1) (let least = range.vcpus.0 in omega arith) }
+
+  cpu_begun : (n : ℕ) (cpu : Cpu) → IsStartCpu n (2 ^ config.shift) cpu → IsCpuOf guests config.shift n cpu
+  cpu_begun n cpu start = record {
+    number = start.number_is;
+    selects = subst (λ l. IsVcpu guests l cpu.vid) (sym start.lpid) (subst (λ v. IsVcpu guests 1 v) (sym start.vid) first_vcpu);
+    runs = subst (λ c. RunsVcpu guests c) (sym start.ctx) tt;
+    hand = ap length start.hand ∙ length-replicate (2 ^ config.shift) 0;
+  }
+
+  no_numbers : (gs : List (Guest S)) (lpid : ℕ) → Each (λ i guest. Begins takes config (lpid + i) guest) gs → flat_map (λ guest. numbers_of (held guest.pages)) gs ≡ []
+  no_numbers [] lpid each = refl
+  no_numbers (guest ∷ gs) lpid each =
+      let none : numbers_of (held guest.pages) ≡ [] = ap (λ pages. numbers_of (held pages)) (each 0 guest refl).start.pages ∙ ap numbers_of (none_held config.pages) in
+      ap (λ (ns : List ℕ). ns ++ flat_map (λ x. numbers_of (held x.pages)) gs) none
+      ∙ no_numbers gs (lpid + 1) (λ i x there. subst (λ l. Begins takes config l x) (let same : lpid + suc i ≡ lpid + 1 + i = omega arith in same) (each (suc i) x there))
+
+  once_begun : FramesOnce (let m : State S = record { cpus = cpus; guests = guests; pool = pool; normal = normal; steps = 0 } in m)
+  once_begun number =
+      let none : flat_map (λ guest. numbers_of (held guest.pages)) guests ≡ [] =
+      no_numbers guests 1 (λ i x there. subst (λ l. Begins takes config l x) (let same : i + 1 ≡ 1 + i = omega arith in same) (guests_are.each i x there)) in
+      ap (λ (ns : List ℕ). count_by (λ n. n == number) (pool.free ++ ns)) none
+      ∙ ap (count_by (λ n. n == number)) (append-nil pool.free)
+      ∙ ap (λ (p : PoolState). count_by (λ n. n == number) p.free) pool_is
+      ∙ starts_with_each_once config.secure (2 ^ config.shift) number
+      ∙ ap (λ (p : PoolState). if nat_lt number p.count then 1 else 0) (sym pool_is)
+
+  pub whole_begun : IsWholeMachine takes (record { cpus = cpus; guests = guests; pool = pool; normal = normal; steps = 0 })
+  whole_begun = record {
+    cpus = each_map (λ n cpu. IsStartCpu n (2 ^ config.shift) cpu) (IsCpuOf guests normal.shift) cpus cpus_are.each
+        (λ n cpu start. subst (λ shift. IsCpuOf guests shift n cpu) (ap (λ (x : NormalState). x.shift) (sym normal_is)) (cpu_begun n cpu start));
+    guests = each_map (λ i guest. Begins takes config (i + 1) guest) (IsGuestOf takes (record { cpus = cpus; guests = guests; pool = pool; normal = normal; steps = 0 })) guests guests_are.each
+        (λ i guest begins. record {
+          whole = begins.whole;
+          lpid = begins.start.lpid_is;
+          shift = begins.start.shift ∙ ap (λ (x : NormalState). x.shift) (sym normal_is);
+          secure = begins.start.secure ∙ ap (λ (x : PoolState). x.count) (sym pool_is);
+          steps = (let none = begins.start.steps in omega arith);
+        });
+    size = ap (λ (x : PoolState). x.size) pool_is ∙ ap (λ (x : NormalState). 2 ^ x.shift) (sym normal_is);
+    frames_once = once_begun;
+  }
+
+  pub fits_begun : Fits (plan_of config) (let m : State S = record { cpus = cpus; guests = guests; pool = pool; normal = normal; steps = 0 } in m) []
+  fits_begun = record {
+    cpu_count = cpus_are.count;
+    guest_count = guests_are.count;
+    cpus = λ n cpu there.
+        let start = cpus_are.each n cpu there in
+        record { ctx = start.ctx; own = start.gpr; lpid = start.lpid; vid = start.vid; last = start.last; hand = start.hand };
+    guests = λ i guest there. shows_guest config (i + 1) guest (guests_are.each i guest there).start;
+    normal_is = subst (λ x. ShowsNormal (plan_of config) x (λ n. replicate (2 ^ config.shift) 0)) (sym normal_is) (record {
+      shift = refl;
+      count = length-replicate config.normal (replicate (2 ^ config.shift) 0);
+      bytes = λ n below. get_or-replicate config.normal n (replicate (2 ^ config.shift) 0) [] below;
+    });
+    free = ap (λ (x : PoolState). length x.free) pool_is ∙ length-range_with_len 0 config.secure;
+  }
+
+  pub once_at_start : FramesOnce (let m : State S = record { cpus = cpus; guests = guests; pool = pool; normal = normal; steps = 0 } in m)
+  once_at_start = once_begun

@@ -1,0 +1,87 @@
+-- A guest after an access: it is whole, and keeps its sizes.
+use Rattle.std.proofs.Common.{◌≡◌, ℕ, ◌+◌, ◌^◌, ◌<◌, true, length, arith, refl, subst}
+use Rattle.std.proofs.lemmas.List.{length-set}
+use Rattle.std.specs.Vec.{with_item}
+use Rattle.pef_model.specs.declared.state.Phase.{Phase}
+use Rattle.pef_model.specs.declared.state.Phase.TheVariants as phase
+use Rattle.pef_model.specs.Deed.{may_return_in}
+use Rattle.pef_frames.specs.Frame.{FrameState}
+use Rattle.pef_pages.specs.Pages.{PagesState}
+use Rattle.pef_guest.specs.declared.vcpu.Vcpu.{Vcpu}
+use Rattle.pef_guest.specs.declared.guest.Guest.{Guest}
+use Rattle.pef_guest.specs.Whole.{IsOutside, IsWhole}
+use Rattle.pef_model.specs.declared.state.Run.{Run}
+use Rattle.pef_model.specs.declared.entry.Answer.TheVariants.{Val, Done}
+use Rattle.pef_model.specs.Deed.{Reach, NoPage, InFrame, Backs, NoFrame, Moves}
+use Rattle.pef_guest.specs.declared.cpu.Cpu.{Cpu}
+use Rattle.pef_core.specs.Rows.{KeepsGuest, StaysOrLeaves, access_answer}
+use Rattle.pef_core.proofs.AccessPages.{AreWholePages}
+
+-- a guest a step later, with other pages and another vCPU of a number
+abbrev pub with_step : {S : Type 0} → Guest S → PagesState FrameState → ℕ → Vcpu → Guest S
+with_step old pages vid vcpu = record {
+  lpid = old.lpid;
+  shift = old.shift;
+  secure = old.secure;
+  phase = old.phase;
+  generation = old.generation;
+  pages = pages;
+  vcpus = with_item old.vcpus vid vcpu;
+  sealer = old.sealer;
+  steps = old.steps + 1;
+}
+
+-- a guest whose vCPU runs is in no phase in which every page is Invalid
+runs_inside : (p : Phase) → may_return_in p ≡ true → IsOutside p → ⊥
+runs_inside phase.Absent may outside = cc
+runs_inside phase.Normal may outside = cc
+runs_inside phase.Starting may outside = outside
+runs_inside phase.Secure may outside = outside
+runs_inside phase.Aborting may outside = outside
+
+module _ {S : Type 0} (takes : S → ℕ → ℕ → Type 0) (old : Guest S) where
+  -- the pages of a whole guest, a step later
+  pub pages_of_whole : IsWhole takes old → AreWholePages (2 ^ old.shift) old.secure (old.steps + 1) (old.phase ≡ phase.Secure) old.pages
+  pages_of_whole whole = record {
+    each = λ gfn. record { frames = whole.frames gfn; rests = λ inside. whole.rests inside gfn; version = (let few = whole.versions gfn in omega arith) };
+  }
+
+  -- a guest whose pages are those of a whole one is whole
+  pub whole_of_pages : (pages : PagesState FrameState) (vid : ℕ) (vcpu : Vcpu) → IsWhole takes old → may_return_in old.phase ≡ true → length pages.pages ≡ length old.pages.pages →
+      AreWholePages (2 ^ old.shift) old.secure (old.steps + 1) (old.phase ≡ phase.Secure) pages → IsWhole takes (with_step old pages vid vcpu)
+  whole_of_pages pages vid vcpu whole may as_many are = record {
+    shift = whole.shift;
+    served = λ gfn below. whole.served gfn (subst (λ (n : ℕ). gfn < n) as_many below);
+    frames = λ gfn. (are.each gfn).frames;
+    outside = λ outside. absurd (runs_inside old.phase may outside);
+    rests = λ inside gfn. (are.each gfn).rests inside;
+    versions = λ gfn. (are.each gfn).version;
+  }
+
+-- what such a step keeps
+pub keeps_guest : {S : Type 0} (old : Guest S) (pages : PagesState FrameState) (vid : ℕ) (vcpu : Vcpu) → length pages.pages ≡ length old.pages.pages → KeepsGuest old (with_step old pages vid vcpu)
+keeps_guest old pages vid vcpu as_many = record {
+  lpid = refl;
+  shift = refl;
+  secure = refl;
+  phase = refl;
+  generation = refl;
+  pages = as_many;
+  vcpus = length-set old.vcpus.items vid vcpu;
+  steps = refl;
+}
+
+-- a load or store leaves its CPU, whatever it meets
+pub load_stays : (run : Run) (cpu : Cpu) (value : ℕ) (r : Reach) → StaysOrLeaves run cpu cpu (access_answer (Val value) r)
+load_stays run cpu value InFrame = refl
+load_stays run cpu value Backs = refl
+load_stays run cpu value NoPage = refl
+load_stays run cpu value NoFrame = refl
+load_stays run cpu value Moves = refl
+
+pub store_stays : (run : Run) (cpu : Cpu) (r : Reach) → StaysOrLeaves run cpu cpu (access_answer Done r)
+store_stays run cpu InFrame = refl
+store_stays run cpu Backs = refl
+store_stays run cpu NoPage = refl
+store_stays run cpu NoFrame = refl
+store_stays run cpu Moves = refl

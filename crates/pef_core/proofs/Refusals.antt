@@ -1,0 +1,56 @@
+-- What a guest's refused command leaves.
+use Rattle.std.proofs.Common.{◌≡◌, ℕ, ◌<◌, length, refl, ap, sym, subst, ◌∙◌, get_or}
+use Rattle.std.specs.Prelude.{slice_index_or, slice_set}
+use Rattle.std.proofs.lemmas.List.{get_or-set_same, get_or-set_other, get_or_default, set-get_or}
+use Rattle.pef_model.specs.declared.command.Code.{Code}
+use Rattle.pef_model.specs.declared.state.Regs.{Regs}
+use Rattle.pef_model.specs.declared.state.VState.TheVariants.{Idle}
+use Rattle.pef_model.specs.declared.entry.Answer.TheVariants.{Val, Done}
+use Rattle.pef_model.specs.Deed.{Reach, NoPage, InFrame, Backs, NoFrame, Moves}
+use Rattle.pef_frames.specs.Pool.{PoolState}
+use Rattle.pef_num.specs.declared.place.Place.{Place}
+use Rattle.pef_guest.specs.declared.vcpu.Vcpu.{Vcpu}
+use Rattle.pef_guest.specs.declared.guest.Guest.{Guest}
+use Rattle.pef_guest.specs.Start.{start_vcpu}
+use Rattle.pef_guest.specs.Shows.{vcpu_at}
+use Rattle.pef_core.specs.Access.{pages_after, pool_after, stored_at}
+use Rattle.pef_core.specs.Rows.{access_answer, vcpu_after}
+use Rattle.pef_core.specs.Refused.{RefusesVcpu, RefusesGuest, SameGuest, LeavesCommand}
+use Rattle.pef_core.proofs.GuestAfter.{with_step}
+
+module _ {S : Type 0} (old : Guest S) (vid : ℕ) (vcpu : Vcpu) (below : vid < length old.vcpus.items) (there : vcpu ≡ get_or old.vcpus.items vid vcpu) where
+  -- the vCPU that was read is that of the number
+  is_at : vcpu ≡ vcpu_at old vid
+  is_at = there ∙ get_or_default old.vcpus.items vid vcpu (start_vcpu Idle) below
+
+  -- a vCPU whose call was refused
+  pub refused_guest : (new : Vcpu) (code : Code) → RefusesVcpu vcpu new code → RefusesGuest vid old (with_step old old.pages vid new) code
+  refused_guest new code refuses = record {
+    rest = record { lpid = refl; shift = refl; secure = refl; phase = refl; generation = refl; pages = refl; sealer = refl };
+    vcpu = subst (λ v. RefusesVcpu v (slice_index_or (slice_set old.vcpus.items vid new) vid (start_vcpu Idle)) code) is_at
+        (subst (λ v. RefusesVcpu vcpu v code) (sym (get_or-set_same old.vcpus.items vid new (start_vcpu Idle) below)) refuses);
+    others = λ k other. get_or-set_other old.vcpus.items vid k new (start_vcpu Idle) other;
+  }
+
+  -- nothing but a step more
+  same_guest : SameGuest old (with_step old old.pages vid vcpu)
+  same_guest = record {
+    rest = record { lpid = refl; shift = refl; secure = refl; phase = refl; generation = refl; pages = refl; sealer = refl };
+    vcpus = ap (slice_set old.vcpus.items vid) there ∙ set-get_or old.vcpus.items vid vcpu;
+  }
+
+  pub load_refused : (gfn : ℕ) (pool : PoolState) (regs : Regs) (value : ℕ) (r : Reach) →
+      LeavesCommand vid old (with_step old (pages_after old.pages gfn pool r) vid (vcpu_after vcpu regs r)) pool (pool_after pool r) (access_answer (Val value) r)
+  load_refused gfn pool regs value InFrame = tt
+  load_refused gfn pool regs value Backs = tt
+  load_refused gfn pool regs value NoPage = (same_guest, refl)
+  load_refused gfn pool regs value NoFrame = (same_guest, refl)
+  load_refused gfn pool regs value Moves = (same_guest, refl)
+
+  pub store_refused : (place : Place) (pool : PoolState) (regs : Regs) (value : ℕ) (r : Reach) →
+      LeavesCommand vid old (with_step old (stored_at (pages_after old.pages place.page pool r) place value r) vid (vcpu_after vcpu regs r)) pool (pool_after pool r) (access_answer Done r)
+  store_refused place pool regs value InFrame = tt
+  store_refused place pool regs value Backs = tt
+  store_refused place pool regs value NoPage = (same_guest, refl)
+  store_refused place pool regs value NoFrame = (same_guest, refl)
+  store_refused place pool regs value Moves = (same_guest, refl)

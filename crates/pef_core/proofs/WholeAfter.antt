@@ -1,0 +1,136 @@
+-- A machine stays whole where a CPU, a guest, the pool or the normal frames change as a step changes them.
+use Rattle.std.proofs.Common.{◌≡◌, ℕ, zero, suc, ◌+◌, ◌-◌, ◌^◌, ◌<◌, ◌==◌, nat_lt, cond, if◌then◌else◌, List, [], ◌∷◌, ◌++◌, Option, Some, refl, ap, sym, subst, ◌∙◌, arith}
+use Rattle.std.specs.Prelude.{slice_get, slice_set}
+use Rattle.std.specs.List.{count_by, flat_map}
+use Rattle.std.proofs.lemmas.List.Sums.{sum_by-append}
+use Rattle.std.proofs.lemmas.List.Recursion.{is_sum_by}
+use Rattle.pef_model.specs.declared.state.Ctx.{Ctx}
+use Rattle.pef_model.specs.declared.state.Ctx.TheVariants as ctx
+use Rattle.pef_model.specs.Deed.{may_return_in}
+use Rattle.pef_frames.specs.Frame.{FrameState, numbers_of}
+use Rattle.pef_frames.specs.Pool.{PoolState}
+use Rattle.pef_frames.specs.PoolLaw.{times_free}
+use Rattle.pef_pages.specs.Pages.{held}
+use Rattle.pef_guest.specs.declared.cpu.Cpu.{Cpu}
+use Rattle.pef_guest.specs.declared.guest.Guest.{Guest}
+use Rattle.pef_guest.specs.Whole.{IsWhole}
+use Rattle.pef_core.specs.Normal.{NormalState}
+use Rattle.pef_core.specs.Rows.{KeepsGuest, KeepsFrames, times_held}
+use Rattle.pef_core.specs.State.{State, IsCpuOf, IsGuestOf, IsVcpu, HasVcpu, MayRun, RunsVcpu, FramesOnce, IsWholeMachine}
+use Rattle.pef_core.proofs.Lists.{each_set, each_map}
+
+-- what holds of the element at a place, after another was put in
+at_set : {X : Type 0} (Q : Option X → Type 0) (xs : List X) (i k : ℕ) (x y : X) → slice_get xs i ≡ Some x → (Q (Some x) → Q (Some y)) → Q (slice_get xs k) → Q (slice_get (slice_set xs i y) k)
+at_set Q [] i k x y is put h = cc
+at_set Q (a ∷ xs) zero zero x y is put h = put (subst Q is h)
+at_set Q (a ∷ xs) zero (suc k) x y is put h = h
+at_set Q (a ∷ xs) (suc i) zero x y is put h = h
+at_set Q (a ∷ xs) (suc i) (suc k) x y is put h = at_set Q xs i k x y is put h
+
+module _ {S : Type 0} (guests : List (Guest S)) (i : ℕ) (g g' : Guest S) (is : slice_get guests i ≡ Some g) (keeps : KeepsGuest g g') where
+  vcpu_stays : (lpid vid : ℕ) → IsVcpu guests lpid vid → IsVcpu (slice_set guests i g') lpid vid
+  vcpu_stays lpid vid h = record {
+    least = h.least;
+    has = at_set (λ x. HasVcpu x vid) guests i (lpid - 1) g g' is (λ below. subst (λ n. vid < n) (sym keeps.vcpus) below) h.has;
+  }
+
+  may_run_stays : (lpid generation : ℕ) → MayRun (slice_get guests (lpid - 1)) generation → MayRun (slice_get (slice_set guests i g') (lpid - 1)) generation
+  may_run_stays lpid generation h =
+      at_set (λ x. MayRun x generation) guests i (lpid - 1) g g' is (λ may same. ap may_return_in keeps.phase ∙ may (same ∙ keeps.generation)) h
+
+  runs_stays : (c : Ctx) → RunsVcpu guests c → RunsVcpu (slice_set guests i g') c
+  runs_stays ctx.Hv h = tt
+  runs_stays (ctx.Guest run) h = (vcpu_stays run.lpid run.vid h.0, may_run_stays run.lpid run.generation h.1)
+
+  -- a CPU of the machine still is one
+  pub cpu_stays : (shift n : ℕ) (cpu : Cpu) → IsCpuOf guests shift n cpu → IsCpuOf (slice_set guests i g') shift n cpu
+  cpu_stays shift n cpu h = record { number = h.number; selects = vcpu_stays cpu.lpid cpu.vid h.selects; runs = runs_stays cpu.ctx h.runs; hand = h.hand }
+
+-- how often a number is one of frames
+count_numbers : (number : ℕ) (frames : List FrameState) → count_by (λ n. n == number) (numbers_of frames) ≡ count_by (λ (frame : FrameState). frame.number == number) frames
+count_numbers number frames =
+    is_sum_by (λ (frames : List FrameState). count_by (λ n. n == number) (numbers_of frames)) (λ (frame : FrameState). cond (frame.number == number) 1 0) refl
+    (λ frame frames. let h = sum_by-append (λ (n : ℕ). cond (n == number) 1 0) (frame.number ∷ []) (numbers_of frames) in omega arith) frames
+
+-- how often a number is one of all guests' frames, after a guest changed
+module _ {S : Type 0} (number : ℕ) where
+  numbers : Guest S → List ℕ
+  numbers guest = numbers_of (held guest.pages)
+
+  count_set : (guests : List (Guest S)) (i : ℕ) (g g' : Guest S) → slice_get guests i ≡ Some g →
+      count_by (λ n. n == number) (flat_map (λ guest. numbers_of (held guest.pages)) (slice_set guests i g')) + times_held g number
+      ≡ count_by (λ n. n == number) (flat_map (λ guest. numbers_of (held guest.pages)) guests) + times_held g' number
+  count_set [] i g g' is = cc
+  count_set (a ∷ guests) zero g g' is =
+      let same : a ≡ g = cc in
+      let rest : List ℕ = flat_map (λ guest. numbers_of (held guest.pages)) guests in
+      let one : count_by (λ n. n == number) (numbers_of (held g'.pages) ++ rest) ≡ count_by (λ n. n == number) (numbers_of (held g'.pages)) + count_by (λ n. n == number) rest =
+      sum_by-append (λ (n : ℕ). cond (n == number) 1 0) (numbers_of (held g'.pages)) rest in
+      let other : count_by (λ n. n == number) (numbers_of (held a.pages) ++ rest) ≡ count_by (λ n. n == number) (numbers_of (held a.pages)) + count_by (λ n. n == number) rest =
+      sum_by-append (λ (n : ℕ). cond (n == number) 1 0) (numbers_of (held a.pages)) rest in
+      let there = count_numbers number (held g'.pages) in
+      let here : count_by (λ n. n == number) (numbers_of (held a.pages)) ≡ times_held g number = count_numbers number (held a.pages) ∙ ap (λ (x : Guest S). times_held x number) same in
+      omega arith
+  count_set (a ∷ guests) (suc i) g g' is =
+      let rest : List ℕ = flat_map (λ guest. numbers_of (held guest.pages)) guests in
+      let rest' : List ℕ = flat_map (λ guest. numbers_of (held guest.pages)) (slice_set guests i g') in
+      let one = sum_by-append (λ (n : ℕ). cond (n == number) 1 0) (numbers_of (held a.pages)) rest in
+      let other = sum_by-append (λ (n : ℕ). cond (n == number) 1 0) (numbers_of (held a.pages)) rest' in
+      let ih = count_set guests i g g' is in
+      omega arith
+
+-- each secure frame is still in one place
+pub once_stays : {S : Type 0} (m : State S) (i : ℕ) (g g' : Guest S) (pool : PoolState) → slice_get m.guests i ≡ Some g → KeepsFrames g g' m.pool pool → FramesOnce m →
+    (cpus : List Cpu) → FramesOnce (record m { cpus = cpus; guests = slice_set m.guests i g'; pool = pool })
+once_stays m i g g' pool is keeps once cpus number =
+    let old : List ℕ = flat_map (λ guest. numbers_of (held guest.pages)) m.guests in
+    let new : List ℕ = flat_map (λ guest. numbers_of (held guest.pages)) (slice_set m.guests i g') in
+    let before : count_by (λ n. n == number) (m.pool.free ++ old) ≡ times_free m.pool number + count_by (λ n. n == number) old = sum_by-append (λ (n : ℕ). cond (n == number) 1 0) m.pool.free old in
+    let after : count_by (λ n. n == number) (pool.free ++ new) ≡ times_free pool number + count_by (λ n. n == number) new = sum_by-append (λ (n : ℕ). cond (n == number) 1 0) pool.free new in
+    let moved = count_set number m.guests i g g' is in
+    let kept = keeps.frames number in
+    let same : count_by (λ n. n == number) (pool.free ++ new) ≡ count_by (λ n. n == number) (m.pool.free ++ old) = omega arith in
+    same ∙ once number ∙ ap (λ (count : ℕ). if nat_lt number count then 1 else 0) (sym keeps.count)
+
+module _ {S : Type 0} (takes : S → ℕ → ℕ → Type 0) (m : State S) (n : ℕ) (cpu : Cpu) (whole : IsWholeMachine takes m) where
+  -- another CPU at one place, and other normal frames of the same size
+  pub whole_cpu : (normal : NormalState) → normal.shift ≡ m.normal.shift → IsCpuOf m.guests m.normal.shift n cpu → IsWholeMachine takes (record m { cpus = slice_set m.cpus n cpu; normal = normal })
+  whole_cpu normal same is = record {
+    cpus = each_set (IsCpuOf m.guests m.normal.shift) (IsCpuOf m.guests normal.shift) m.cpus n cpu whole.cpus
+        (subst (λ shift. IsCpuOf m.guests shift n cpu) (sym same) is) (λ k x other h. subst (λ shift. IsCpuOf m.guests shift k x) (sym same) h);
+    guests = each_map (IsGuestOf takes m) (IsGuestOf takes (record m { cpus = slice_set m.cpus n cpu; normal = normal })) m.guests whole.guests
+        (λ i g h. record { whole = h.whole; lpid = h.lpid; shift = h.shift ∙ sym same; secure = h.secure; steps = h.steps });
+    size = whole.size ∙ ap (λ (shift : ℕ). 2 ^ shift) (sym same);
+    frames_once = whole.frames_once;
+  }
+
+  -- another CPU at one place and another guest at another, and the pool
+  pub whole_guest : (i : ℕ) (g g' : Guest S) (pool : PoolState) → slice_get m.guests i ≡ Some g → IsWhole takes g' → KeepsGuest g g' → KeepsFrames g g' m.pool pool → g.steps < m.steps →
+      IsCpuOf (slice_set m.guests i g') m.normal.shift n cpu → IsWholeMachine takes (record m { cpus = slice_set m.cpus n cpu; guests = slice_set m.guests i g'; pool = pool })
+  whole_guest i g g' pool is whole' keeps frames fewer cpu_is =
+      let there : IsGuestOf takes m i g = whole.guests i g is in
+      record {
+        cpus = each_set (IsCpuOf m.guests m.normal.shift) (IsCpuOf (slice_set m.guests i g') m.normal.shift) m.cpus n cpu whole.cpus cpu_is
+            (λ k x other h. cpu_stays m.guests i g g' is keeps m.normal.shift k x h);
+        guests = each_set (IsGuestOf takes m) (IsGuestOf takes (record m { cpus = slice_set m.cpus n cpu; guests = slice_set m.guests i g'; pool = pool })) m.guests i g' whole.guests
+            (record {
+              whole = whole';
+              lpid = keeps.lpid ∙ there.lpid;
+              shift = keeps.shift ∙ there.shift;
+              secure = keeps.secure ∙ there.secure ∙ sym frames.count;
+              steps = (let more = keeps.steps in omega arith);
+            })
+            (λ k x other h. record { whole = h.whole; lpid = h.lpid; shift = h.shift; secure = h.secure ∙ sym frames.count; steps = h.steps });
+        size = frames.size ∙ whole.size;
+        frames_once = once_stays m i g g' pool is frames whole.frames_once (slice_set m.cpus n cpu);
+      }
+
+-- one step more is counted
+pub one_step_more : {S : Type 0} (takes : S → ℕ → ℕ → Type 0) (m : State S) → IsWholeMachine takes m → IsWholeMachine takes (record m { steps = m.steps + 1 })
+one_step_more takes m whole = record {
+  cpus = whole.cpus;
+  guests = each_map (IsGuestOf takes m) (IsGuestOf takes (record m { steps = m.steps + 1 })) m.guests whole.guests
+      (λ i g h. record { whole = h.whole; lpid = h.lpid; shift = h.shift; secure = h.secure; steps = (let few = h.steps in omega arith) });
+  size = whole.size;
+  frames_once = whole.frames_once;
+}

@@ -1,0 +1,126 @@
+use Rattle.std.proofs.Common.{◌<◌, length, sym, ap, subst, refl}
+use Rattle.std.specs.Prelude.{slice_set}
+use Rattle.pef_model.specs.declared.state.Ctx.TheVariants as ctx
+use Rattle.pef_model.specs.declared.command.Cmd.{Cmd}
+use Rattle.pef_model.specs.declared.command.Cmd.TheVariants.{HLd, HSt}
+use Rattle.pef_core.specs.State.{State}
+use Rattle.pef_core.specs.Steps.{Continues}
+use Rattle.pef_core.proofs.Lists.{element_at}
+use Rattle.pef_core.proofs.WholeAfter.{whole_cpu}
+use Rattle.pef_core.proofs.Places.{found_cpu, selection_stays}
+use Rattle.pef_core.specs.Refused.{LeavesRest}
+use Rattle.pef_core.proofs.Leaving.{normal_leaves, context_leaves}
+use Rattle.pef_core.proofs.Continuing.{load_continues, store_continues, is_guests, guest_idle}
+use Rattle.pef_core.proofs.machine.Machine.step_hypervisor.Goals as goal
+
+pub load-requires : goal.load-requires
+load-requires g c =
+    (found_cpu c.self.inside.cpus.items c.args.self.now c.args.cpu c.index_mut.result.now ctx.Hv (ap (λ m. m.cpus) (sym c.self.view_is)) c.requires.hypervisor c.index_mut.ensures.value).1
+
+pub store-requires : goal.store-requires
+store-requires g c =
+    (found_cpu c.self-in-HSt.inside.cpus.items c.args.self.now c.args.cpu c.index_mut-own.result.now ctx.Hv (ap (λ m. m.cpus) (sym c.self-in-HSt.view_is)) c.requires.hypervisor c.index_mut-own.ensures.value).1
+
+pub invariant_of-self : goal.invariant_of-self
+invariant_of-self g c =
+    let cpu = c.index_mut.result.now in
+    let own = found_cpu c.self.inside.cpus.items c.args.self.now c.args.cpu cpu ctx.Hv (ap (λ m. m.cpus) (sym c.self.view_is)) c.requires.hypervisor c.index_mut.ensures.value in
+    let old : State _ = record { cpus = c.self.inside.cpus.items; guests = c.self.inside.guests.items; pool = c.self.inside.pool; normal = c.self.inside.normal; steps = c.self.inside.steps } in
+    whole_cpu g.S.Seal.takes old c.args.cpu c.load.new.cpu c.self.invariant c.self.inside.normal refl
+    (selection_stays c.self.inside.guests.items c.self.inside.normal.shift c.args.cpu cpu c.load.new.cpu c.load.ensures.keeps (c.self.invariant.cpus c.args.cpu cpu own.0))
+
+pub invariant_of-self-in-HSt : goal.invariant_of-self-in-HSt
+invariant_of-self-in-HSt g c =
+    let cpu = c.index_mut-own.result.now in
+    let inside = c.self-in-HSt.inside in
+    let own = found_cpu inside.cpus.items c.args.self.now c.args.cpu cpu ctx.Hv (ap (λ m. m.cpus) (sym c.self-in-HSt.view_is)) c.requires.hypervisor c.index_mut-own.ensures.value in
+    let old : State _ = record { cpus = inside.cpus.items; guests = inside.guests.items; pool = inside.pool; normal = inside.normal; steps = inside.steps } in
+    whole_cpu g.S.Seal.takes old c.args.cpu c.store.new.cpu c.self-in-HSt.invariant c.store.new.normal c.store.ensures.shift
+    (selection_stays inside.guests.items inside.normal.shift c.args.cpu cpu c.store.new.cpu c.store.ensures.keeps (c.self-in-HSt.invariant.cpus c.args.cpu cpu own.0))
+
+pub returns-in-HLd-clause-step : goal.returns-in-HLd-clause-step
+returns-in-HLd-clause-step g c =
+    let cpu = c.index_mut.result.now in
+    let own = found_cpu c.self.inside.cpus.items c.args.self.now c.args.cpu cpu ctx.Hv (ap (λ m. m.cpus) (sym c.self.view_is)) c.requires.hypervisor c.index_mut.ensures.value in
+    let old : State _ = record { cpus = c.self.inside.cpus.items; guests = c.self.inside.guests.items; pool = c.self.inside.pool; normal = c.self.inside.normal; steps = c.self.inside.steps } in
+    let below = subst (λ m. c.args.cpu < length m.cpus) (sym c.self.view_is) c.requires.hypervisor.below in
+    let step : Continues old (record old { cpus = slice_set old.cpus c.args.cpu c.load.new.cpu }) c.args.cpu (HLd c.in-HLd.ra) c.load.result =
+    load_continues old c.args.cpu below cpu own.0 c.load.new.cpu c.in-HLd.ra c.load.result own.1 c.load.ensures.row in
+    subst (λ (cmd : Cmd). Continues c.args.self.now (record old { cpus = slice_set old.cpus c.args.cpu c.load.new.cpu }) c.args.cpu cmd c.load.result) (sym c.in-HLd.is)
+    (subst (λ m. Continues m (record old { cpus = slice_set old.cpus c.args.cpu c.load.new.cpu }) c.args.cpu (HLd c.in-HLd.ra) c.load.result) c.self.view_is step)
+
+pub returns-in-HSt-clause-step : goal.returns-in-HSt-clause-step
+returns-in-HSt-clause-step g c =
+    let cpu = c.index_mut-own.result.now in
+    let inside = c.self-in-HSt.inside in
+    let own = found_cpu inside.cpus.items c.args.self.now c.args.cpu cpu ctx.Hv (ap (λ m. m.cpus) (sym c.self-in-HSt.view_is)) c.requires.hypervisor c.index_mut-own.ensures.value in
+    let old : State _ = record { cpus = inside.cpus.items; guests = inside.guests.items; pool = inside.pool; normal = inside.normal; steps = inside.steps } in
+    let below = subst (λ m. c.args.cpu < length m.cpus) (sym c.self-in-HSt.view_is) c.requires.hypervisor.below in
+    let new : State _ = record old { cpus = slice_set old.cpus c.args.cpu c.store.new.cpu; normal = c.store.new.normal } in
+    let step : Continues old new c.args.cpu (HSt c.in-HSt.ra c.in-HSt.value) c.store.result =
+    store_continues old c.args.cpu below cpu own.0 c.store.new.cpu c.store.new.normal c.in-HSt.ra c.in-HSt.value c.store.result own.1 c.store.ensures.row in
+    subst (λ (cmd : Cmd). Continues c.args.self.now new c.args.cpu cmd c.store.result) (sym c.in-HSt.is)
+    (subst (λ m. Continues m new c.args.cpu (HSt c.in-HSt.ra c.in-HSt.value) c.store.result) c.self-in-HSt.view_is step)
+
+pub returns-in-UReturn-clause-step : goal.returns-in-UReturn-clause-step
+returns-in-UReturn-clause-step g c =
+    subst (λ (cmd : Cmd). Continues c.args.self.now c.step_return.new.self c.args.cpu cmd c.step_return.result) (sym c.in-UReturn.is) c.step_return.ensures.step
+
+-- a guest's command, while the hypervisor runs: nothing is done
+pub returns-in-GLi-clause-step : goal.returns-in-GLi-clause-step
+returns-in-GLi-clause-step g c =
+    let own = element_at c.args.self.now.cpus c.args.cpu c.requires.hypervisor.below in
+    guest_idle c.args.self.now c.args.cpu c.requires.hypervisor.below own.0 own.1 c.args.cmd.now (c.requires.hypervisor.is own.0 own.1) (ap is_guests c.in-GLi.is)
+
+pub returns-in-GLd-clause-step : goal.returns-in-GLd-clause-step
+returns-in-GLd-clause-step g c =
+    let own = element_at c.args.self.now.cpus c.args.cpu c.requires.hypervisor.below in
+    guest_idle c.args.self.now c.args.cpu c.requires.hypervisor.below own.0 own.1 c.args.cmd.now (c.requires.hypervisor.is own.0 own.1) (ap is_guests c.in-GLd.is)
+
+pub returns-in-GSt-clause-step : goal.returns-in-GSt-clause-step
+returns-in-GSt-clause-step g c =
+    let own = element_at c.args.self.now.cpus c.args.cpu c.requires.hypervisor.below in
+    guest_idle c.args.self.now c.args.cpu c.requires.hypervisor.below own.0 own.1 c.args.cmd.now (c.requires.hypervisor.is own.0 own.1) (ap is_guests c.in-GSt.is)
+
+pub returns-in-GIrq-clause-step : goal.returns-in-GIrq-clause-step
+returns-in-GIrq-clause-step g c =
+    let own = element_at c.args.self.now.cpus c.args.cpu c.requires.hypervisor.below in
+    guest_idle c.args.self.now c.args.cpu c.requires.hypervisor.below own.0 own.1 c.args.cmd.now (c.requires.hypervisor.is own.0 own.1) (ap is_guests c.in-GIrq.is)
+
+-- what a refused command leaves
+pub returns-in-HLd-clause-refused : goal.returns-in-HLd-clause-refused
+returns-in-HLd-clause-refused g c =
+    let cpu = c.index_mut.result.now in
+    let own = found_cpu c.self.inside.cpus.items c.args.self.now c.args.cpu cpu ctx.Hv (ap (λ m. m.cpus) (sym c.self.view_is)) c.requires.hypervisor c.index_mut.ensures.value in
+    let old : State _ = record { cpus = c.self.inside.cpus.items; guests = c.self.inside.guests.items; pool = c.self.inside.pool; normal = c.self.inside.normal; steps = c.self.inside.steps } in
+    subst (λ m. LeavesRest c.args.cpu ctx.Hv m (record old { cpus = slice_set old.cpus c.args.cpu c.load.new.cpu }) c.load.result) c.self.view_is
+    (normal_leaves old c.args.cpu cpu own.0 c.load.new.cpu c.self.inside.normal c.load.result c.load.ensures.refused)
+
+pub returns-in-HSt-clause-refused : goal.returns-in-HSt-clause-refused
+returns-in-HSt-clause-refused g c =
+    let cpu = c.index_mut-own.result.now in
+    let inside = c.self-in-HSt.inside in
+    let own = found_cpu inside.cpus.items c.args.self.now c.args.cpu cpu ctx.Hv (ap (λ m. m.cpus) (sym c.self-in-HSt.view_is)) c.requires.hypervisor c.index_mut-own.ensures.value in
+    let old : State _ = record { cpus = inside.cpus.items; guests = inside.guests.items; pool = inside.pool; normal = inside.normal; steps = inside.steps } in
+    subst (λ m. LeavesRest c.args.cpu ctx.Hv m (record old { cpus = slice_set old.cpus c.args.cpu c.store.new.cpu; normal = c.store.new.normal }) c.store.result) c.self-in-HSt.view_is
+    (normal_leaves old c.args.cpu cpu own.0 c.store.new.cpu c.store.new.normal c.store.result c.store.ensures.refused)
+
+pub returns-in-GLi-clause-refused : goal.returns-in-GLi-clause-refused
+returns-in-GLi-clause-refused g c =
+    let own = element_at c.args.self.now.cpus c.args.cpu c.requires.hypervisor.below in
+    context_leaves c.args.self.now c.args.cpu own.0 own.1
+
+pub returns-in-GLd-clause-refused : goal.returns-in-GLd-clause-refused
+returns-in-GLd-clause-refused g c =
+    let own = element_at c.args.self.now.cpus c.args.cpu c.requires.hypervisor.below in
+    context_leaves c.args.self.now c.args.cpu own.0 own.1
+
+pub returns-in-GSt-clause-refused : goal.returns-in-GSt-clause-refused
+returns-in-GSt-clause-refused g c =
+    let own = element_at c.args.self.now.cpus c.args.cpu c.requires.hypervisor.below in
+    context_leaves c.args.self.now c.args.cpu own.0 own.1
+
+pub returns-in-GIrq-clause-refused : goal.returns-in-GIrq-clause-refused
+returns-in-GIrq-clause-refused g c =
+    let own = element_at c.args.self.now.cpus c.args.cpu c.requires.hypervisor.below in
+    context_leaves c.args.self.now c.args.cpu own.0 own.1

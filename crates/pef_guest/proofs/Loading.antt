@@ -1,0 +1,35 @@
+-- What a call leaves of the registers.
+use Rattle.std.proofs.Common.{◌≡◌, ◌≢◌, ℕ, ◌+◌, ◌-◌, ◌<◌, ◌≤◌, List, ◌++◌, length, take, drop, slice_set, get_or, arith, ap, ◌∙◌, length-take}
+use Rattle.std.proofs.lemmas.List.{get_or-append_right, get_or-drop, get_or-set_other, length-set}
+use Rattle.std.proofs.lemmas.Grind.{common_steps}
+use Rattle.pef_model.specs.declared.command.TheConstants.{UV_RETURN}
+use Rattle.pef_model.specs.Registers.{load_return}
+use Rattle.pef_guest.specs.Loads.{LoadsCall}
+
+-- what lies past a middle part that was replaced stays
+beyond : (n k : ℕ) (loaded outs : List ℕ) (r : ℕ) → length (take n loaded) ≡ n → length outs ≡ k → n + k ≤ r → get_or (take n loaded ++ (outs ++ drop (n + k) loaded)) r 0 ≡ get_or loaded r 0
+beyond n k loaded outs r front middle above =
+    get_or-append_right (take n loaded) (outs ++ drop (n + k) loaded) n r 0 front (omega arith)
+    ∙ get_or-append_right outs (drop (n + k) loaded) k (r - n) 0 middle (omega arith)
+    ∙ get_or-drop (n + k) loaded (r - n - k) 0
+    ∙ ap (λ (i : ℕ). get_or loaded i 0) (omega arith)
+
+-- R1 and the registers past R12 are none of those that are loaded
+pub loads_call : (gpr outs : List ℕ) (r0 r2 : ℕ) → length gpr ≡ 32 → length outs ≡ 9 → LoadsCall gpr (load_return gpr r0 r2 outs)
+loads_call gpr outs r0 r2 size nine = record { first = grind (arith, common_steps); others = λ r above. past r above } where
+  past : (r : ℕ) → 12 < r → get_or (load_return gpr r0 r2 outs) r 0 ≡ get_or gpr r 0
+  past r above =
+      let first : List ℕ = slice_set gpr 0 r0 in
+      let second : List ℕ = slice_set first 2 r2 in
+      let loaded : List ℕ = slice_set second 3 UV_RETURN in
+      let length_first : length (slice_set gpr 0 r0) ≡ 32 = length-set gpr 0 r0 ∙ size in
+      let length_second : length (slice_set (slice_set gpr 0 r0) 2 r2) ≡ 32 = length-set (slice_set gpr 0 r0) 2 r2 ∙ length_first in
+      let length_loaded : length (slice_set (slice_set (slice_set gpr 0 r0) 2 r2) 3 UV_RETURN) ≡ 32 = length-set (slice_set (slice_set gpr 0 r0) 2 r2) 3 UV_RETURN ∙ length_second in
+      let front : length (take 4 loaded) ≡ 4 = omega (arith, length-take 4 loaded) in
+      let not_zero : r ≢ 0 = omega arith in
+      let not_two : r ≢ 2 = omega arith in
+      let not_three : r ≢ 3 = omega arith in
+      beyond 4 9 loaded outs r front nine (omega arith)
+      ∙ get_or-set_other second 3 r UV_RETURN 0 not_three
+      ∙ get_or-set_other first 2 r r2 0 not_two
+      ∙ get_or-set_other gpr 0 r r0 0 not_zero

@@ -1,0 +1,4 @@
+pub mod Loads
+pub mod Start
+pub mod Whole
+pub mod Shows

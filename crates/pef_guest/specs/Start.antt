@@ -1,0 +1,51 @@
+-- CPUs, vCPUs and guests as they begin.
+use Rattle.std.specs.Prelude.{◌≡◌, ℕ, Bool, true, false, replicate}
+use Rattle.pef_model.specs.declared.config.Config.{Config}
+use Rattle.pef_model.specs.declared.state.Phase.{Phase}
+use Rattle.pef_model.specs.declared.state.Phase.TheVariants as phase
+use Rattle.pef_model.specs.declared.state.VState.{VState}
+use Rattle.pef_model.specs.declared.state.VState.TheVariants as vstate
+use Rattle.pef_model.specs.declared.state.Ctx.TheVariants as ctx
+use Rattle.pef_model.specs.declared.entry.Answer.TheVariants as answer
+use Rattle.pef_model.specs.Plan.{plan_of}
+use Rattle.pef_model.specs.Registers.{zero_registers, fresh_registers}
+use Rattle.pef_pages.specs.Pages.{invalid_pages}
+use Rattle.pef_guest.specs.declared.cpu.Cpu.{Cpu}
+use Rattle.pef_guest.specs.declared.vcpu.Vcpu.{Vcpu}
+use Rattle.pef_guest.specs.declared.guest.Guest.{Guest}
+
+-- a CPU of this number, with a hand of so many bytes: the hypervisor runs, all is zero, vCPU 0 of guest 1 is selected
+pub record IsStartCpu (number size : ℕ) (cpu : Cpu) : Type 0 where
+  pub number_is : cpu.number ≡ number
+  pub ctx : cpu.ctx ≡ ctx.Hv
+  pub gpr : cpu.gpr ≡ zero_registers
+  pub lpid : cpu.lpid ≡ 1
+  pub vid : cpu.vid ≡ 0
+  pub last : cpu.last ≡ answer.Nothing
+  pub hand : cpu.hand ≡ replicate size 0
+
+-- a vCPU in this state that was never taken up
+abbrev pub start_vcpu : VState → Vcpu
+start_vcpu state = record { state = state; generation = 0; regs = fresh_registers }
+
+-- the phase of a guest at the start, by whether it is born secure
+abbrev pub start_phase : Bool → Phase
+start_phase true = phase.Secure
+start_phase false = phase.Absent
+
+-- the state of its vCPUs
+abbrev pub start_state : Bool → VState
+start_state true = vstate.Fresh
+start_state false = vstate.Idle
+
+-- a guest of a configuration as it begins, with this sealer
+pub record IsStartGuest {S : Type 0} (config : Config) (lpid : ℕ) (sealer : S) (guest : Guest S) : Type 0 where
+  pub lpid_is : guest.lpid ≡ lpid
+  pub shift : guest.shift ≡ config.shift
+  pub secure : guest.secure ≡ config.secure
+  pub phase : guest.phase ≡ start_phase ((plan_of config).is_born lpid)
+  pub generation : guest.generation ≡ 1
+  pub pages : guest.pages ≡ invalid_pages config.pages
+  pub vcpus : guest.vcpus.items ≡ replicate config.vcpus (start_vcpu (start_state ((plan_of config).is_born lpid)))
+  pub sealer_is : guest.sealer ≡ sealer
+  pub steps : guest.steps ≡ 0

@@ -1,0 +1,37 @@
+-- When a guest is whole.
+use Rattle.std.specs.Prelude.{◌≡◌, ℕ, ◌^◌, ◌<◌, ◌≤◌, length, Some, None}
+use Rattle.pef_model.specs.declared.state.Phase.{Phase}
+use Rattle.pef_model.specs.declared.state.Phase.TheVariants as phase
+use Rattle.pef_model.specs.declared.state.Kind.TheVariants as kind
+use Rattle.pef_model.specs.Plan.{IsWithin}
+use Rattle.pef_frames.specs.Frame.{FrameState}
+use Rattle.pef_pages.specs.Pages.{kind_at, mover_at, version_at, frame_at}
+use Rattle.pef_guest.specs.declared.guest.Guest.{Guest}
+
+-- a secure frame has this many bytes, and a number below the number of secure frames
+pub record IsFrameOf (size secure : ℕ) (frame : FrameState) : Type 0 where
+  pub length_is : length frame.bytes ≡ size
+  pub number : frame.number < secure
+
+-- a phase in which no page is private: Absent and Normal
+abbrev pub IsOutside : Phase → Type 0
+IsOutside phase.Absent = Unit {0}
+IsOutside phase.Normal = Unit {0}
+IsOutside phase.Starting = ⊥
+IsOutside phase.Secure = ⊥
+IsOutside phase.Aborting = ⊥
+
+-- a guest is whole
+pub record IsWhole {S : Type 0} (takes : S → ℕ → ℕ → Type 0) (guest : Guest S) : Type 0 where
+  -- a page's size is in its range
+  pub shift : IsWithin 8 16 guest.shift
+  -- the sealer takes each of its pages with that size
+  pub served : (gfn : ℕ) → gfn < length guest.pages.pages → takes guest.sealer gfn (2 ^ guest.shift)
+  -- each of its secure frames has that size, and a number below `secure`
+  pub frames : (gfn : ℕ) (frame : FrameState) → frame_at guest.pages gfn ≡ Some frame → IsFrameOf (2 ^ guest.shift) guest.secure frame
+  -- in Absent and Normal every page is Invalid and doesn't move
+  pub outside : IsOutside guest.phase → (gfn : ℕ) → (kind_at guest.pages gfn ≡ kind.Invalid) × (mover_at guest.pages gfn ≡ None)
+  -- in Secure no Invalid page moves
+  pub rests : guest.phase ≡ phase.Secure → (gfn : ℕ) → kind_at guest.pages gfn ≡ kind.Invalid → mover_at guest.pages gfn ≡ None
+  -- no page was paged out more often than there were steps
+  pub versions : (gfn : ℕ) → version_at guest.pages gfn ≤ guest.steps

@@ -1,0 +1,127 @@
+//! A CPU goes into a guest and comes back, and shows the hypervisor no more than the guest's exit says.
+
+ghost use Rattle.std.specs.Prelude.{◌≡◌, ◌+◌, ◌^◌, length, replicate, slice_set, IfOk};
+ghost use Rattle.pef_model.specs.Registers.{zero_registers, with_code};
+ghost use Rattle.pef_model.specs.Cpu.{left_registers};
+
+use crate::hand::Hand;
+use crate::registers;
+use pef_model::{Answer, Code, Ctx, EXTERNAL_INTERRUPT, Exit, Run};
+use std::alloc::{AllocError, Global};
+
+/// A CPU.
+#[derive(Drop)]
+pub struct Cpu {
+    /// Its number, from 0.
+    pub number: u8,
+    /// What it is doing.
+    pub ctx: Ctx,
+    /// R0 to R31, as the hypervisor has them on this CPU.
+    pub gpr: [u64; 32],
+    /// The selected guest, from 1.
+    pub lpid: u16,
+    /// The selected vCPU, from 0.
+    pub vid: u8,
+    /// What the last command of the hypervisor answered, or the guest that left or has ended.
+    pub last: Answer,
+    /// One page of public bytes.
+    pub hand: Hand,
+}
+
+impl Cpu {
+    ghost use Rattle.pef_guest.specs.Start.{IsStartCpu};
+
+    /// The CPU of a number, from 0, with a hand of a size in bytes. The hypervisor runs on it, with zero registers; guest 1
+    /// and its vCPU 0 are selected. Refused where the memory is not to be had.
+    pub fn build(alloc: Global, number: u8, size: u32) -> Result<Cpu, AllocError>
+        ensures { IfOk result (IsStartCpu number size) }
+    {
+        let hand = Hand::build(alloc, size)?;
+        Ok(Cpu {
+            number,
+            ctx: Ctx::Hv,
+            gpr: [0; 32],
+            lpid: 1,
+            vid: 0,
+            last: Answer::Nothing,
+            hand,
+        })
+    }
+
+    /// The bytes in its hand.
+    pub fn hand(&self) -> &[u8]
+        ensures { result.now ≡ self.now.hand }
+    {
+        self.hand.bytes()
+    }
+
+    /// The selected vCPU runs from now on, in this generation of its guest.
+    pub fn enter(&mut self, generation: u64) -> Answer
+        ensures answer { result ≡ Answer.Enter }
+        ensures cpu { self.new ≡ record self.old { ctx = Ctx.Guest (record { lpid = self.old.lpid; vid = self.old.vid; generation = generation }); last = Answer.Enter } }
+    {
+        self.ctx = Ctx::Guest(Run {
+            lpid: self.lpid,
+            vid: self.vid,
+            generation,
+        });
+        self.last = Answer::Enter;
+        self.last
+    }
+
+    /// A call of the hypervisor comes back with a code in R3.
+    pub fn refuse(&mut self, code: Code) -> Answer
+        ensures answer { result ≡ Answer.Ret code }
+        ensures cpu { self.new ≡ record self.old { gpr = with_code self.old.gpr code; last = Answer.Ret code } }
+    {
+        registers::give_code(&mut self.gpr, code);
+        self.last = Answer::Ret(code);
+        self.last
+    }
+
+    /// A step of the hypervisor answers this, and changes nothing else of the CPU.
+    pub fn answer(&mut self, answer: Answer) -> Answer
+        ensures answer { result ≡ answer }
+        ensures cpu { self.new ≡ record self.old { last = answer } }
+    {
+        self.last = answer;
+        answer
+    }
+
+    /// The hypervisor loads a value into R3.
+    pub fn load(&mut self, value: u64) -> Answer
+        ensures answer { result ≡ Answer.Val value }
+        ensures cpu { self.new ≡ record self.old { gpr = slice_set self.old.gpr 3 value; last = Answer.Val value } }
+    {
+        self.gpr[3] = value;
+        self.answer(Answer::Val(value))
+    }
+
+    /// The vCPU that runs here leaves: it is selected, the registers show what its exit says, and the hypervisor runs from
+    /// now on.
+    pub fn leave(&mut self, run: Run, exit: Exit) -> Answer
+        ensures answer { result ≡ Answer.Exit exit }
+        ensures cpu { self.new ≡ record self.old { ctx = Ctx.Hv; gpr = left_registers exit; lpid = run.lpid; vid = run.vid; last = Answer.Exit exit } }
+    {
+        self.ctx = Ctx::Hv;
+        self.gpr = [0; 32];
+        match exit {
+            Exit::Irq => self.gpr[3] = EXTERNAL_INTERRUPT,
+        }
+        self.lpid = run.lpid;
+        self.vid = run.vid;
+        self.last = Answer::Exit(exit);
+        self.last
+    }
+
+    /// The guest that runs here has ended: it lets nothing out, and the hypervisor runs from now on.
+    pub fn gone(&mut self) -> Answer
+        ensures answer { result ≡ Answer.Gone }
+        ensures cpu { self.new ≡ record self.old { ctx = Ctx.Hv; gpr = zero_registers; last = Answer.Gone } }
+    {
+        self.ctx = Ctx::Hv;
+        self.gpr = [0; 32];
+        self.last = Answer::Gone;
+        self.last
+    }
+}

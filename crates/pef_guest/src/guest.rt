@@ -1,0 +1,88 @@
+//! A guest has all its memory from the start.
+
+ghost use Rattle.std.specs.Prelude.{◌≡◌, ◌^◌, ◌<◌, ◌≤◌, ℕ, length, replicate, IfOk, IsTrue, ◌↔◌};
+ghost use Rattle.pef_model.specs.Plan.{IsInRange, IsWithin, plan_of};
+ghost use Rattle.pef_model.specs.Deed.{may_return_in};
+ghost use Rattle.pef_guest.specs.Start.{start_vcpu, start_state, IsStartGuest};
+ghost use Rattle.pef_guest.specs.Whole.{IsWhole};
+
+use crate::vcpu::Vcpu;
+use pef_frames::SecFrame;
+use pef_model::{Config, Phase, VState};
+use pef_pages::Pages;
+use pef_seal::Seal;
+use std::alloc::{AllocError, Global};
+
+/// A guest. Its fields are public, so that a step can borrow two of them at once.
+#[derive(Drop)]
+pub struct Guest<S: Seal> {
+    /// Its number, from 1.
+    pub lpid: u16,
+    /// A page has 2^shift bytes; 8 to 16.
+    pub shift: u8,
+    /// How many secure frames the machine has.
+    pub secure: u32,
+    /// Whether it runs in secure memory.
+    pub phase: Phase,
+    /// Which life of the guest it is, from 1.
+    pub generation: u64,
+    /// Its private memory.
+    pub pages: Pages<SecFrame>,
+    pub vcpus: Vec<Vcpu>,
+    /// What seals its pages.
+    pub sealer: S,
+    /// How many steps were done on it. No version is above it.
+    pub steps: u64,
+}
+
+/// Whether a guest is secure from the start.
+fn is_born(config: &Config, lpid: u16) -> bool
+    ensures { result ≡ (plan_of config.now).is_born lpid }
+{
+    config.born.as_slice().iter().any(|born| *born == lpid)
+}
+
+impl<S: Seal> Guest<S> {
+    /// A guest of a configuration, by its number from 1, with its sealer, as it begins. One that is born secure is Secure,
+    /// with Fresh vCPUs; every other is Absent, with Idle ones. Refused where the memory is not to be had.
+    pub fn build(
+        alloc: Global,
+        config: &Config,
+        lpid: u16,
+        sealer: S,
+    ) -> Result<Guest<S>, AllocError>
+        requires range { IsInRange config.now }
+        requires serves { (gfn : ℕ) → gfn < config.now.pages → S.takes sealer gfn (2 ^ config.now.shift) }
+        ensures start { IfOk result (IsStartGuest config.now lpid sealer) }
+        ensures whole { IfOk result (IsWhole S.takes) }
+    {
+        let pages = Pages::build(alloc, config.pages)?;
+        let (phase, state) = if is_born(config, lpid) {
+            (Phase::Secure, VState::Fresh)
+        } else {
+            (Phase::Absent, VState::Idle)
+        };
+        let vcpus = vec![in alloc; Vcpu::new(state); config.vcpus as usize]?;
+        Ok(Guest {
+            lpid,
+            shift: config.shift,
+            secure: config.secure,
+            phase,
+            generation: 1,
+            pages,
+            vcpus,
+            sealer,
+            steps: 0,
+        })
+    }
+
+    /// Whether UV_RETURN may take up one of its vCPUs.
+    pub fn may_return(&self) -> bool
+        ensures { result ≡ may_return_in self.now.phase }
+    {
+        match self.phase {
+            Phase::Starting | Phase::Secure => true,
+            Phase::Absent | Phase::Normal | Phase::Aborting => false,
+        }
+    }
+}

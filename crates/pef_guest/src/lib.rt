@@ -1,0 +1,17 @@
+//! A guest is whole from the start: its sealer takes each of its pages, and each of its frames is one of the pool's.
+#![tactic(auto)]
+
+mod cpu;
+mod guest;
+mod hand;
+mod inner;
+pub mod registers;
+#[cfg(test)]
+mod tests;
+mod vcpu;
+
+pub use cpu::Cpu;
+pub use guest::Guest;
+pub use hand::Hand;
+pub use inner::Inner;
+pub use vcpu::Vcpu;

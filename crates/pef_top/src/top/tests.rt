@@ -1,0 +1,44 @@
+use super::*;
+use pef_io::{MemSink, MemSource};
+use std::test::Fail;
+
+/// The outcome of `run` over a script, and what it writes.
+fn run(alloc: Global, script: &str) -> Result<(RunOutcome, MemSink), Fail> {
+    let mut words = Vec::new(alloc);
+    words.push(String::from_str(alloc, "run")?)?;
+    let mut source = MemSource::build(script.as_bytes().to_vec(alloc)?, Vec::new(alloc));
+    let mut sink = MemSink::build(alloc, 1000, Vec::new(alloc))?;
+    let outcome = pef_run(alloc, &words, &mut source, &mut sink);
+    Ok((outcome, sink))
+}
+
+#[test]
+fn two_cpus_take_turns_at_one_vcpu_under_either_seal(rt: HostRuntime) -> Result<(), Fail> {
+    // The report is written down by hand; the frame's digest is that of Python's hashlib.
+    let report =
+        "7 0 u.return enter\n8 1 u.return ret U_INVALID\n9 0 g.li done\n10 0 g.st done\n11 0 g.irq exit irq\n12 0 g.irq context\n13 0 h.st done\n14 1 u.return enter\n15 1 g.ld val 0x7\n16 1 g.ld hole\n17 0 h.ld val 0x5\nframe 0 728516f0a6b6eae3dc6c8f54317162b2266136c6560b8bfbbd6a838869f9ae5e\nfree 15\nend\n";
+    for script in [
+        "pef 1\nshift 8\ncpus 2\nseal stream\nborn 1\nbegin\n0 u.return 0 0\n1 u.return 0 0\n0 g.li r20 7\n0 g.st r20 0xff8\n0 g.irq\n0 g.irq\n0 h.st 8 5\n1 u.return 0 0\n1 g.ld r6 0xff8\n1 g.ld r7 0x1000\n0 h.ld 8\n",
+        "pef 1\nshift 8\ncpus 2\nseal vault\nborn 1\nbegin\n0 u.return 0 0\n1 u.return 0 0\n0 g.li r20 7\n0 g.st r20 0xff8\n0 g.irq\n0 g.irq\n0 h.st 8 5\n1 u.return 0 0\n1 g.ld r6 0xff8\n1 g.ld r7 0x1000\n0 h.ld 8\n",
+    ] {
+        let (outcome, sink) = run(rt.alloc(), script)?;
+        assert!(rt; outcome == RunOutcome::plain(0));
+        assert!(rt; sink.bytes() == report.as_bytes());
+    }
+    Ok(())
+}
+
+#[test]
+fn a_machine_past_limit_three_is_not_built(rt: HostRuntime) -> Result<(), Fail> {
+    let (outcome, sink) = run(rt.alloc(), "pef 1\nnormal 1024\nsecure 1\nborn 1\nbegin\n")?;
+    // 1,025 frames of 65,536 bytes.
+    let wanted = RunOutcome {
+        status: 6,
+        line: 3,
+        left: 67_174_400,
+        right: 67_108_864,
+    };
+    assert!(rt; outcome == wanted);
+    assert!(rt; sink.bytes().is_empty());
+    Ok(())
+}
