@@ -11,9 +11,9 @@ use Rattle.pef_model.specs.declared.state.Ctx.{Ctx}
 use Rattle.pef_model.specs.declared.state.Ctx.TheVariants as ctx
 use Rattle.pef_model.specs.declared.command.TheConstants.{UV_RETURN}
 use Rattle.pef_model.specs.declared.command.Cmd.{Cmd}
-use Rattle.pef_model.specs.declared.command.Cmd.TheVariants.{HLd, HSt, UReturn, GLi, GLd, GSt, GIrq}
+use Rattle.pef_model.specs.declared.command.Cmd.TheVariants.{HLd, HSt, UPageout, UReturn, GLi, GLd, GSt, GIrq, Go}
 use Rattle.pef_model.specs.declared.entry.Answer.{Answer}
-use Rattle.pef_model.specs.declared.entry.Answer.TheVariants.{Done, Val, Ret, Enter, Exit, Again, Gone, Hole, Context, Nothing}
+use Rattle.pef_model.specs.declared.entry.Answer.TheVariants.{Done, Val, Ret, Enter}
 use Rattle.pef_model.specs.Plan.{Plan}
 use Rattle.pef_model.specs.Event.{Event, newest}
 use Rattle.pef_model.specs.Registers.{number_of, load_return}
@@ -22,6 +22,7 @@ use Rattle.pef_model.specs.Guest.{Guest, start_guest, next_guest, registers_afte
 use Rattle.pef_model.specs.History.{guest_after, reg}
 use Rattle.pef_model.specs.SearchLaw.{decides_register, loaded_value, assigned_by_command, assigned_in, IsCommand, RegIsNewest}
 use Rattle.pef_model.proofs.Folds.{test_same, counts, skips}
+use Rattle.pef_model.proofs.Called.{length-called, called_value}
 
 -- the registers that a refused UV_RETURN of a guest leaves
 abbrev returned : List ℕ → ℕ → ℕ → List ℕ → ℕ → List ℕ
@@ -105,47 +106,18 @@ returned_value gpr outs r0 r2 code r h k small = by_zero (r == 0) refl where
 length_command : (regs : Regs) (cmd : Cmd) (a : Answer) → IsCommand cmd → length regs.gpr ≡ 32 → length (registers_after_command regs cmd a).gpr ≡ 32
 length_command regs (HLd ra) a k h = h
 length_command regs (HSt ra value) a k h = h
+length_command regs (UPageout lpid dest gpa flags order) (Ret code) k h = length-called regs.gpr lpid dest gpa flags order (number_of code) h
+length_command regs (UPageout lpid dest gpa flags order) a k h = h
 length_command regs (UReturn r0 r2 outs) (Ret code) k h = length-returned (loaded regs.gpr r0 r2) outs r0 r2 (number_of code) (length-loaded regs.gpr r0 r2 h) k
-length_command regs (UReturn r0 r2 outs) Done k h = h
-length_command regs (UReturn r0 r2 outs) (Val value) k h = h
-length_command regs (UReturn r0 r2 outs) Enter k h = h
-length_command regs (UReturn r0 r2 outs) (Exit exit) k h = h
-length_command regs (UReturn r0 r2 outs) Again k h = h
-length_command regs (UReturn r0 r2 outs) Gone k h = h
-length_command regs (UReturn r0 r2 outs) Hole k h = h
-length_command regs (UReturn r0 r2 outs) Context k h = h
-length_command regs (UReturn r0 r2 outs) Nothing k h = h
+length_command regs (UReturn r0 r2 outs) a k h = h
 length_command regs (GLi rd value) Done k h = simp length-set h
-length_command regs (GLi rd value) (Val v) k h = h
-length_command regs (GLi rd value) (Ret code) k h = h
-length_command regs (GLi rd value) Enter k h = h
-length_command regs (GLi rd value) (Exit exit) k h = h
-length_command regs (GLi rd value) Again k h = h
-length_command regs (GLi rd value) Gone k h = h
-length_command regs (GLi rd value) Hole k h = h
-length_command regs (GLi rd value) Context k h = h
-length_command regs (GLi rd value) Nothing k h = h
+length_command regs (GLi rd value) a k h = h
 length_command regs (GLd rd gpa) (Val value) k h = simp length-set h
-length_command regs (GLd rd gpa) Done k h = h
-length_command regs (GLd rd gpa) (Ret code) k h = h
-length_command regs (GLd rd gpa) Enter k h = h
-length_command regs (GLd rd gpa) (Exit exit) k h = h
-length_command regs (GLd rd gpa) Again k h = h
-length_command regs (GLd rd gpa) Gone k h = h
-length_command regs (GLd rd gpa) Hole k h = h
-length_command regs (GLd rd gpa) Context k h = h
-length_command regs (GLd rd gpa) Nothing k h = h
+length_command regs (GLd rd gpa) a k h = h
 length_command regs (GSt rs gpa) Done k h = h
-length_command regs (GSt rs gpa) (Val value) k h = h
-length_command regs (GSt rs gpa) (Ret code) k h = h
-length_command regs (GSt rs gpa) Enter k h = h
-length_command regs (GSt rs gpa) (Exit exit) k h = h
-length_command regs (GSt rs gpa) Again k h = h
-length_command regs (GSt rs gpa) Gone k h = h
-length_command regs (GSt rs gpa) Hole k h = h
-length_command regs (GSt rs gpa) Context k h = h
-length_command regs (GSt rs gpa) Nothing k h = h
+length_command regs (GSt rs gpa) a k h = h
 length_command regs GIrq a k h = h
+length_command regs Go a k h = h
 
 pub set_value : (gpr : List ℕ) (rd value r : ℕ) → length gpr ≡ 32 → rd < 32 → get_or (slice_set gpr rd value) r 0 ≡ unwrap_or (if r == rd then Some value else None) (get_or gpr r 0)
 set_value gpr rd value r h k = by_test (r == rd) refl where
@@ -158,47 +130,18 @@ command_value : (regs : Regs) (cmd : Cmd) (a : Answer) (r : ℕ) → IsCommand c
     get_or (registers_after_command regs cmd a).gpr r 0 ≡ unwrap_or (assigned_by_command cmd a r) (get_or regs.gpr r 0)
 command_value regs (HLd ra) a r k h small = refl
 command_value regs (HSt ra value) a r k h small = refl
+command_value regs (UPageout lpid dest gpa flags order) (Ret code) r k h small = called_value regs.gpr lpid dest gpa flags order (number_of code) r h
+command_value regs (UPageout lpid dest gpa flags order) a r k h small = refl
 command_value regs (UReturn r0 r2 outs) (Ret code) r k h small = returned_value regs.gpr outs r0 r2 (number_of code) r h k small
-command_value regs (UReturn r0 r2 outs) Done r k h small = refl
-command_value regs (UReturn r0 r2 outs) (Val value) r k h small = refl
-command_value regs (UReturn r0 r2 outs) Enter r k h small = refl
-command_value regs (UReturn r0 r2 outs) (Exit exit) r k h small = refl
-command_value regs (UReturn r0 r2 outs) Again r k h small = refl
-command_value regs (UReturn r0 r2 outs) Gone r k h small = refl
-command_value regs (UReturn r0 r2 outs) Hole r k h small = refl
-command_value regs (UReturn r0 r2 outs) Context r k h small = refl
-command_value regs (UReturn r0 r2 outs) Nothing r k h small = refl
+command_value regs (UReturn r0 r2 outs) a r k h small = refl
 command_value regs (GLi rd value) Done r k h small = set_value regs.gpr rd value r h k
-command_value regs (GLi rd value) (Val v) r k h small = refl
-command_value regs (GLi rd value) (Ret code) r k h small = refl
-command_value regs (GLi rd value) Enter r k h small = refl
-command_value regs (GLi rd value) (Exit exit) r k h small = refl
-command_value regs (GLi rd value) Again r k h small = refl
-command_value regs (GLi rd value) Gone r k h small = refl
-command_value regs (GLi rd value) Hole r k h small = refl
-command_value regs (GLi rd value) Context r k h small = refl
-command_value regs (GLi rd value) Nothing r k h small = refl
+command_value regs (GLi rd value) a r k h small = refl
 command_value regs (GLd rd gpa) (Val value) r k h small = set_value regs.gpr rd value r h k
-command_value regs (GLd rd gpa) Done r k h small = refl
-command_value regs (GLd rd gpa) (Ret code) r k h small = refl
-command_value regs (GLd rd gpa) Enter r k h small = refl
-command_value regs (GLd rd gpa) (Exit exit) r k h small = refl
-command_value regs (GLd rd gpa) Again r k h small = refl
-command_value regs (GLd rd gpa) Gone r k h small = refl
-command_value regs (GLd rd gpa) Hole r k h small = refl
-command_value regs (GLd rd gpa) Context r k h small = refl
-command_value regs (GLd rd gpa) Nothing r k h small = refl
+command_value regs (GLd rd gpa) a r k h small = refl
 command_value regs (GSt rs gpa) Done r k h small = refl
-command_value regs (GSt rs gpa) (Val value) r k h small = refl
-command_value regs (GSt rs gpa) (Ret code) r k h small = refl
-command_value regs (GSt rs gpa) Enter r k h small = refl
-command_value regs (GSt rs gpa) (Exit exit) r k h small = refl
-command_value regs (GSt rs gpa) Again r k h small = refl
-command_value regs (GSt rs gpa) Gone r k h small = refl
-command_value regs (GSt rs gpa) Hole r k h small = refl
-command_value regs (GSt rs gpa) Context r k h small = refl
-command_value regs (GSt rs gpa) Nothing r k h small = refl
+command_value regs (GSt rs gpa) a r k h small = refl
 command_value regs GIrq a r k h small = refl
+command_value regs Go a r k h small = refl
 
 -- UV_RETURN of the hypervisor moves no register of R0 to R31
 gpr_after_return : (regs : Regs) (cmd : Cmd) (a : Answer) → (registers_after_return regs cmd a).gpr ≡ regs.gpr
@@ -206,21 +149,15 @@ gpr_after_return regs (UReturn r0 r2 outs) Enter = by_test (r2 == 0) where
   by_test : (b : Bool) → (if b then regs else record regs { nip = r2; srr0 = regs.nip }).gpr ≡ regs.gpr
   by_test true = refl
   by_test false = refl
-gpr_after_return regs (UReturn r0 r2 outs) Done = refl
-gpr_after_return regs (UReturn r0 r2 outs) (Val value) = refl
-gpr_after_return regs (UReturn r0 r2 outs) (Ret code) = refl
-gpr_after_return regs (UReturn r0 r2 outs) (Exit exit) = refl
-gpr_after_return regs (UReturn r0 r2 outs) Again = refl
-gpr_after_return regs (UReturn r0 r2 outs) Gone = refl
-gpr_after_return regs (UReturn r0 r2 outs) Hole = refl
-gpr_after_return regs (UReturn r0 r2 outs) Context = refl
-gpr_after_return regs (UReturn r0 r2 outs) Nothing = refl
+gpr_after_return regs (UReturn r0 r2 outs) a = refl
 gpr_after_return regs (HLd ra) a = refl
 gpr_after_return regs (HSt ra value) a = refl
+gpr_after_return regs (UPageout lpid dest gpa flags order) a = refl
 gpr_after_return regs (GLi rd value) a = refl
 gpr_after_return regs (GLd rd gpa) a = refl
 gpr_after_return regs (GSt rs gpa) a = refl
 gpr_after_return regs GIrq a = refl
+gpr_after_return regs Go a = refl
 
 -- each vCPU has 32 registers
 abbrev AreFull : (ℕ → Regs) → Type 0
@@ -234,6 +171,7 @@ gpr_in_hypervisor registers selected cmd a vid = by_test (vid == selected) refl 
 
 full_after : (c : Ctx) (registers : ℕ → Regs) (selected : ℕ) (cmd : Cmd) (a : Answer) → IsCommand cmd → AreFull registers → AreFull (registers_after_in c registers selected cmd a)
 full_after ctx.Hv registers selected cmd a k full vid = ap length (gpr_in_hypervisor registers selected cmd a vid) ∙ full vid
+full_after (ctx.Uv work) registers selected cmd a k full vid = full vid
 full_after (ctx.Guest run) registers selected cmd a k full vid = by_test (vid == run.vid) where
   by_test : (b : Bool) → length (if b then registers_after_command (registers run.vid) cmd a else registers vid).gpr ≡ 32
   by_test true = length_command (registers run.vid) cmd a k (full run.vid)
@@ -242,6 +180,7 @@ full_after (ctx.Guest run) registers selected cmd a k full vid = by_test (vid ==
 value_after_step : (c : Ctx) (registers : ℕ → Regs) (selected : ℕ) (cmd : Cmd) (a : Answer) (vid r : ℕ) → IsCommand cmd → AreFull registers → r < 32 →
     get_or (registers_after_in c registers selected cmd a vid).gpr r 0 ≡ unwrap_or (assigned_in c vid cmd a r) (get_or (registers vid).gpr r 0)
 value_after_step ctx.Hv registers selected cmd a vid r k full small = ap (λ (gpr : List ℕ). get_or gpr r 0) (gpr_in_hypervisor registers selected cmd a vid)
+value_after_step (ctx.Uv work) registers selected cmd a vid r k full small = refl
 value_after_step (ctx.Guest run) registers selected cmd a vid r k full small = by_test (vid == run.vid) refl where
   by_test : (b : Bool) → (vid == run.vid) ≡ b →
       get_or (if b then registers_after_command (registers run.vid) cmd a else registers vid).gpr r 0

@@ -252,7 +252,7 @@ from_commands config number rest (Some lines) s settled least greatest read e =
       number + 2,
       record {
         starts = (omega arith, omega arith);
-        writable = record { range = settled.range; defaults = settled.defaults; counts = are.counts; cpus = are.cpus_below; cmds = are.cmds };
+        writable = record { range = settled.range; defaults = settled.defaults; counts = are.counts; cpus = are.cpus_below; directives = are.directives };
         whole = omega (arith, are.total);
       },
     )

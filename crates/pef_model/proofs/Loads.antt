@@ -27,11 +27,11 @@ running_gives plan g any ask rd gpa w false h = cc
 
 pub load_gives_last_store : LoadGivesLastStore
 load_gives_last_store plan past e run rd gpa value extends step =
-    let ask : Ask = ask_of (cpu_after plan e.trace.cpu past) in
-    let running : Ask = record { before = ctx.Guest run; lpid = ask.lpid; vid = ask.vid; last = ask.last } in
+    let ask : Ask = ask_of (cpu_after plan e.trace.cpu past) e.trace.cmd in
+    let running : Ask = record ask { before = ctx.Guest run } in
     let g : Guest = guest_after plan run.lpid past in
     let before : ask.before ≡ ctx.Guest run = ap (λ (x : Event). x.saw.before) (sym extends.is) ∙ step.before in
-    let same : ask ≡ running = (λ i. record { before = before i; lpid = ask.lpid; vid = ask.vid; last = ask.last }) in
+    let same : ask ≡ running = (λ i. record ask { before = before i }) in
     let answer : (next_entry_by plan past running (mark_of e) (GLd rd gpa)).trace.answer ≡ Val value =
     sym (ap (λ (a : Ask). (next_entry_by plan past a (mark_of e) e.trace.cmd).trace.answer) same ∙ ap (λ (cmd : Cmd). (next_entry_by plan past running (mark_of e) cmd).trace.answer) step.cmd_is)
     ∙ ap (λ (x : Event). x.trace.answer) (sym extends.is) ∙ step.answer_is in

@@ -5,13 +5,13 @@ use Rattle.pef_model.specs.declared.state.Regs.{Regs}
 use Rattle.pef_model.specs.declared.state.Ctx.{Ctx}
 use Rattle.pef_model.specs.declared.state.Ctx.TheVariants as ctx
 use Rattle.pef_model.specs.declared.command.Cmd.{Cmd}
-use Rattle.pef_model.specs.declared.command.Cmd.TheVariants.{HLd, HSt, UReturn, GLi, GLd, GSt, GIrq}
+use Rattle.pef_model.specs.declared.command.Cmd.TheVariants.{HLd, HSt, UPageout, UReturn, GLi, GLd, GSt, GIrq, Go}
 use Rattle.pef_model.specs.declared.entry.Exit.TheVariants as exit
 use Rattle.pef_model.specs.declared.entry.Answer.{Answer}
 use Rattle.pef_model.specs.declared.entry.Answer.TheVariants.{Done, Val, Ret, Enter, Exit, Again, Gone, Hole, Context}
 use Rattle.pef_model.specs.Plan.{Plan}
 use Rattle.pef_model.specs.Event.{Event}
-use Rattle.pef_model.specs.Target.{target_of_address, target_in, is_guest, touches_guest}
+use Rattle.pef_model.specs.Target.{target_of_address, target_of_number, target_in, is_guest, touches_guest}
 use Rattle.pef_model.specs.Guest.{Guest, next_guest, registers_after_command, registers_after_in, entered_at}
 use Rattle.pef_model.specs.History.{guest_after}
 use Rattle.pef_model.specs.StepLaw.{Steps, IsInterrupted, IsStepOf, TakesUp, registers_of, EachEntryLeavesRegisters}
@@ -39,6 +39,8 @@ steps : (regs : Regs) (run : Run) (cmd : Cmd) (a : Answer) (after : Ctx) (shown 
     Steps a regs (registers_after_command regs cmd a)
 steps regs run (HLd ra) Context after shown h = record { nip = refl; srr0 = refl }
 steps regs run (HSt ra value) Context after shown h = record { nip = refl; srr0 = refl }
+steps regs run (UPageout lpid dest gpa flags order) Gone after shown h = record { nip = refl; srr0 = refl }
+steps regs run (UPageout lpid dest gpa flags order) (Ret code) after shown h = record { nip = refl; srr0 = refl }
 steps regs run (UReturn r0 r2 outs) Gone after shown h = record { nip = refl; srr0 = refl }
 steps regs run (UReturn r0 r2 outs) (Ret code) after shown h = record { nip = refl; srr0 = refl }
 steps regs run (GLi rd value) Gone after shown h = record { nip = refl; srr0 = refl }
@@ -53,6 +55,7 @@ steps regs run (GLd rd gpa) Again after shown h = record { nip = refl; srr0 = re
 steps regs run (GSt rs gpa) Again after shown h = record { nip = refl; srr0 = refl }
 steps regs run GIrq Gone after shown h = record { nip = refl; srr0 = refl }
 steps regs run GIrq (Exit exit.Irq) after shown h = record { nip = refl; srr0 = refl }
+steps regs run Go Context after shown h = record { nip = refl; srr0 = refl }
 steps regs run cmd a after shown h = absurd h
 
 -- a step that aims at its own guest leaves its vCPU these registers
@@ -68,11 +71,13 @@ own_registers : (plan : Plan) (run : Run) (l v : ℕ) (cmd : Cmd) (a : Answer) (
     registers_by plan (ctx.Guest run) l v cmd a registers lpid vid ≡ registers_after_command (registers vid) cmd a
 own_registers plan run l v (HLd ra) a registers lpid vid here this = refl
 own_registers plan run l v (HSt ra value) a registers lpid vid here this = refl
+own_registers plan run l v (UPageout named dest gpa flags order) a registers lpid vid here this = aimed_registers run v (UPageout named dest gpa flags order) a registers lpid vid here this
 own_registers plan run l v (UReturn r0 r2 outs) a registers lpid vid here this = aimed_registers run v (UReturn r0 r2 outs) a registers lpid vid here this
 own_registers plan run l v (GLi rd value) a registers lpid vid here this = aimed_registers run v (GLi rd value) a registers lpid vid here this
 own_registers plan run l v (GLd rd gpa) a registers lpid vid here this = aimed_registers run v (GLd rd gpa) a registers lpid vid here this
 own_registers plan run l v (GSt rs gpa) a registers lpid vid here this = aimed_registers run v (GSt rs gpa) a registers lpid vid here this
 own_registers plan run l v GIrq a registers lpid vid here this = aimed_registers run v GIrq a registers lpid vid here this
+own_registers plan run l v Go a registers lpid vid here this = refl
 
 taken_registers : (plan : Plan) (r0 r2 : ℕ) (outs : List ℕ) (registers : ℕ → Regs) (lpid vid : ℕ) →
     registers_by plan ctx.Hv lpid vid (UReturn r0 r2 outs) Enter registers lpid vid ≡ entered_at (registers vid) r2
@@ -97,6 +102,11 @@ put_elsewhere true registers regs lpid vid v h = by_test (vid == v) refl where
   by_test true t = h t refl
   by_test false t = refl
 
+-- registers that an entry keeps are the same whether it touches the guest or not
+kept_by_test : (b : Bool) (regs : Regs) → (if b then regs else regs) ≡ regs
+kept_by_test true regs = refl
+kept_by_test false regs = refl
+
 others_stay : (plan : Plan) (c : Ctx) (l v : ℕ) (cmd : Cmd) (a : Answer) (registers : ℕ → Regs) (lpid vid : ℕ) →
     ((run : Run) → c ≡ ctx.Guest run → run.lpid ≡ lpid → run.vid ≡ vid → ⊥) →
     ((r0 r2 : ℕ) (outs : List ℕ) → c ≡ ctx.Hv → cmd ≡ UReturn r0 r2 outs → a ≡ Enter → l ≡ lpid → v ≡ vid → ⊥) →
@@ -105,6 +115,8 @@ others_stay plan ctx.Hv l v (HLd ra) a registers lpid vid own taken =
     put_elsewhere (is_guest lpid (target_of_address plan ra)) registers (registers v) lpid vid v (λ t u. ap registers (sym (test_same vid v t)))
 others_stay plan ctx.Hv l v (HSt ra value) a registers lpid vid own taken =
     put_elsewhere (is_guest lpid (target_of_address plan ra)) registers (registers v) lpid vid v (λ t u. ap registers (sym (test_same vid v t)))
+others_stay plan ctx.Hv l v (UPageout named dest gpa flags order) a registers lpid vid own taken =
+    put_elsewhere (is_guest lpid (target_of_number plan named)) registers (registers v) lpid vid v (λ t u. ap registers (sym (test_same vid v t)))
 others_stay plan ctx.Hv l v (UReturn r0 r2 outs) Enter registers lpid vid own taken =
     put_elsewhere (l == lpid) registers (entered_at (registers v) r2) lpid vid v
     (λ t u. absurd (taken r0 r2 outs refl refl refl (test_same l lpid u) (sym (test_same vid v t))))
@@ -114,6 +126,8 @@ others_stay plan ctx.Hv l v (GLi rd value) a registers lpid vid own taken = refl
 others_stay plan ctx.Hv l v (GLd rd gpa) a registers lpid vid own taken = refl
 others_stay plan ctx.Hv l v (GSt rs gpa) a registers lpid vid own taken = refl
 others_stay plan ctx.Hv l v GIrq a registers lpid vid own taken = refl
+others_stay plan ctx.Hv l v Go a registers lpid vid own taken = refl
+others_stay plan (ctx.Uv work) l v cmd a registers lpid vid own taken = kept_by_test (is_guest lpid (target_in plan (ctx.Uv work) l cmd)) (registers vid)
 others_stay plan (ctx.Guest run) l v cmd a registers lpid vid own taken =
     put_elsewhere (is_guest lpid (target_in plan (ctx.Guest run) l cmd)) registers (registers_after_command (registers run.vid) cmd a) lpid vid run.vid
     (λ t u. absurd (own run refl (own_guest plan run l lpid cmd u) (sym (test_same vid run.vid t))))
@@ -124,6 +138,7 @@ gpr_stays plan ctx.Hv l v cmd a registers lpid vid own = by_test (is_guest lpid 
   by_test : (b : Bool) → (if b then registers_after_in ctx.Hv registers v cmd a vid else registers vid).gpr ≡ (registers vid).gpr
   by_test true = gpr_in_hypervisor registers v cmd a vid
   by_test false = refl
+gpr_stays plan (ctx.Uv work) l v cmd a registers lpid vid own = ap (λ (x : Regs). x.gpr) (kept_by_test (is_guest lpid (target_in plan (ctx.Uv work) l cmd)) (registers vid))
 gpr_stays plan (ctx.Guest run) l v cmd a registers lpid vid own =
     ap (λ (x : Regs). x.gpr) (others_stay plan (ctx.Guest run) l v cmd a registers lpid vid own (λ r0 r2 outs h cmd_is answer_is here this. let no : ⊥ = cc in no))
 

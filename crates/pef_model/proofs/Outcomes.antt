@@ -1,21 +1,30 @@
 -- What each step's answer tells of the rest of its entry.
-use Rattle.std.proofs.Common.{◌≡◌, ℕ, List, [], ◌∷◌, Bool, true, false, refl, sym, subst, ◌==◌, ◌&&◌, if◌then◌else◌, nat_lt}
+use Rattle.std.proofs.Common.{◌≡◌, ℕ, List, [], ◌∷◌, Bool, true, false, refl, sym, subst, ◌==◌, ◌&&◌, if◌then◌else◌, nat_le, nat_lt, Option, Some, None}
 use Rattle.pef_model.specs.declared.state.Run.{Run}
+use Rattle.pef_model.specs.declared.state.Move.{Move}
+use Rattle.pef_model.specs.declared.state.Work.TheVariants.{Outward}
 use Rattle.pef_model.specs.declared.state.Ctx.{Ctx}
 use Rattle.pef_model.specs.declared.state.Ctx.TheVariants as ctx
-use Rattle.pef_model.specs.declared.command.Code.TheVariants.{UInvalid}
+use Rattle.pef_model.specs.declared.command.Code.{Code}
+use Rattle.pef_model.specs.declared.command.Code.TheVariants.{USuccess, UParameter, UInvalid}
 use Rattle.pef_model.specs.declared.command.Cmd.{Cmd}
-use Rattle.pef_model.specs.declared.command.Cmd.TheVariants.{HLd, HSt, UReturn, GLi, GLd, GSt, GIrq}
+use Rattle.pef_model.specs.declared.command.Cmd.TheVariants.{HLd, HSt, UPageout, UReturn, GLi, GLd, GSt, GIrq, Go}
 use Rattle.pef_model.specs.declared.entry.Exit.TheVariants as exit
 use Rattle.pef_model.specs.declared.entry.Answer.{Answer}
-use Rattle.pef_model.specs.declared.entry.Answer.TheVariants.{Done, Val, Ret, Enter, Exit, Again, Gone, Hole, Context}
+use Rattle.pef_model.specs.declared.entry.Answer.TheVariants.{Done, Val, Ret, Step, Enter, Exit, Again, Gone, Hole, Context}
 use Rattle.pef_model.specs.Plan.{Plan}
 use Rattle.pef_model.specs.Event.{Event}
 use Rattle.pef_model.specs.Target.{Ask, Alone, AtGuest, AtFrame, frame_of, has_real_place, target_in}
 use Rattle.pef_model.specs.GuestPart.{GuestPart}
 use Rattle.pef_model.specs.Guest.{Guest, private_doubleword}
-use Rattle.pef_model.specs.Deed.{Deed, Reach, NoPage, InFrame, Backs, NoFrame, Moves, answering, may_return_in, is_waiting, deed_return, reach, deed_access, deed_running, deed_gone}
-use Rattle.pef_model.specs.History.{cpu_after, guest_after, pool_after, deed_after, Extends}
+use Rattle.pef_model.specs.PageOut.{page_out_code}
+use Rattle.pef_model.specs.Deed.{Deed, Reach, NoPage, InFrame, Backs, NoFrame, Moves, answering, giving, coming_back, returning, may_return_in, is_waiting, deed_page_out_begin, deed_return, reach, deed_access, deed_running, deed_gone}
+use Rattle.pef_model.specs.History.{cpu_after, guest_after, pool_after, deed_after, ask_of, Extends}
+
+-- a context in which a page of this guest has begun to move outward
+abbrev pub Begins : ℕ → Ctx → Type 0
+Begins lpid (ctx.Uv (Outward move)) = (move.lpid ≡ lpid) × (move.copied ≡ false)
+Begins lpid other = ⊥
 
 -- the answers that a step can give, each with the context after it and the values that it lets out
 abbrev pub Outcome : Ctx → Cmd → Answer → Ctx → List ℕ → Type 0
@@ -25,16 +34,27 @@ Outcome ctx.Hv (HLd ra) a after shown = ⊥
 Outcome ctx.Hv (HSt ra value) Done after shown = (after ≡ ctx.Hv) × (shown ≡ [])
 Outcome ctx.Hv (HSt ra value) Hole after shown = (after ≡ ctx.Hv) × (shown ≡ [])
 Outcome ctx.Hv (HSt ra value) a after shown = ⊥
+Outcome ctx.Hv (UPageout lpid dest gpa flags order) Step after shown = Begins lpid after × (shown ≡ [])
+Outcome ctx.Hv (UPageout lpid dest gpa flags order) (Ret code) after shown = (after ≡ ctx.Hv) × (shown ≡ [])
+Outcome ctx.Hv (UPageout lpid dest gpa flags order) a after shown = ⊥
 Outcome ctx.Hv (UReturn r0 r2 outs) Enter after shown = shown ≡ []
 Outcome ctx.Hv (UReturn r0 r2 outs) (Ret code) after shown = (after ≡ ctx.Hv) × (shown ≡ [])
 Outcome ctx.Hv (UReturn r0 r2 outs) a after shown = ⊥
 Outcome ctx.Hv cmd Context after shown = (after ≡ ctx.Hv) × (shown ≡ [])
 Outcome ctx.Hv cmd a after shown = ⊥
+Outcome (ctx.Uv (Outward move)) Go Step after shown = (after ≡ ctx.Uv (Outward (record move { copied = true }))) × (shown ≡ [])
+Outcome (ctx.Uv (Outward move)) Go (Ret code) after shown = (after ≡ ctx.Hv) × (shown ≡ [])
+Outcome (ctx.Uv work) Go a after shown = ⊥
+Outcome (ctx.Uv work) cmd Context after shown = (after ≡ ctx.Uv work) × (shown ≡ [])
+Outcome (ctx.Uv work) cmd a after shown = ⊥
 Outcome (ctx.Guest run) (HLd ra) Context after shown = (after ≡ ctx.Guest run) × (shown ≡ [])
 Outcome (ctx.Guest run) (HLd ra) a after shown = ⊥
 Outcome (ctx.Guest run) (HSt ra value) Context after shown = (after ≡ ctx.Guest run) × (shown ≡ [])
 Outcome (ctx.Guest run) (HSt ra value) a after shown = ⊥
+Outcome (ctx.Guest run) Go Context after shown = (after ≡ ctx.Guest run) × (shown ≡ [])
+Outcome (ctx.Guest run) Go a after shown = ⊥
 Outcome (ctx.Guest run) cmd Gone after shown = (after ≡ ctx.Hv) × (shown ≡ [])
+Outcome (ctx.Guest run) (UPageout lpid dest gpa flags order) (Ret code) after shown = (after ≡ ctx.Guest run) × (shown ≡ lpid ∷ dest ∷ gpa ∷ flags ∷ order ∷ [])
 Outcome (ctx.Guest run) (UReturn r0 r2 outs) (Ret code) after shown = (after ≡ ctx.Guest run) × (shown ≡ r0 ∷ r2 ∷ outs)
 Outcome (ctx.Guest run) (GLi rd value) Done after shown = (after ≡ ctx.Guest run) × (shown ≡ [])
 Outcome (ctx.Guest run) (GLd rd gpa) (Val value) after shown = (after ≡ ctx.Guest run) × (shown ≡ [])
@@ -68,30 +88,59 @@ running_comes : (plan : Plan) (g : Guest) (any : Bool) (run : Run) (ask : Ask) (
     Comes (ctx.Guest run) cmd (deed_running plan g any ask cmd)
 running_comes plan g any run ask (HLd ra) h = (h, refl)
 running_comes plan g any run ask (HSt ra value) h = (h, refl)
+running_comes plan g any run ask (UPageout lpid dest gpa flags order) h = (h, refl)
 running_comes plan g any run ask (UReturn r0 r2 outs) h = (h, refl)
 running_comes plan g any run ask (GLi rd value) h = (h, refl)
 running_comes plan g any run ask (GLd rd gpa) h = load_comes run ask rd gpa (private_doubleword plan g gpa) (reach plan g.part any gpa) h
 running_comes plan g any run ask (GSt rs gpa) h = store_comes run ask rs gpa (reach plan g.part any gpa) h
 running_comes plan g any run ask GIrq h = (refl, refl)
+running_comes plan g any run ask Go h = (h, refl)
 
-return_comes : (g : GuestPart) (lpid vid : ℕ) (last : Answer) (r0 r2 : ℕ) (outs : List ℕ) →
-    Comes ctx.Hv (UReturn r0 r2 outs) (deed_return g (record { before = ctx.Hv; lpid = lpid; vid = vid; last = last }))
-return_comes g lpid vid last r0 r2 outs = by_test (may_return_in g.phase && is_waiting (g.vcpus vid).state) where
+return_comes : (g : GuestPart) (asked : Ask) (r0 r2 : ℕ) (outs : List ℕ) → Comes ctx.Hv (UReturn r0 r2 outs) (deed_return g (record asked { before = ctx.Hv }))
+return_comes g asked r0 r2 outs = by_test (may_return_in g.phase && is_waiting (g.vcpus asked.vid).state) where
   ask : Ask
-  ask = record { before = ctx.Hv; lpid = lpid; vid = vid; last = last }
+  ask = record asked { before = ctx.Hv }
 
   by_test : (b : Bool) → Comes ctx.Hv (UReturn r0 r2 outs)
-      (if b then (record (answering ask Enter) { after = ctx.Guest (record { lpid = lpid; vid = vid; generation = g.generation }) }) else answering ask (Ret UInvalid))
+      (if b then (record (answering ask Enter) { after = ctx.Guest (record { lpid = ask.lpid; vid = ask.vid; generation = g.generation }) }) else answering ask (Ret UInvalid))
   by_test true = refl
   by_test false = (refl, refl)
 
--- a command of a guest, which answers Gone where the guest has ended
-guest_comes : (plan : Plan) (past : List Event) (run : Run) (lpid vid : ℕ) (last : Answer) (cmd : Cmd) →
-    ((ask : Ask) → Comes (ctx.Guest run) cmd (deed_gone ask)) →
-    Comes (ctx.Guest run) cmd (deed_after plan past (record { before = ctx.Guest run; lpid = lpid; vid = vid; last = last }) cmd (AtGuest run.lpid))
-guest_comes plan past run lpid vid last cmd gone = by_test (run.generation == (guest_after plan run.lpid past).part.generation) where
+-- a page-out, whether it names a guest or not
+page_out_comes : (plan : Plan) (past : List Event) (asked : Ask) (lpid dest gpa flags order : ℕ) (b : Bool) →
+    Comes ctx.Hv (UPageout lpid dest gpa flags order)
+    (deed_after plan past (record asked { before = ctx.Hv }) (UPageout lpid dest gpa flags order) (if b then AtGuest lpid else Alone))
+page_out_comes plan past asked lpid dest gpa flags order false = (refl, refl)
+page_out_comes plan past asked lpid dest gpa flags order true = by_code (page_out_code plan g.part dest gpa flags order) where
   ask : Ask
-  ask = record { before = ctx.Guest run; lpid = lpid; vid = vid; last = last }
+  ask = record asked { before = ctx.Hv }
+
+  g : Guest
+  g = guest_after plan lpid past
+
+  by_code : (code : Option Code) → Comes ctx.Hv (UPageout lpid dest gpa flags order) (returning ask code (deed_page_out_begin plan g ask lpid dest gpa))
+  by_code None = ((refl, refl), refl)
+  by_code (Some code) = (refl, refl)
+
+-- a step of a page-out in progress, whether its page is copied or not
+move_comes : (plan : Plan) (past : List Event) (asked : Ask) (move : Move) (b : Bool) →
+    Comes (ctx.Uv (Outward move)) Go
+    (deed_after plan past (record asked { before = ctx.Uv (Outward move) }) Go (if b then AtGuest move.lpid else AtFrame move.frame))
+move_comes plan past asked move false = (refl, refl)
+move_comes plan past asked move true = by_life (move.generation == (guest_after plan move.lpid past).part.generation) where
+  ask : Ask
+  ask = record asked { before = ctx.Uv (Outward move) }
+
+  by_life : (b : Bool) → Comes (ctx.Uv (Outward move)) Go (if b then giving (coming_back ask USuccess) 1 else coming_back ask UParameter)
+  by_life true = (refl, refl)
+  by_life false = (refl, refl)
+
+-- a command of a guest, which answers Gone where the guest has ended
+guest_comes : (plan : Plan) (past : List Event) (run : Run) (asked : Ask) (cmd : Cmd) → ((ask : Ask) → Comes (ctx.Guest run) cmd (deed_gone ask)) →
+    Comes (ctx.Guest run) cmd (deed_after plan past (record asked { before = ctx.Guest run }) cmd (AtGuest run.lpid))
+guest_comes plan past run asked cmd gone = by_test (run.generation == (guest_after plan run.lpid past).part.generation) where
+  ask : Ask
+  ask = record asked { before = ctx.Guest run }
 
   g : Guest
   g = guest_after plan run.lpid past
@@ -104,39 +153,72 @@ guest_comes plan past run lpid vid last cmd gone = by_test (run.generation == (g
   by_test false = gone ask
 
 -- a load of the hypervisor, whether its address has a place in a normal frame or not
-normal_load_comes : (plan : Plan) (past : List Event) (lpid vid : ℕ) (last : Answer) (ra : ℕ) (b : Bool) →
-    Comes ctx.Hv (HLd ra)
-    (deed_after plan past (record { before = ctx.Hv; lpid = lpid; vid = vid; last = last }) (HLd ra) (if b then AtFrame (frame_of plan ra) else Alone))
-normal_load_comes plan past lpid vid last ra true = (refl, refl)
-normal_load_comes plan past lpid vid last ra false = (refl, refl)
+normal_load_comes : (plan : Plan) (past : List Event) (asked : Ask) (ra : ℕ) (b : Bool) →
+    Comes ctx.Hv (HLd ra) (deed_after plan past (record asked { before = ctx.Hv }) (HLd ra) (if b then AtFrame (frame_of plan ra) else Alone))
+normal_load_comes plan past asked ra true = (refl, refl)
+normal_load_comes plan past asked ra false = (refl, refl)
 
 -- a store of the hypervisor likewise
-normal_store_comes : (plan : Plan) (past : List Event) (lpid vid : ℕ) (last : Answer) (ra value : ℕ) (b : Bool) →
-    Comes ctx.Hv (HSt ra value)
-    (deed_after plan past (record { before = ctx.Hv; lpid = lpid; vid = vid; last = last }) (HSt ra value) (if b then AtFrame (frame_of plan ra) else Alone))
-normal_store_comes plan past lpid vid last ra value true = (refl, refl)
-normal_store_comes plan past lpid vid last ra value false = (refl, refl)
+normal_store_comes : (plan : Plan) (past : List Event) (asked : Ask) (ra value : ℕ) (b : Bool) →
+    Comes ctx.Hv (HSt ra value) (deed_after plan past (record asked { before = ctx.Hv }) (HSt ra value) (if b then AtFrame (frame_of plan ra) else Alone))
+normal_store_comes plan past asked ra value true = (refl, refl)
+normal_store_comes plan past asked ra value false = (refl, refl)
 
-deed_comes : (plan : Plan) (past : List Event) (c : Ctx) (lpid vid : ℕ) (last : Answer) (cmd : Cmd) →
-    Comes c cmd (deed_after plan past (record { before = c; lpid = lpid; vid = vid; last = last }) cmd (target_in plan c lpid cmd))
-deed_comes plan past ctx.Hv lpid vid last (HLd ra) = normal_load_comes plan past lpid vid last ra (has_real_place plan ra)
-deed_comes plan past ctx.Hv lpid vid last (HSt ra value) = normal_store_comes plan past lpid vid last ra value (has_real_place plan ra)
-deed_comes plan past ctx.Hv lpid vid last (UReturn r0 r2 outs) = return_comes (guest_after plan lpid past).part lpid vid last r0 r2 outs
-deed_comes plan past ctx.Hv lpid vid last (GLi rd value) = (refl, refl)
-deed_comes plan past ctx.Hv lpid vid last (GLd rd gpa) = (refl, refl)
-deed_comes plan past ctx.Hv lpid vid last (GSt rs gpa) = (refl, refl)
-deed_comes plan past ctx.Hv lpid vid last GIrq = (refl, refl)
-deed_comes plan past (ctx.Guest run) lpid vid last (HLd ra) = (refl, refl)
-deed_comes plan past (ctx.Guest run) lpid vid last (HSt ra value) = (refl, refl)
-deed_comes plan past (ctx.Guest run) lpid vid last (UReturn r0 r2 outs) = guest_comes plan past run lpid vid last (UReturn r0 r2 outs) (λ ask. (refl, refl))
-deed_comes plan past (ctx.Guest run) lpid vid last (GLi rd value) = guest_comes plan past run lpid vid last (GLi rd value) (λ ask. (refl, refl))
-deed_comes plan past (ctx.Guest run) lpid vid last (GLd rd gpa) = guest_comes plan past run lpid vid last (GLd rd gpa) (λ ask. (refl, refl))
-deed_comes plan past (ctx.Guest run) lpid vid last (GSt rs gpa) = guest_comes plan past run lpid vid last (GSt rs gpa) (λ ask. (refl, refl))
-deed_comes plan past (ctx.Guest run) lpid vid last GIrq = guest_comes plan past run lpid vid last GIrq (λ ask. (refl, refl))
+deed_comes : (plan : Plan) (past : List Event) (c : Ctx) (asked : Ask) (cmd : Cmd) →
+    Comes c cmd (deed_after plan past (record asked { before = c }) cmd (target_in plan c asked.lpid cmd))
+deed_comes plan past ctx.Hv asked (HLd ra) = normal_load_comes plan past asked ra (has_real_place plan ra)
+deed_comes plan past ctx.Hv asked (HSt ra value) = normal_store_comes plan past asked ra value (has_real_place plan ra)
+deed_comes plan past ctx.Hv asked (UPageout lpid dest gpa flags order) = page_out_comes plan past asked lpid dest gpa flags order (nat_le 1 lpid && nat_le lpid plan.guests)
+deed_comes plan past ctx.Hv asked (UReturn r0 r2 outs) = return_comes (guest_after plan asked.lpid past).part asked r0 r2 outs
+deed_comes plan past ctx.Hv asked (GLi rd value) = (refl, refl)
+deed_comes plan past ctx.Hv asked (GLd rd gpa) = (refl, refl)
+deed_comes plan past ctx.Hv asked (GSt rs gpa) = (refl, refl)
+deed_comes plan past ctx.Hv asked GIrq = (refl, refl)
+deed_comes plan past ctx.Hv asked Go = (refl, refl)
+deed_comes plan past (ctx.Uv (Outward move)) asked (HLd ra) = (refl, refl)
+deed_comes plan past (ctx.Uv (Outward move)) asked (HSt ra value) = (refl, refl)
+deed_comes plan past (ctx.Uv (Outward move)) asked (UPageout lpid dest gpa flags order) = (refl, refl)
+deed_comes plan past (ctx.Uv (Outward move)) asked (UReturn r0 r2 outs) = (refl, refl)
+deed_comes plan past (ctx.Uv (Outward move)) asked (GLi rd value) = (refl, refl)
+deed_comes plan past (ctx.Uv (Outward move)) asked (GLd rd gpa) = (refl, refl)
+deed_comes plan past (ctx.Uv (Outward move)) asked (GSt rs gpa) = (refl, refl)
+deed_comes plan past (ctx.Uv (Outward move)) asked GIrq = (refl, refl)
+deed_comes plan past (ctx.Uv (Outward move)) asked Go = move_comes plan past asked move move.copied
+deed_comes plan past (ctx.Guest run) asked (HLd ra) = (refl, refl)
+deed_comes plan past (ctx.Guest run) asked (HSt ra value) = (refl, refl)
+deed_comes plan past (ctx.Guest run) asked (UPageout lpid dest gpa flags order) = guest_comes plan past run asked (UPageout lpid dest gpa flags order) (λ ask. (refl, refl))
+deed_comes plan past (ctx.Guest run) asked (UReturn r0 r2 outs) = guest_comes plan past run asked (UReturn r0 r2 outs) (λ ask. (refl, refl))
+deed_comes plan past (ctx.Guest run) asked (GLi rd value) = guest_comes plan past run asked (GLi rd value) (λ ask. (refl, refl))
+deed_comes plan past (ctx.Guest run) asked (GLd rd gpa) = guest_comes plan past run asked (GLd rd gpa) (λ ask. (refl, refl))
+deed_comes plan past (ctx.Guest run) asked (GSt rs gpa) = guest_comes plan past run asked (GSt rs gpa) (λ ask. (refl, refl))
+deed_comes plan past (ctx.Guest run) asked GIrq = guest_comes plan past run asked GIrq (λ ask. (refl, refl))
+deed_comes plan past (ctx.Guest run) asked Go = (refl, refl)
 
 -- an entry that extends a history has such an outcome
 pub outcome : (plan : Plan) (past : List Event) (e : Event) → Extends plan past e → Outcome e.saw.before e.trace.cmd e.trace.answer e.saw.after e.saw.shown
 outcome plan past e extends =
     let cpu = cpu_after plan e.trace.cpu past in
     subst (λ (x : Event). Outcome x.saw.before x.trace.cmd x.trace.answer x.saw.after x.saw.shown) (sym extends.is)
-    (deed_comes plan past cpu.ctx cpu.lpid cpu.vid cpu.last e.trace.cmd)
+    (deed_comes plan past cpu.ctx (ask_of cpu e.trace.cmd) e.trace.cmd)
+
+-- what the answer of a step tells while a page moves outward, whatever its command is
+abbrev pub Moving : Move → Answer → Ctx → List ℕ → Type 0
+Moving move Step after shown = (after ≡ ctx.Uv (Outward (record move { copied = true }))) × (shown ≡ [])
+Moving move (Ret code) after shown = (after ≡ ctx.Hv) × (shown ≡ [])
+Moving move Context after shown = (after ≡ ctx.Uv (Outward move)) × (shown ≡ [])
+Moving move a after shown = ⊥
+
+-- only go does anything then
+pub moving : (move : Move) (cmd : Cmd) (a : Answer) (after : Ctx) (shown : List ℕ) → Outcome (ctx.Uv (Outward move)) cmd a after shown → Moving move a after shown
+moving move Go Step after shown h = h
+moving move Go (Ret code) after shown h = h
+moving move Go a after shown h = absurd h
+moving move (HLd ra) Context after shown h = h
+moving move (HSt ra value) Context after shown h = h
+moving move (UPageout lpid dest gpa flags order) Context after shown h = h
+moving move (UReturn r0 r2 outs) Context after shown h = h
+moving move (GLi rd value) Context after shown h = h
+moving move (GLd rd gpa) Context after shown h = h
+moving move (GSt rs gpa) Context after shown h = h
+moving move GIrq Context after shown h = h
+moving move cmd a after shown h = absurd h

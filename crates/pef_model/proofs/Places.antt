@@ -4,7 +4,7 @@ use Rattle.std.proofs.Math.Pow.{mod-mod-pow}
 use Rattle.std.proofs.lemmas.Nat.{pow-add, pow_pos, mod_below, shr_split}
 
 -- a page is some number of doublewords
-doublewords_of : (shift : ℕ) → 8 ≤ shift → 2 ^ shift ≡ 2 ^ (shift - 3) * 8
+pub doublewords_of : (shift : ℕ) → 8 ≤ shift → 2 ^ shift ≡ 2 ^ (shift - 3) * 8
 doublewords_of shift least =
     let split : shift ≡ (shift - 3) + 3 = omega arith in
     ap (λ (n : ℕ). 2 ^ n) split ∙ pow-add 2 (shift - 3) 3

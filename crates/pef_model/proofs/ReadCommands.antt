@@ -1,16 +1,18 @@
 -- Lemmas on commands that are read: they can be written.
 use Rattle.std.proofs.Common.{◌≡◌, ◌<◌, ℕ, ◌+◌, ◌^◌, Bool, true, false, cond, ◌&&◌, List, [], ◌∷◌, length, drop, replicate, refl, ap, subst, arith, suc}
-use Rattle.std.specs.Prelude.{Option, Some, None, nat_eq, nat_lt, nat_le, codes, option_and_then, if◌then◌else◌}
+use Rattle.std.specs.Prelude.{Option, Some, None, nat_eq, nat_lt, nat_le, codes, option_map, option_and_then, if◌then◌else◌}
 use Rattle.std.specs.Char.{is_digit}
 use Rattle.std.specs.List.{AllByRecursion, list_all, starts_with}
 use Rattle.std.specs.Str.{bytes_eq}
 use Rattle.std.specs.Str.Parse.{digits_value}
 use Rattle.std.proofs.lemmas.Bool.{ltb-true}
 use Rattle.std.proofs.lemmas.Option.{cond_some, same_Some}
+use Rattle.pef_model.specs.declared.command.Directive.{Directive}
+use Rattle.pef_model.specs.declared.command.Directive.TheVariants.{Once, GoAll}
 use Rattle.pef_model.specs.declared.command.Cmd.{Cmd}
-use Rattle.pef_model.specs.declared.command.Cmd.TheVariants.{HLd, HSt, UReturn, GLi, GLd, GSt, GIrq}
-use Rattle.pef_model.specs.Script.{Line, load_of, store_of, return_of, guest_command_of, bare_command_of, short_command_of, command_of, command_in, numbered_line, line_in, before_lines, command_lines}
-use Rattle.pef_model.specs.ScriptText.{CanBeWritten, CountsFrom}
+use Rattle.pef_model.specs.declared.command.Cmd.TheVariants.{HLd, HSt, UPageout, UReturn, GLi, GLd, GSt, GIrq, Go}
+use Rattle.pef_model.specs.Script.{Line, load_of, store_of, return_of, guest_command_of, page_out_of, bare_directive_of, short_command_of, command_of, long_command_of, directive_in, numbered_line, line_in, before_lines, command_lines}
+use Rattle.pef_model.specs.ScriptText.{CanBeWritten, DirectiveCanBeWritten, CountsFrom}
 use Rattle.pef_model.specs.Words.{words_of, numeral_in, number_in, number_below, register_at, register_in}
 
 -- a value is in the limit if there is one
@@ -94,13 +96,16 @@ guest_written make (Some i) (Some m) written first second cmd e =
     let same : make i m ≡ cmd = cc in
     subst CanBeWritten same (written i m (first i refl) (second m refl))
 
-interrupt_written : AllWritten (Some GIrq)
-interrupt_written cmd e =
-    let same : GIrq ≡ cmd = cc in
-    subst CanBeWritten same tt
-
-bare_command_of_written : (name : List ℕ) → AllWritten (bare_command_of name)
-bare_command_of_written name = either_written (bytes_eq name (codes "g.irq")) (Some GIrq) None interrupt_written none_written
+page_out_written : (lpid dest gpa flags order : Option ℕ) → AllBelow (2 ^ 64) lpid → AllBelow (2 ^ 64) dest → AllBelow (2 ^ 64) gpa → AllBelow (2 ^ 64) flags → AllBelow (2 ^ 64) order →
+    AllWritten (page_out_of lpid dest gpa flags order)
+page_out_written None dest gpa flags order h1 h2 h3 h4 h5 cmd e = absurd (cc)
+page_out_written (Some l) None gpa flags order h1 h2 h3 h4 h5 cmd e = absurd (cc)
+page_out_written (Some l) (Some d) None flags order h1 h2 h3 h4 h5 cmd e = absurd (cc)
+page_out_written (Some l) (Some d) (Some g) None order h1 h2 h3 h4 h5 cmd e = absurd (cc)
+page_out_written (Some l) (Some d) (Some g) (Some f) None h1 h2 h3 h4 h5 cmd e = absurd (cc)
+page_out_written (Some l) (Some d) (Some g) (Some f) (Some o) h1 h2 h3 h4 h5 cmd e =
+    let same : UPageout l d g f o ≡ cmd = cc in
+    subst CanBeWritten same (h1 l refl, h2 d refl, h3 g refl, h4 f refl, h5 o refl)
 
 short_command_of_written : (name operand : List ℕ) → AllWritten (short_command_of name operand)
 short_command_of_written name operand = either_written (bytes_eq name (codes "h.ld")) _ None (load_written (number_in operand) (number_fits operand)) none_written
@@ -113,12 +118,45 @@ command_of_written name first second =
     (either_written (bytes_eq name (codes "g.ld")) _ _ (guest_written GLd (register_in first) (number_in second) (λ i m r n. (r, n)) (register_below first) (number_fits second))
     (either_written (bytes_eq name (codes "g.st")) _ None (guest_written GSt (register_in first) (number_in second) (λ i m r n. (r, n)) (register_below first) (number_fits second)) none_written))))
 
-command_in_written : (words : List (List ℕ)) → AllWritten (command_in words)
-command_in_written [] = none_written
-command_in_written (name ∷ []) = bare_command_of_written name
-command_in_written (name ∷ operand ∷ []) = short_command_of_written name operand
-command_in_written (name ∷ first ∷ second ∷ []) = command_of_written name first second
-command_in_written (a ∷ b ∷ c ∷ d ∷ more) = none_written
+long_command_of_written : (name lpid dest gpa flags order : List ℕ) → AllWritten (long_command_of name lpid dest gpa flags order)
+long_command_of_written name lpid dest gpa flags order =
+    either_written (bytes_eq name (codes "u.pageout")) _ None
+    (page_out_written (number_in lpid) (number_in dest) (number_in gpa) (number_in flags) (number_in order)
+    (number_fits lpid) (number_fits dest) (number_fits gpa) (number_fits flags) (number_fits order)) none_written
+
+-- a directive can be written if there is one
+abbrev AllDirected : Option Directive → Type 0
+AllDirected found = (directive : Directive) → found ≡ Some directive → DirectiveCanBeWritten directive
+
+none_directed : AllDirected None
+none_directed directive e = absurd (cc)
+
+some_directed : (one : Directive) → DirectiveCanBeWritten one → AllDirected (Some one)
+some_directed one written directive e = subst DirectiveCanBeWritten (same_Some _ _ e) written
+
+either_directed : (test : Bool) (a b : Option Directive) → AllDirected a → AllDirected b → AllDirected (cond test a b)
+either_directed true a b written other = written
+either_directed false a b written other = other
+
+once_directed : (found : Option Cmd) → AllWritten found → AllDirected (option_map Once found)
+once_directed None written = none_directed
+once_directed (Some cmd) written = some_directed (Once cmd) (written cmd refl)
+
+bare_directed : (name : List ℕ) → AllDirected (bare_directive_of name)
+bare_directed name =
+    either_directed (bytes_eq name (codes "g.irq")) _ _ (some_directed (Once GIrq) tt)
+    (either_directed (bytes_eq name (codes "go")) _ _ (some_directed (Once Go) tt)
+    (either_directed (bytes_eq name (codes "go*")) _ None (some_directed GoAll tt) none_directed))
+
+directive_in_written : (words : List (List ℕ)) → AllDirected (directive_in words)
+directive_in_written [] = none_directed
+directive_in_written (name ∷ []) = bare_directed name
+directive_in_written (name ∷ operand ∷ []) = once_directed _ (short_command_of_written name operand)
+directive_in_written (name ∷ first ∷ second ∷ []) = once_directed _ (command_of_written name first second)
+directive_in_written (a ∷ b ∷ c ∷ d ∷ []) = none_directed
+directive_in_written (a ∷ b ∷ c ∷ d ∷ e ∷ []) = none_directed
+directive_in_written (name ∷ lpid ∷ dest ∷ gpa ∷ flags ∷ order ∷ []) = once_directed _ (long_command_of_written name lpid dest gpa flags order)
+directive_in_written (a ∷ b ∷ c ∷ d ∷ e ∷ f ∷ g ∷ more) = none_directed
 
 below_limit : (limit n : ℕ) (found : Option ℕ) → option_and_then (λ m. if nat_lt m limit then Some m else None) found ≡ Some n → n < limit
 below_limit limit n None e = absurd (cc)
@@ -127,31 +165,31 @@ below_limit limit n (Some m) e =
     let below : m < limit = ltb-true m limit found.0 in
     omega (arith, found.1, below)
 
--- a line that is read has its number, one of the CPUs, and a command that can be written
+-- a line that is read has its number, one of the CPUs, and a directive that can be written
 record IsRead (cpus number : ℕ) (line : Line) : Type 0 where
   number_is : line.number ≡ number
   cpu : line.cpu < cpus
-  cmd : CanBeWritten line.cmd
+  directive : DirectiveCanBeWritten line.directive
 
-line_read_from : (cpus number : ℕ) (cpu : Option ℕ) (cmd : Option Cmd) (line : Line) → ((n : ℕ) → cpu ≡ Some n → n < cpus) → AllWritten cmd →
-    numbered_line number cpu cmd ≡ Some line → IsRead cpus number line
+line_read_from : (cpus number : ℕ) (cpu : Option ℕ) (directive : Option Directive) (line : Line) → ((n : ℕ) → cpu ≡ Some n → n < cpus) → AllDirected directive →
+    numbered_line number cpu directive ≡ Some line → IsRead cpus number line
 line_read_from cpus number None None line below written e = absurd (cc)
-line_read_from cpus number None (Some cmd) line below written e = absurd (cc)
+line_read_from cpus number None (Some directive) line below written e = absurd (cc)
 line_read_from cpus number (Some cpu) None line below written e = absurd (cc)
-line_read_from cpus number (Some cpu) (Some cmd) line below written e =
-    let same : record { number = number; cpu = cpu; cmd = cmd } ≡ line = same_Some _ _ e in
-    subst (IsRead cpus number) same (record { number_is = refl; cpu = below cpu refl; cmd = written cmd refl })
+line_read_from cpus number (Some cpu) (Some directive) line below written e =
+    let same : record { number = number; cpu = cpu; directive = directive } ≡ line = same_Some _ _ e in
+    subst (IsRead cpus number) same (record { number_is = refl; cpu = below cpu refl; directive = written directive refl })
 
 line_read : (cpus number : ℕ) (words : List (List ℕ)) (line : Line) → line_in cpus number words ≡ Some line → IsRead cpus number line
 line_read cpus number [] line e = absurd (cc)
-line_read cpus number (cpu ∷ command) line e =
-    line_read_from cpus number (number_below cpus cpu) (command_in command) line (λ n is. below_limit cpus n (number_in cpu) is) (command_in_written command) e
+line_read cpus number (cpu ∷ words) line e =
+    line_read_from cpus number (number_below cpus cpu) (directive_in words) line (λ n is. below_limit cpus n (number_in cpu) is) (directive_in_written words) e
 
 -- lines that are read, of so many texts
 pub record AreRead (cpus number count : ℕ) (lines : List Line) : Type 0 where
   pub counts : CountsFrom number lines
   pub cpus_below : AllByRecursion (λ (line : Line). line.cpu < cpus) lines
-  pub cmds : AllByRecursion (λ (line : Line). CanBeWritten line.cmd) lines
+  pub directives : AllByRecursion (λ (line : Line). DirectiveCanBeWritten line.directive) lines
   pub total : length lines ≡ count
 
 before_read : (cpus number count : ℕ) (found : Option Line) (others : Option (List Line)) (lines : List Line) → ((line : Line) → found ≡ Some line → IsRead cpus number line) →
@@ -164,13 +202,13 @@ before_read cpus number count (Some line) (Some more) lines first rest e =
     let one = first line refl in
     let others = rest more refl in
     subst (AreRead cpus number (suc count)) same
-    (record { counts = (one.number_is, others.counts); cpus_below = (one.cpu, others.cpus_below); cmds = (one.cmd, others.cmds); total = ap suc others.total })
+    (record { counts = (one.number_is, others.counts); cpus_below = (one.cpu, others.cpus_below); directives = (one.directive, others.directives); total = ap suc others.total })
 
 -- command lines are read from as many texts
 pub command_lines_read : (cpus number : ℕ) (texts : List (List ℕ)) (lines : List Line) → command_lines cpus number texts ≡ Some lines → AreRead cpus number (length texts) lines
 command_lines_read cpus number [] lines e =
     let same : [] ≡ lines = same_Some _ _ e in
-    subst (AreRead cpus number 0) same (record { counts = tt; cpus_below = tt; cmds = tt; total = refl })
+    subst (AreRead cpus number 0) same (record { counts = tt; cpus_below = tt; directives = tt; total = refl })
 command_lines_read cpus number (text ∷ more) lines e =
     before_read cpus number (length more) (line_in cpus number (words_of text)) (command_lines cpus (number + 1) more) lines (line_read cpus number (words_of text))
     (command_lines_read cpus (number + 1) more) e

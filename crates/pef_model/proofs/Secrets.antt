@@ -1,62 +1,35 @@
 -- What an entry makes of the public state doesn't depend on what a guest alone knows.
-use Rattle.std.proofs.Common.{◌≡◌, ℕ, Bool, true, false, ◌==◌, if◌then◌else◌, List, [], ◌∷◌, map, refl, ap, sym, subst, ◌∙◌}
+use Rattle.std.proofs.Common.{◌≡◌, ℕ, Bool, true, false, List, [], ◌∷◌, map, refl, ap, sym, ◌∙◌}
 use Rattle.pef_model.specs.declared.state.Ctx.{Ctx}
 use Rattle.pef_model.specs.declared.state.Ctx.TheVariants as ctx
 use Rattle.pef_model.specs.declared.command.Cmd.{Cmd}
-use Rattle.pef_model.specs.declared.command.Cmd.TheVariants.{HLd, HSt, UReturn, GLi, GLd, GSt, GIrq}
+use Rattle.pef_model.specs.declared.command.Cmd.TheVariants.{GLi, GLd, GSt, GIrq}
 use Rattle.pef_model.specs.declared.entry.Answer.{Answer}
-use Rattle.pef_model.specs.declared.entry.Answer.TheVariants.{Done, Val, Ret, Enter, Exit, Again, Gone, Hole, Context, Nothing}
+use Rattle.pef_model.specs.declared.entry.Answer.TheVariants.{Val}
 use Rattle.pef_model.specs.Plan.{Plan}
 use Rattle.pef_model.specs.Event.{Event, value_after}
-use Rattle.pef_model.specs.Target.{Ask, target_in, is_guest, touches_cpu, touches_guest, touches_pool, touches_frame}
-use Rattle.pef_model.specs.Cpu.{start_cpu, CpuPart, next_cpu, cpu_after_in, cpu_after_guest, own_after, last_after}
+use Rattle.pef_model.specs.Target.{is_guest, touches_cpu, touches_guest, touches_pool, touches_frame}
+use Rattle.pef_model.specs.Cpu.{start_cpu, CpuPart, next_cpu, cpu_after_in, cpu_after_guest, own_after, hand_after, last_after}
 use Rattle.pef_model.specs.GuestPart.{start_part, GuestPart, page_of, next_part, part_after_in, part_after_guest, part_after_hypervisor, part_after_access, part_after_interrupt}
-use Rattle.pef_model.specs.Memory.{start_pool, next_pool, start_frame, next_frame, written, written_in}
-use Rattle.pef_model.specs.Guest.{Guest, start_guest, next_guest, private_doubleword}
-use Rattle.pef_model.specs.Registers.{fresh_registers}
+use Rattle.pef_model.specs.Memory.{start_pool, next_pool, start_frame, next_frame, written, copied, written_in}
+use Rattle.pef_model.specs.Guest.{Guest, start_guest, next_guest}
 use Rattle.pef_model.specs.declared.state.Run.{Run}
-use Rattle.pef_model.specs.Deed.{Deed, Reach, NoPage, InFrame, Backs, NoFrame, Moves, deed_access, deed_running, deed_gone, deed_hypervisor, deed_guest_in, deed_guest, reach}
 use Rattle.pef_model.specs.History.{cpu_after, guest_after, pool_after, frame_after}
 use Rattle.pef_model.proofs.Folds.{counts, skips}
-use Rattle.pef_model.proofs.Opened.{alone_open}
-use Rattle.pef_model.specs.SecretLaw.{AgreeButValue, SecretsStayIn, NoSecretInOneEntry, NoSecretInDeeds, open_cmd, open_answer, open_answer_of_guest, open_entry, NoSecretInPublicState}
-
-pub target_open : (plan : Plan) (c : Ctx) (lpid : ℕ) (cmd : Cmd) → target_in plan c lpid cmd ≡ target_in plan c lpid (open_cmd cmd)
-target_open plan ctx.Hv lpid (HLd ra) = refl
-target_open plan ctx.Hv lpid (HSt ra value) = refl
-target_open plan ctx.Hv lpid (UReturn r0 r2 outs) = refl
-target_open plan ctx.Hv lpid (GLi rd value) = refl
-target_open plan ctx.Hv lpid (GLd rd gpa) = refl
-target_open plan ctx.Hv lpid (GSt rs gpa) = refl
-target_open plan ctx.Hv lpid GIrq = refl
-target_open plan (ctx.Guest run) lpid (HLd ra) = refl
-target_open plan (ctx.Guest run) lpid (HSt ra value) = refl
-target_open plan (ctx.Guest run) lpid (UReturn r0 r2 outs) = refl
-target_open plan (ctx.Guest run) lpid (GLi rd value) = refl
-target_open plan (ctx.Guest run) lpid (GLd rd gpa) = refl
-target_open plan (ctx.Guest run) lpid (GSt rs gpa) = refl
-target_open plan (ctx.Guest run) lpid GIrq = refl
+use Rattle.pef_model.proofs.Opened.{target_open}
+use Rattle.pef_model.specs.SecretLaw.{SecretsStayIn, NoSecretInOneEntry, open_cmd, open_answer, open_answer_of_guest, open_entry, NoSecretInPublicState}
 
 own_open : (own : List ℕ) (cmd : Cmd) (a : Answer) → own_after own cmd a ≡ own_after own (open_cmd cmd) a
-own_open own (HLd ra) a = refl
-own_open own (HSt ra value) a = refl
-own_open own (UReturn r0 r2 outs) a = refl
 own_open own (GLi rd value) a = refl
-own_open own (GLd rd gpa) a = refl
-own_open own (GSt rs gpa) a = refl
-own_open own GIrq a = refl
+own_open own cmd a = refl
+
+hand_open : (hand : List ℕ) (cmd : Cmd) (a : Answer) (bytes : List ℕ) → hand_after hand cmd a bytes ≡ hand_after hand (open_cmd cmd) a bytes
+hand_open hand (GLi rd value) a bytes = refl
+hand_open hand cmd a bytes = refl
 
 cpu_guest_open : (cpu : CpuPart) (run : Run) (a : Answer) → cpu_after_guest cpu run a ≡ cpu_after_guest cpu run (open_answer_of_guest a)
-cpu_guest_open cpu run Done = refl
 cpu_guest_open cpu run (Val value) = refl
-cpu_guest_open cpu run (Ret code) = refl
-cpu_guest_open cpu run Enter = refl
-cpu_guest_open cpu run (Exit exit) = refl
-cpu_guest_open cpu run Again = refl
-cpu_guest_open cpu run Gone = refl
-cpu_guest_open cpu run Hole = refl
-cpu_guest_open cpu run Context = refl
-cpu_guest_open cpu run Nothing = refl
+cpu_guest_open cpu run a = refl
 
 -- an entry opened as in this context
 abbrev opened : Ctx → Event → Event
@@ -65,71 +38,53 @@ opened c e = record e { trace = record e.trace { cmd = open_cmd e.trace.cmd; ans
 cpu_open : (cpu : CpuPart) (e : Event) → next_cpu cpu e ≡ next_cpu cpu (open_entry e)
 cpu_open cpu e = by_ctx e.saw.before where
   by_ctx : (c : Ctx) → cpu_after_in c cpu e ≡ cpu_after_in c cpu (opened c e)
-  by_ctx ctx.Hv =
-      ap (λ (own : List ℕ). record cpu { ctx = e.saw.after; own = own; last = last_after cpu.last e.trace.answer }) (own_open cpu.own e.trace.cmd e.trace.answer)
+  by_ctx ctx.Hv = (λ i. record cpu {
+    ctx = e.saw.after;
+    own = own_open cpu.own e.trace.cmd e.trace.answer i;
+    last = last_after cpu.last e.trace.answer;
+    hand = hand_open cpu.hand e.trace.cmd e.trace.answer e.bytes i;
+  })
+  by_ctx (ctx.Uv work) = refl
   by_ctx (ctx.Guest run) = cpu_guest_open cpu run e.trace.answer
 
 access_open : (g : GuestPart) (gfn : ℕ) (a : Answer) → part_after_access g gfn a ≡ part_after_access g gfn (open_answer_of_guest a)
-access_open g gfn Done = refl
 access_open g gfn (Val value) = refl
-access_open g gfn (Ret code) = refl
-access_open g gfn Enter = refl
-access_open g gfn (Exit exit) = refl
-access_open g gfn Again = refl
-access_open g gfn Gone = refl
-access_open g gfn Hole = refl
-access_open g gfn Context = refl
-access_open g gfn Nothing = refl
+access_open g gfn a = refl
 
 interrupt_open : (g : GuestPart) (v : ℕ) (a : Answer) → part_after_interrupt g v a ≡ part_after_interrupt g v (open_answer_of_guest a)
-interrupt_open g v Done = refl
 interrupt_open g v (Val value) = refl
-interrupt_open g v (Ret code) = refl
-interrupt_open g v Enter = refl
-interrupt_open g v (Exit exit) = refl
-interrupt_open g v Again = refl
-interrupt_open g v Gone = refl
-interrupt_open g v Hole = refl
-interrupt_open g v Context = refl
-interrupt_open g v Nothing = refl
+interrupt_open g v a = refl
 
 guest_open : (plan : Plan) (g : GuestPart) (e : Event) → next_part plan g e ≡ next_part plan g (open_entry e)
 guest_open plan g e = by_ctx e.saw.before where
-  by_cmd : (cmd : Cmd) → part_after_hypervisor g cmd e ≡ part_after_hypervisor g (open_cmd cmd) (opened ctx.Hv e)
-  by_cmd (HLd ra) = refl
-  by_cmd (HSt ra value) = refl
-  by_cmd (UReturn r0 r2 outs) = refl
+  by_cmd : (cmd : Cmd) → part_after_hypervisor plan g cmd e ≡ part_after_hypervisor plan g (open_cmd cmd) (opened ctx.Hv e)
   by_cmd (GLi rd value) = refl
-  by_cmd (GLd rd gpa) = refl
-  by_cmd (GSt rs gpa) = refl
-  by_cmd GIrq = refl
+  by_cmd cmd = refl
 
   by_guest : (v : ℕ) (cmd : Cmd) (a : Answer) → part_after_guest plan g v cmd a ≡ part_after_guest plan g v (open_cmd cmd) (open_answer_of_guest a)
-  by_guest v (HLd ra) a = refl
-  by_guest v (HSt ra value) a = refl
-  by_guest v (UReturn r0 r2 outs) a = refl
-  by_guest v (GLi rd value) a = refl
   by_guest v (GLd rd gpa) a = access_open g (page_of plan gpa) a
   by_guest v (GSt rs gpa) a = access_open g (page_of plan gpa) a
   by_guest v GIrq a = interrupt_open g v a
+  by_guest v cmd a = refl
 
   by_ctx : (c : Ctx) → part_after_in c plan g e ≡ part_after_in c plan g (opened c e)
   by_ctx ctx.Hv = by_cmd e.trace.cmd
+  by_ctx (ctx.Uv work) = refl
   by_ctx (ctx.Guest run) = by_guest run.vid e.trace.cmd e.trace.answer
 
 written_open : (plan : Plan) (bytes : List ℕ) (cmd : Cmd) (a : Answer) → written plan bytes cmd a ≡ written plan bytes (open_cmd cmd) a
-written_open plan bytes (HLd ra) a = refl
-written_open plan bytes (HSt ra value) a = refl
-written_open plan bytes (UReturn r0 r2 outs) a = refl
 written_open plan bytes (GLi rd value) a = refl
-written_open plan bytes (GLd rd gpa) a = refl
-written_open plan bytes (GSt rs gpa) a = refl
-written_open plan bytes GIrq a = refl
+written_open plan bytes cmd a = refl
+
+copied_open : (bytes : List ℕ) (cmd : Cmd) (a : Answer) (hand : List ℕ) → copied bytes cmd a hand ≡ copied bytes (open_cmd cmd) a hand
+copied_open bytes (GLi rd value) a hand = refl
+copied_open bytes cmd a hand = refl
 
 frame_open : (plan : Plan) (bytes : List ℕ) (e : Event) → next_frame plan bytes e ≡ next_frame plan bytes (open_entry e)
 frame_open plan bytes e = by_ctx e.saw.before where
-  by_ctx : (c : Ctx) → written_in c plan bytes e.trace.cmd e.trace.answer ≡ written_in c plan bytes (open_cmd e.trace.cmd) (open_answer c e.trace.answer)
+  by_ctx : (c : Ctx) → written_in c plan bytes e.trace.cmd e.trace.answer e.bytes ≡ written_in c plan bytes (open_cmd e.trace.cmd) (open_answer c e.trace.answer) e.bytes
   by_ctx ctx.Hv = written_open plan bytes e.trace.cmd e.trace.answer
+  by_ctx (ctx.Uv work) = copied_open bytes e.trace.cmd e.trace.answer e.bytes
   by_ctx (ctx.Guest run) = refl
 
 pub no_secret_in_one_entry : NoSecretInOneEntry
@@ -198,73 +153,3 @@ no_secret_in_public_state plan past other same =
     let part : (lpid : ℕ) → (guest_after plan lpid past).part ≡ (guest_after plan lpid other).part =
     (λ lpid. part_after plan lpid past ∙ agree.part lpid ∙ sym (part_after plan lpid other)) in
     (λ i. record { cpus = λ n. agree.cpu n i; guests = λ lpid. part lpid i; pool = agree.pool i; frames = λ n. agree.frame n i })
-
--- a guest of this public part, with nothing in its memory and registers
-abbrev bare : GuestPart → Guest
-bare part = record { part = part; content = λ gpa. 0; registers = λ vid. fresh_registers }
-
-agree_sym : (c : Ctx) (x y : Deed) → AgreeButValue c x y → AgreeButValue c y x
-agree_sym c x y h = record { answer = sym h.answer; after = sym h.after; shown = sym h.shown; pool = sym h.pool; frame = sym h.frame; bytes = sym h.bytes }
-
-agree_trans : (c : Ctx) (x y z : Deed) → AgreeButValue c x y → AgreeButValue c y z → AgreeButValue c x z
-agree_trans c x y z h k = record {
-  answer = h.answer ∙ k.answer;
-  after = h.after ∙ k.after;
-  shown = h.shown ∙ k.shown;
-  pool = h.pool ∙ k.pool;
-  frame = h.frame ∙ k.frame;
-  bytes = h.bytes ∙ k.bytes;
-}
-
-same_deed : (c : Ctx) (x : Deed) → AgreeButValue c x x
-same_deed c x = record { answer = refl; after = refl; shown = refl; pool = refl; frame = refl; bytes = refl }
-
-access_agrees : (run : Run) (ask : Ask) (v w : ℕ) (r : Reach) → AgreeButValue (ctx.Guest run) (deed_access ask (Val v) r) (deed_access ask (Val w) r)
-access_agrees run ask v w NoPage = same_deed (ctx.Guest run) (deed_access ask (Val v) NoPage)
-access_agrees run ask v w InFrame = record { answer = refl; after = refl; shown = refl; pool = refl; frame = refl; bytes = refl }
-access_agrees run ask v w Backs = record { answer = refl; after = refl; shown = refl; pool = refl; frame = refl; bytes = refl }
-access_agrees run ask v w NoFrame = same_deed (ctx.Guest run) (deed_access ask (Val v) NoFrame)
-access_agrees run ask v w Moves = same_deed (ctx.Guest run) (deed_access ask (Val v) Moves)
-
-running_agrees : (plan : Plan) (g : Guest) (any : Bool) (run : Run) (ask : Ask) (cmd : Cmd) →
-    AgreeButValue (ctx.Guest run) (deed_running plan g any ask cmd) (deed_running plan (bare g.part) any ask (open_cmd cmd))
-running_agrees plan g any run ask (HLd ra) = same_deed (ctx.Guest run) (deed_running plan g any ask (HLd ra))
-running_agrees plan g any run ask (HSt ra value) = same_deed (ctx.Guest run) (deed_running plan g any ask (HSt ra value))
-running_agrees plan g any run ask (UReturn r0 r2 outs) = same_deed (ctx.Guest run) (deed_running plan g any ask (UReturn r0 r2 outs))
-running_agrees plan g any run ask (GLi rd value) = same_deed (ctx.Guest run) (deed_running plan g any ask (GLi rd value))
-running_agrees plan g any run ask (GLd rd gpa) = access_agrees run ask (private_doubleword plan g gpa) (private_doubleword plan (bare g.part) gpa) (reach plan g.part any gpa)
-running_agrees plan g any run ask (GSt rs gpa) = same_deed (ctx.Guest run) (deed_running plan g any ask (GSt rs gpa))
-running_agrees plan g any run ask GIrq = same_deed (ctx.Guest run) (deed_running plan g any ask GIrq)
-
-hypervisor_agrees : (g : GuestPart) (ask : Ask) (cmd : Cmd) → AgreeButValue ctx.Hv (deed_hypervisor g ask cmd) (deed_hypervisor g ask (open_cmd cmd))
-hypervisor_agrees g ask (HLd ra) = same_deed ctx.Hv (deed_hypervisor g ask (HLd ra))
-hypervisor_agrees g ask (HSt ra value) = same_deed ctx.Hv (deed_hypervisor g ask (HSt ra value))
-hypervisor_agrees g ask (UReturn r0 r2 outs) = same_deed ctx.Hv (deed_hypervisor g ask (UReturn r0 r2 outs))
-hypervisor_agrees g ask (GLi rd value) = record {
-  answer = alone_open ask.before (GLi rd value);
-  after = refl;
-  shown = refl;
-  pool = refl;
-  frame = refl;
-  bytes = refl;
-}
-hypervisor_agrees g ask (GLd rd gpa) = same_deed ctx.Hv (deed_hypervisor g ask (GLd rd gpa))
-hypervisor_agrees g ask (GSt rs gpa) = same_deed ctx.Hv (deed_hypervisor g ask (GSt rs gpa))
-hypervisor_agrees g ask GIrq = same_deed ctx.Hv (deed_hypervisor g ask GIrq)
-
-deed_agrees : (plan : Plan) (g : Guest) (any : Bool) (ask : Ask) (cmd : Cmd) (c : Ctx) →
-    AgreeButValue c (deed_guest_in c plan g any ask cmd) (deed_guest_in c plan (bare g.part) any ask (open_cmd cmd))
-deed_agrees plan g any ask cmd ctx.Hv = hypervisor_agrees g.part ask cmd
-deed_agrees plan g any ask cmd (ctx.Guest run) = by_test (run.generation == g.part.generation) where
-  by_test : (b : Bool) → AgreeButValue (ctx.Guest run) (if b then deed_running plan g any ask cmd else deed_gone ask) (if b then deed_running plan (bare g.part) any ask (open_cmd cmd) else deed_gone ask)
-  by_test true = running_agrees plan g any run ask cmd
-  by_test false = same_deed (ctx.Guest run) (deed_gone ask)
-
-pub no_secret_in_deeds : NoSecretInDeeds
-no_secret_in_deeds plan one other any ask cmd with_ parts cmds =
-    let left : AgreeButValue ask.before (deed_guest plan one any ask cmd) (deed_guest plan (bare one.part) any ask (open_cmd cmd)) = deed_agrees plan one any ask cmd ask.before in
-    let right : AgreeButValue ask.before (deed_guest plan other any ask with_) (deed_guest plan (bare other.part) any ask (open_cmd with_)) = deed_agrees plan other any ask with_ ask.before in
-    let same : deed_guest plan (bare one.part) any ask (open_cmd cmd) ≡ deed_guest plan (bare other.part) any ask (open_cmd with_) =
-    ap (λ (g : GuestPart). deed_guest plan (bare g) any ask (open_cmd cmd)) parts ∙ ap (deed_guest plan (bare other.part) any ask) cmds in
-    agree_trans ask.before _ _ _ left
-    (subst (λ (d : Deed). AgreeButValue ask.before d (deed_guest plan other any ask with_)) (sym same) (agree_sym ask.before _ _ right))

@@ -1,25 +1,28 @@
 -- The objects that an entry touches decide whether it extends a history.
-use Rattle.std.proofs.Common.{◌≡◌, ℕ, Bool, true, false, ◌==◌, ◌&&◌, nat_lt, if◌then◌else◌, List, refl, ap, sym, ◌∙◌, Some}
+use Rattle.std.proofs.Common.{◌≡◌, ℕ, Bool, true, false, ◌==◌, ◌&&◌, nat_lt, if◌then◌else◌, List, refl, ap, sym, ◌∙◌, Option, Some, None}
 use Rattle.std.specs.Prelude.{is_some}
 use Rattle.pef_model.specs.declared.state.Kind.{Kind}
 use Rattle.pef_model.specs.declared.state.Kind.TheVariants as kind
+use Rattle.pef_model.specs.declared.state.Work.TheVariants.{Outward}
 use Rattle.pef_model.specs.declared.state.Ctx.{Ctx}
 use Rattle.pef_model.specs.declared.state.Ctx.TheVariants as ctx
 use Rattle.pef_model.specs.declared.command.Cmd.{Cmd}
-use Rattle.pef_model.specs.declared.command.Cmd.TheVariants.{HLd, HSt, UReturn, GLi, GLd, GSt, GIrq}
-use Rattle.pef_model.specs.declared.command.Code.TheVariants.{UInvalid}
+use Rattle.pef_model.specs.declared.command.Cmd.TheVariants.{UPageout, UReturn, GLd, GSt, Go}
+use Rattle.pef_model.specs.declared.command.Code.{Code}
+use Rattle.pef_model.specs.declared.command.Code.TheVariants.{USuccess, UParameter, UInvalid}
 use Rattle.pef_model.specs.declared.entry.Answer.{Answer}
 use Rattle.pef_model.specs.declared.entry.Answer.TheVariants.{Enter, Ret}
 use Rattle.pef_model.specs.declared.entry.PoolSaw.{PoolSaw}
 use Rattle.pef_model.specs.Plan.{Plan}
 use Rattle.pef_model.specs.Event.{Event, mark_of}
-use Rattle.pef_model.specs.Target.{Ask, Target, Alone, AtGuest, AtFrame, target_in, is_guest, is_number, touches_frame, touches_guest, touches_pool}
+use Rattle.pef_model.specs.Target.{Ask, Target, Alone, AtGuest, AtFrame, target_of_running, target_in, is_guest, is_number, touches_frame, touches_guest, touches_pool}
 use Rattle.pef_model.specs.Cpu.{CpuPart}
-use Rattle.pef_model.specs.GuestPart.{Page, GuestPart, has_place, page_of}
+use Rattle.pef_model.specs.GuestPart.{Page, has_place, page_of}
 use Rattle.pef_model.specs.Guest.{Guest}
-use Rattle.pef_model.specs.Deed.{answering, may_return_in, is_waiting, NoPage, Moves, reach_of, reach_kind, reach_invalid, deed_access, deed_running, deed_gone, deed_hypervisor, deed_guest_in, deed_guest, deed_frame}
+use Rattle.pef_model.specs.PageOut.{page_out_code}
+use Rattle.pef_model.specs.Deed.{Deed, answering, giving, returning, coming_back, deed_page_out_begin, may_return_in, is_waiting, NoPage, Moves, reach_of, reach_kind, reach_invalid, deed_access, deed_running, deed_gone, deed_hypervisor, deed_guest_in, deed_guest, deed_frame_in, deed_frame}
 use Rattle.pef_model.specs.History.{cpu_after, guest_after, pool_after, frame_after, ask_of, entry_of, deed_after, next_entry, next_entry_by}
-use Rattle.pef_model.specs.ReadLaw.{TouchedObjectsDecide, AskedIsTold}
+use Rattle.pef_model.specs.ReadLaw.{asks_pool, TouchedObjectsDecide, AskedIsTold}
 use Rattle.pef_model.proofs.Folds.{same_test}
 
 -- an access that didn't ask for a frame is the same whether one is free or not
@@ -48,31 +51,40 @@ placed_asks ask success false page any free h = refl
 
 running_asks : (plan : Plan) (g : Guest) (any free : Bool) (ask : Ask) (cmd : Cmd) → (is_some (deed_running plan g any ask cmd).pool ≡ true → any ≡ free) →
     deed_running plan g any ask cmd ≡ deed_running plan g free ask cmd
-running_asks plan g any free ask (HLd ra) h = refl
-running_asks plan g any free ask (HSt ra value) h = refl
-running_asks plan g any free ask (UReturn r0 r2 outs) h = refl
-running_asks plan g any free ask (GLi rd value) h = refl
 running_asks plan g any free ask (GLd rd gpa) h = placed_asks ask _ (has_place plan gpa) (g.part.pages (page_of plan gpa)) any free h
 running_asks plan g any free ask (GSt rs gpa) h = placed_asks ask _ (has_place plan gpa) (g.part.pages (page_of plan gpa)) any free h
-running_asks plan g any free ask GIrq h = refl
+running_asks plan g any free ask cmd h = refl
 
 -- what was not asked of the pool makes no difference
 deed_asks : (plan : Plan) (g : Guest) (any free : Bool) (ask : Ask) (cmd : Cmd) (c : Ctx) → (is_some (deed_guest_in c plan g any ask cmd).pool ≡ true → any ≡ free) →
     deed_guest_in c plan g any ask cmd ≡ deed_guest_in c plan g free ask cmd
 deed_asks plan g any free ask cmd ctx.Hv h = refl
+deed_asks plan g any free ask cmd (ctx.Uv work) h = refl
 deed_asks plan g any free ask cmd (ctx.Guest run) h = by_test (run.generation == g.part.generation) h where
   by_test : (b : Bool) → (is_some (if b then deed_running plan g any ask cmd else deed_gone ask).pool ≡ true → any ≡ free) →
       (if b then deed_running plan g any ask cmd else deed_gone ask) ≡ (if b then deed_running plan g free ask cmd else deed_gone ask)
   by_test true k = running_asks plan g any free ask cmd k
   by_test false k = refl
 
+-- a step that aims at a normal frame touches it: none of a guest does
+at_frame : (plan : Plan) (n : ℕ) (bytes : List ℕ) (ask : Ask) (cmd : Cmd) → target_in plan ask.before ask.lpid cmd ≡ AtFrame n → is_number n (deed_frame plan n bytes ask cmd).frame ≡ true
+at_frame plan n bytes ask cmd is = by_ctx ask.before is where
+  running : (l : ℕ) (cmd : Cmd) → target_of_running l cmd ≡ AtFrame n → is_number n None ≡ true
+  running l Go h = cc
+  running l cmd h = cc
+
+  by_ctx : (c : Ctx) → target_in plan c ask.lpid cmd ≡ AtFrame n → is_number n (deed_frame_in c plan n bytes ask cmd).frame ≡ true
+  by_ctx ctx.Hv h = same_test n
+  by_ctx (ctx.Uv (Outward move)) h = same_test n
+  by_ctx (ctx.Guest run) h = running run.lpid cmd h
+
 pub touched_objects_decide : TouchedObjectsDecide
 touched_objects_decide plan past other e agree extends = record { cpu = extends.cpu; is = extends.is ∙ by_target (target_in plan ask.before ask.lpid e.trace.cmd) refl ∙ asked } where
   ask : Ask
-  ask = ask_of (cpu_after plan e.trace.cpu past)
+  ask = ask_of (cpu_after plan e.trace.cpu past) e.trace.cmd
 
   asked : next_entry_by plan other ask (mark_of e) e.trace.cmd ≡ next_entry plan other (mark_of e) e.trace.cmd
-  asked = ap (λ (cpu : CpuPart). next_entry_by plan other (ask_of cpu) (mark_of e) e.trace.cmd) agree.cpu
+  asked = ap (λ (cpu : CpuPart). next_entry_by plan other (ask_of cpu e.trace.cmd) (mark_of e) e.trace.cmd) agree.cpu
 
   free : List Event → Bool
   free history = nat_lt 0 (pool_after plan history)
@@ -90,7 +102,7 @@ touched_objects_decide plan past other e agree extends = record { cpu = extends.
       ∙ ap (λ (g : Guest). deed_guest plan g (free other) ask e.trace.cmd) (agree.guest lpid touched)
 
   frames : (n : ℕ) → target_in plan ask.before ask.lpid e.trace.cmd ≡ AtFrame n → frame_after plan n past ≡ frame_after plan n other
-  frames n is = agree.frame n (ap (touches_frame n) extends.is ∙ ap (λ (t : Target). is_number n (deed_after plan past ask e.trace.cmd t).frame) is ∙ same_test n)
+  frames n is = agree.frame n (ap (touches_frame n) extends.is ∙ ap (λ (t : Target). is_number n (deed_after plan past ask e.trace.cmd t).frame) is ∙ at_frame plan n (frame_after plan n past) ask e.trace.cmd is)
 
   by_target : (t : Target) → target_in plan ask.before ask.lpid e.trace.cmd ≡ t → next_entry_by plan past ask (mark_of e) e.trace.cmd ≡ next_entry_by plan other ask (mark_of e) e.trace.cmd
   by_target Alone is = ap (at past) is ∙ sym (ap (at other) is)
@@ -118,30 +130,32 @@ placed_tells ask success true page any saw h = access_tells ask success (is_some
 placed_tells ask success false page any saw h = cc
 
 running_tells : (plan : Plan) (g : Guest) (any : Bool) (ask : Ask) (cmd : Cmd) (saw : PoolSaw) → (deed_running plan g any ask cmd).pool ≡ Some saw → saw.any ≡ any
-running_tells plan g any ask (HLd ra) saw h = cc
-running_tells plan g any ask (HSt ra value) saw h = cc
-running_tells plan g any ask (UReturn r0 r2 outs) saw h = cc
-running_tells plan g any ask (GLi rd value) saw h = cc
 running_tells plan g any ask (GLd rd gpa) saw h = placed_tells ask _ (has_place plan gpa) (g.part.pages (page_of plan gpa)) any saw h
 running_tells plan g any ask (GSt rs gpa) saw h = placed_tells ask _ (has_place plan gpa) (g.part.pages (page_of plan gpa)) any saw h
-running_tells plan g any ask GIrq saw h = cc
+running_tells plan g any ask cmd saw h = cc
 
-hypervisor_tells : (g : GuestPart) (any : Bool) (ask : Ask) (cmd : Cmd) (saw : PoolSaw) → (deed_hypervisor g ask cmd).pool ≡ Some saw → saw.any ≡ any
-hypervisor_tells g any ask (UReturn r0 r2 outs) saw h = by_test (may_return_in g.phase && is_waiting (g.vcpus ask.vid).state) h where
-  by_test : (b : Bool) → (if b then record (answering ask Enter) { after = ctx.Guest (record { lpid = ask.lpid; vid = ask.vid; generation = g.generation }) } else answering ask (Ret UInvalid)).pool ≡ Some saw → saw.any ≡ any
+returning_tells : (ask : Ask) (code : Option Code) (deed : Deed) (saw : PoolSaw) → deed.pool ≡ None → (returning ask code deed).pool ≡ Some saw → saw.any ≡ false
+returning_tells ask (Some code) deed saw none h = cc
+returning_tells ask None deed saw none h = cc
+
+hypervisor_tells : (plan : Plan) (g : Guest) (ask : Ask) (cmd : Cmd) (saw : PoolSaw) → (deed_hypervisor plan g ask cmd).pool ≡ Some saw → saw.any ≡ false
+hypervisor_tells plan g ask (UPageout lpid dest gpa flags order) saw h = returning_tells ask (page_out_code plan g.part dest gpa flags order) (deed_page_out_begin plan g ask lpid dest gpa) saw refl h
+hypervisor_tells plan g ask (UReturn r0 r2 outs) saw h = by_test (may_return_in g.part.phase && is_waiting (g.part.vcpus ask.vid).state) h where
+  by_test : (b : Bool) → (if b then record (answering ask Enter) { after = ctx.Guest (record { lpid = ask.lpid; vid = ask.vid; generation = g.part.generation }) } else answering ask (Ret UInvalid)).pool ≡ Some saw → saw.any ≡ false
   by_test true k = cc
   by_test false k = cc
-hypervisor_tells g any ask (HLd ra) saw h = cc
-hypervisor_tells g any ask (HSt ra value) saw h = cc
-hypervisor_tells g any ask (GLi rd value) saw h = cc
-hypervisor_tells g any ask (GLd rd gpa) saw h = cc
-hypervisor_tells g any ask (GSt rs gpa) saw h = cc
-hypervisor_tells g any ask GIrq saw h = cc
+hypervisor_tells plan g ask cmd saw h = cc
+
+-- the end of a page-out gives a frame back, and takes none
+end_tells : (ask : Ask) (ends : Bool) (saw : PoolSaw) → (if ends then giving (coming_back ask USuccess) 1 else coming_back ask UParameter).pool ≡ Some saw → saw.any ≡ false
+end_tells ask true saw h = cc
+end_tells ask false saw h = cc
 
 pub asked_is_told : AskedIsTold
 asked_is_told plan g any ask cmd saw is = by_ctx ask.before is where
-  by_ctx : (c : Ctx) → (deed_guest_in c plan g any ask cmd).pool ≡ Some saw → saw.any ≡ any
-  by_ctx ctx.Hv h = hypervisor_tells g.part any ask cmd saw h
+  by_ctx : (c : Ctx) → (deed_guest_in c plan g any ask cmd).pool ≡ Some saw → saw.any ≡ (if asks_pool c then any else false)
+  by_ctx ctx.Hv h = hypervisor_tells plan g ask cmd saw h
+  by_ctx (ctx.Uv (Outward move)) h = end_tells ask (move.generation == g.part.generation) saw h
   by_ctx (ctx.Guest run) h = by_test (run.generation == g.part.generation) h where
     by_test : (b : Bool) → (if b then deed_running plan g any ask cmd else deed_gone ask).pool ≡ Some saw → saw.any ≡ any
     by_test true k = running_tells plan g any ask cmd saw k

@@ -1,172 +1,18 @@
 -- Lemmas on the text that is written for a script: it is read again.
-use Rattle.std.proofs.Common.{◌≡◌, ◌≤◌, ◌<◌, ℕ, ◌+◌, ◌^◌, Bool, true, false, cond, List, [], ◌∷◌, ◌++◌, map, replicate, refl, ap, ◌∙◌, sym, arith, rules, append_assoc}
-use Rattle.std.specs.Prelude.{Option, Some, None, nat_lt, ◌==◌, ◌&&◌, codes, option_and_then}
-use Rattle.std.specs.Char.{digit_value}
-use Rattle.std.specs.Fmt.{digits, decimal}
-use Rattle.std.specs.List.{slice_split, onto_first, join_with_byte, list_all, flat_map, AllByRecursion}
-use Rattle.std.specs.Str.Parse.{AllDigits}
-use Rattle.std.proofs.lemmas.Bool.{ltb-true, ltb-false}
-use Rattle.std.proofs.lemmas.Bool.Decides.{nat_tests}
-use Rattle.std.proofs.lemmas.Fmt.{digits_is_IsNumeral, decimal_is_IsNumeral}
-use Rattle.std.proofs.lemmas.List.Splits.{slice_split-cons_yes, slice_split-cons_no}
+use Rattle.std.proofs.Common.{◌≡◌, ◌≤◌, ◌<◌, ℕ, ◌+◌, ◌^◌, Bool, true, false, cond, List, [], ◌∷◌, ◌++◌, map, replicate, refl, ap, ◌∙◌, sym, arith}
+use Rattle.std.specs.Prelude.{Option, Some, None, codes, option_and_then}
+use Rattle.std.specs.List.{join_with_byte, AllByRecursion}
 use Rattle.std.proofs.lemmas.Slice.Eq.{bytes_eq-Decides}
 use Rattle.pef_model.specs.declared.config.Config.{Config}
 use Rattle.pef_model.specs.declared.config.EntropyWord.{EntropyWord}
-use Rattle.pef_model.specs.declared.command.Cmd.{Cmd}
-use Rattle.pef_model.specs.declared.command.Cmd.TheVariants.{HLd, HSt, UReturn, GLi, GLd, GSt, GIrq}
 use Rattle.pef_model.specs.Plan.{IsWithin, IsInRange}
 use Rattle.pef_model.specs.Header.{Header, born_one, word_after, after_value, with_line, vault_in, with_normal, with_secure, with_cpus, with_pages, with_seal, with_settings}
-use Rattle.pef_model.specs.Script.{Line, Script, command_in, load_of, store_of, return_of, guest_command_of, numbered_line, line_in, before_lines, command_lines, with_commands, script_behind, script_in, Reads}
-use Rattle.pef_model.specs.ScriptText.{number_text, register_text, seal_text, command_text, line_words, header_words, words_text, script_text, CanBeWritten, CountsFrom, HasDefaults, IsWritable}
-use Rattle.pef_model.specs.Words.{words_of, number_in, number_within, register_in, lines_of}
-use Rattle.pef_model.proofs.ScriptLines.{onto_lines, lines_first}
-use Rattle.pef_model.proofs.WrittenWords.{number_reads, number_within_reads, number_below_reads, register_reads}
-
--- each byte is above this one
-abbrev AllAbove : ℕ → List ℕ → Type 0
-AllAbove low xs = AllByRecursion (λ b. low < b) xs
-
-same_test : (a : ℕ) → (a == a) ≡ true
-same_test a = grind (arith, nat_tests)
-
-above_test : (a b : ℕ) → b < a → (a == b) ≡ false
-above_test a b h = grind (arith, nat_tests)
-
--- a text is cut at a byte that is below those before it
-split_above : (low : ℕ) (xs rest : List ℕ) → AllAbove low xs → slice_split (λ b. b == low) (xs ++ low ∷ rest) ≡ xs ∷ slice_split (λ b. b == low) rest
-split_above low [] rest h = slice_split-cons_yes (λ b. b == low) low rest (same_test low)
-split_above low (x ∷ xs) rest h =
-    slice_split-cons_no (λ b. b == low) x (xs ++ low ∷ rest) (above_test x low h.0) ∙ ap (onto_first x) (split_above low xs rest h.1)
-
-whole_above : (low : ℕ) (xs : List ℕ) → AllAbove low xs → slice_split (λ b. b == low) xs ≡ xs ∷ []
-whole_above low [] h = refl
-whole_above low (x ∷ xs) h =
-    slice_split-cons_no (λ b. b == low) x xs (above_test x low h.0) ∙ ap (onto_first x) (whole_above low xs h.1)
-
-above_append : (low : ℕ) (xs ys : List ℕ) → AllAbove low xs → AllAbove low ys → AllAbove low (xs ++ ys)
-above_append low [] ys h k = k
-above_append low (x ∷ xs) ys h k = (h.0, above_append low xs ys h.1 k)
-
-above_less : (low : ℕ) (xs : List ℕ) → low ≤ 32 → AllAbove 32 xs → AllAbove low xs
-above_less low [] le h = h
-above_less low (x ∷ xs) le h = (omega (arith, h.0), above_less low xs le h.1)
-
-and_parts : (a b : Bool) → (a && b) ≡ true → (a ≡ true) × (b ≡ true)
-and_parts true b e = (refl, e)
-and_parts false b e = absurd (cc)
-
-above_tested : (low : ℕ) (xs : List ℕ) → list_all (λ b. nat_lt low b) xs ≡ true → AllAbove low xs
-above_tested low [] e = search rules
-above_tested low (x ∷ xs) e =
-    let parts = and_parts (nat_lt low x) (list_all (λ b. nat_lt low b) xs) e in
-    (ltb-true low x parts.0, above_tested low xs parts.1)
-
-digit_above_test : (test : Bool) (c other : ℕ) → test ≡ nat_lt c 48 → cond test 36 other < 36 → 32 < c
-digit_above_test true c other e h = absurd (omega arith)
-digit_above_test false c other e h = omega (arith, ltb-false c 48 (sym e))
-
--- digits are above a space
-digits_above : (radix : ℕ) (ds : List ℕ) → radix ≤ 36 → AllDigits radix ds → AllAbove 32 ds
-digits_above radix [] le h = search rules
-digits_above radix (d ∷ ds) le h =
-    let less : digit_value d < 36 = omega (arith, h.0) in
-    (digit_above_test (nat_lt d 48) d _ refl less, digits_above radix ds le h.1)
-
-number_above : (hex : Bool) (n : ℕ) → n < 2 ^ 64 → AllAbove 32 (number_text hex n)
-number_above true n fits =
-    (omega arith, (omega arith, digits_above 16 (digits 16 false n) (omega arith) (digits_is_IsNumeral 16 false (omega arith) (omega arith) n (omega arith)).0.1))
-number_above false n fits = digits_above 10 (decimal n) (omega arith) (decimal_is_IsNumeral n fits).0.1
-
-register_above : (r : ℕ) → r < 32 → AllAbove 32 (register_text r)
-register_above r h = (omega arith, digits_above 10 (decimal r) (omega arith) (decimal_is_IsNumeral r (omega arith)).0.1)
-
--- each byte of each word is above a space
-abbrev AreWords : List (List ℕ) → Type 0
-AreWords words = AllByRecursion (AllAbove 32) words
-
--- the words of a line that is written
-words_again : (word : List ℕ) (words : List (List ℕ)) → AreWords (word ∷ words) → words_of (join_with_byte 32 (word ∷ words)) ≡ word ∷ words
-words_again word [] h = whole_above 32 word h.0
-words_again word (next ∷ more) h = split_above 32 word (join_with_byte 32 (next ∷ more)) h.0 ∙ ap (λ ws. word ∷ ws) (words_again next more h.1)
-
--- a line that is written ends at its end
-line_above : (words : List (List ℕ)) → AreWords words → AllAbove 10 (join_with_byte 32 words)
-line_above [] h = search rules
-line_above (word ∷ []) h = above_less 10 word (omega arith) h.0
-line_above (word ∷ next ∷ more) h =
-    above_append 10 word (32 ∷ join_with_byte 32 (next ∷ more)) (above_less 10 word (omega arith) h.0) (omega arith, line_above (next ∷ more) h.1)
-
--- the lines of a text that is written
-lines_again : (lines : List (List (List ℕ))) → AllByRecursion AreWords lines → lines_of (flat_map words_text lines) ≡ Some (map (join_with_byte 32) lines)
-lines_again [] h = refl
-lines_again (words ∷ more) h =
-    let line = join_with_byte 32 words in
-    let rest = flat_map words_text more in
-    lines_first (words_text words ++ rest) line rest (ap (slice_split (λ b. b == 10)) (append_assoc line (10 ∷ []) rest) ∙ split_above 10 line rest (line_above words h.0))
-    ∙ ap (onto_lines line) (lines_again more h.1)
-
--- a command that is written is words, and is read again
-record IsReadAgain (words : List (List ℕ)) (cmd : Cmd) : Type 0 where
-  reads : command_in words ≡ Some cmd
-  above : AreWords words
-
-guest_again : (hex : Bool) (name : List ℕ) (cmd : ℕ → ℕ → Cmd) (r n : ℕ) → AllAbove 32 name → r < 32 → n < 2 ^ 64 →
-    command_in (name ∷ register_text r ∷ number_text hex n ∷ []) ≡ guest_command_of cmd (register_in (register_text r)) (number_in (number_text hex n)) →
-    IsReadAgain (name ∷ register_text r ∷ number_text hex n ∷ []) (cmd r n)
-guest_again hex name cmd r n above register fits named = record {
-  reads = named
-      ∙ ap (λ first. guest_command_of cmd first (number_in (number_text hex n))) (register_reads r register)
-      ∙ ap (guest_command_of cmd (Some r)) (number_reads hex n fits);
-  above = (above, (register_above r register, (number_above hex n fits, tt)));
-}
-
-command_again : (hex : Bool) (cmd : Cmd) → CanBeWritten cmd → IsReadAgain (command_text hex cmd) cmd
-command_again hex (HLd ra) h = record {
-  reads = ap load_of (number_reads hex ra h);
-  above = (above_tested 32 (codes "h.ld") refl, (number_above hex ra h, tt));
-}
-command_again hex (HSt ra value) h = record {
-  reads = ap (λ first. store_of first (number_in (number_text hex value))) (number_reads hex ra h.0) ∙ ap (store_of (Some ra)) (number_reads hex value h.1);
-  above = (above_tested 32 (codes "h.st") refl, (number_above hex ra h.0, (number_above hex value h.1, tt)));
-}
-command_again hex (UReturn r0 r2 outs) h = record {
-  reads = ap (λ first. return_of first (number_in (number_text hex r2))) (number_reads hex r0 h.0)
-      ∙ ap (return_of (Some r0)) (number_reads hex r2 h.1)
-      ∙ ap (λ zeros. Some (UReturn r0 r2 zeros)) (sym h.2);
-  above = (above_tested 32 (codes "u.return") refl, (number_above hex r0 h.0, (number_above hex r2 h.1, tt)));
-}
-command_again hex (GLi r n) h = guest_again hex (codes "g.li") GLi r n (above_tested 32 (codes "g.li") refl) h.0 h.1 refl
-command_again hex (GLd r n) h = guest_again hex (codes "g.ld") GLd r n (above_tested 32 (codes "g.ld") refl) h.0 h.1 refl
-command_again hex (GSt r n) h = guest_again hex (codes "g.st") GSt r n (above_tested 32 (codes "g.st") refl) h.0 h.1 refl
-command_again hex GIrq h = record {
-  reads = refl;
-  above = (above_tested 32 (codes "g.irq") refl, tt);
-}
-
-line_again : (hex : Bool) (cpus number : ℕ) (line : Line) → cpus ≤ 16 → line.number ≡ number → line.cpu < cpus → CanBeWritten line.cmd →
-    line_in cpus number (words_of (join_with_byte 32 (line_words hex line))) ≡ Some line
-line_again hex cpus number line few is below written =
-    let again = command_again hex line.cmd written in
-    let above : AllAbove 32 (number_text hex line.cpu) = number_above hex line.cpu (omega arith) in
-    ap (line_in cpus number) (words_again (number_text hex line.cpu) (command_text hex line.cmd) (above, again.above))
-    ∙ ap (λ cpu. numbered_line number cpu (command_in (command_text hex line.cmd))) (number_below_reads hex cpus line.cpu (omega arith) below)
-    ∙ ap (numbered_line number (Some line.cpu)) again.reads
-    ∙ ap (λ (n : ℕ). Some (record line { number = n })) (sym is)
-
--- the command lines that are written are read again
-commands_again : (hex : Bool) (cpus number : ℕ) (lines : List Line) → cpus ≤ 16 → CountsFrom number lines → AllByRecursion (λ (line : Line). line.cpu < cpus) lines →
-    AllByRecursion (λ (line : Line). CanBeWritten line.cmd) lines → command_lines cpus number (map (join_with_byte 32) (map (line_words hex) lines)) ≡ Some lines
-commands_again hex cpus number [] few counts below written = refl
-commands_again hex cpus number (line ∷ more) few counts below written =
-    ap (λ first. before_lines first (command_lines cpus (number + 1) (map (join_with_byte 32) (map (line_words hex) more)))) (line_again hex cpus number line few counts.0 below.0 written.0)
-    ∙ ap (before_lines (Some line)) (commands_again hex cpus (number + 1) more few counts.1 below.1 written.1)
-
-commands_above : (hex : Bool) (cpus : ℕ) (lines : List Line) → cpus ≤ 16 → AllByRecursion (λ (line : Line). line.cpu < cpus) lines →
-    AllByRecursion (λ (line : Line). CanBeWritten line.cmd) lines → AllByRecursion AreWords (map (line_words hex) lines)
-commands_above hex cpus [] few below written = tt
-commands_above hex cpus (line ∷ more) few below written =
-    let above : AllAbove 32 (number_text hex line.cpu) = number_above hex line.cpu (let small : line.cpu < cpus = below.0 in omega arith) in
-    ((above, (command_again hex line.cmd written.0).above), commands_above hex cpus more few below.1 written.1)
+use Rattle.pef_model.specs.Script.{Script, with_commands, script_behind, script_in, Reads}
+use Rattle.pef_model.specs.ScriptText.{number_text, seal_text, line_words, header_words, script_text, HasDefaults, IsWritable}
+use Rattle.pef_model.specs.Words.{number_within}
+use Rattle.pef_model.proofs.WrittenWords.{number_within_reads}
+use Rattle.pef_model.proofs.Lists.{all_append}
+use Rattle.pef_model.proofs.WrittenLines.{AllAbove, AreWords, above_tested, number_above, words_again, lines_again, commands_again, commands_above}
 
 -- a configuration line that is written sets its value
 setting_again : {A : Type 0} (name word : List ℕ) (value : List ℕ → Option A) (set : Config → A → Config) (a : A) (config : Config) (number : ℕ) (rest : List (List ℕ)) →
@@ -270,10 +116,6 @@ header_above hex c range = (
   ),
 )
 
-all_append : {A : Type 0} (P : A → Type 0) (xs ys : List A) → AllByRecursion P xs → AllByRecursion P ys → AllByRecursion P (xs ++ ys)
-all_append P [] ys h k = k
-all_append P (x ∷ xs) ys h k = (h.0, all_append P xs ys h.1 k)
-
 map_lines : (hex : Bool) (c : Config) (lines : List (List (List ℕ))) →
     map (join_with_byte 32) (header_words hex c ++ lines) ≡ codes "pef 1" ∷ settings_lines hex c (codes "born 1" ∷ codes "begin" ∷ map (join_with_byte 32) lines)
 map_lines hex c lines = refl
@@ -285,10 +127,10 @@ script_again hex s h =
     let words = map (line_words hex) s.lines in
     let commands = map (join_with_byte 32) words in
     let above : AllByRecursion AreWords (header_words hex s.config ++ words) =
-    all_append AreWords (header_words hex s.config) words (header_above hex s.config h.range) (commands_above hex s.config.cpus s.lines few h.cpus h.cmds) in
+    all_append AreWords (header_words hex s.config) words (header_above hex s.config h.range) (commands_above hex s.config.cpus s.lines few h.cpus h.directives) in
     record {
       is = ap (option_and_then script_in) (lines_again (header_words hex s.config ++ words) above)
           ∙ ap script_in (map_lines hex s.config words)
           ∙ ap script_behind (settings_again hex s.config (codes "born 1" ∷ codes "begin" ∷ commands) h.range h.defaults)
-          ∙ ap (with_commands s.config) (commands_again hex s.config.cpus 10 s.lines few h.counts h.cpus h.cmds);
+          ∙ ap (with_commands s.config) (commands_again hex s.config.cpus 10 s.lines few h.counts h.cpus h.directives);
     }

@@ -1,12 +1,12 @@
 -- Two runs that agree but on secrets.
-use Rattle.std.specs.Prelude.{◌≡◌, ℕ, ◌-◌, ◌==◌, Bool, true, false, List, [], ◌∷◌, length, drop}
-use Rattle.std.specs.List.{count_by}
+use Rattle.std.specs.Prelude.{◌≡◌, ℕ, ◌-◌, ◌==◌, Bool, true, false, List, [], ◌∷◌, length, drop, IsTrue}
+use Rattle.std.specs.List.{count_by, AllByRecursion}
 use Rattle.pef_model.specs.declared.config.Config.{Config}
 use Rattle.pef_model.specs.declared.config.EntropyWord.{EntropyWord}
 use Rattle.pef_model.specs.Plan.{Plan, plan_of}
 use Rattle.pef_model.specs.Event.{Event}
 use Rattle.pef_model.specs.History.{public_state, IsLegal}
-use Rattle.pef_model.specs.SecretLaw.{open_cmd}
+use Rattle.pef_model.specs.SecretLaw.{open_cmd, is_sealing}
 use Rattle.pef_model.specs.View.{view}
 
 -- how many entropy words a guest has
@@ -38,9 +38,9 @@ pub record IsAlikeOpen (one : Config) (past : List Event) (other : Config) (hist
   pub configs : AgreeButWords one other
   pub entries : AllAlikeOpen past history
 
--- whether an entry begins a page-out that seals the page: no command does so
+-- whether an entry begins a page-out
 abbrev pub begins_sealing : Event → Bool
-begins_sealing e = false
+begins_sealing e = is_sealing e.saw.before e.trace.cmd e.trace.answer
 
 -- the bytes of each begin of a sealed page-out agree
 abbrev pub SealedBytesAgree : List Event → List Event → Type 0
@@ -67,6 +67,14 @@ AlikeShowTheSame =
     (one other : Config) (past history : List Event) (k : ℕ) → IsAlike one past other history → IsLegal (plan_of one) past → IsLegal (plan_of other) history →
     ShowTheSame (plan_of one) (plan_of other) (first k past) (first k history)
 
--- no command seals a page, so what is alike but for sealed bytes is alike
+-- a vault's sealed pages tell nothing of what they hold: there legal histories that are alike but for sealed bytes are alike
 abbrev pub OpenIsAlike : Type 0
-OpenIsAlike = (one other : Config) (past history : List Event) → IsAlikeOpen one past other history → IsAlike one past other history
+OpenIsAlike =
+    (one other : Config) (past history : List Event) → IsTrue one.vault → IsLegal (plan_of one) past → IsLegal (plan_of other) history →
+    IsAlikeOpen one past other history → IsAlike one past other history
+
+-- and so are histories in which no page-out begins, whatever the seal
+abbrev pub UnsealedIsAlike : Type 0
+UnsealedIsAlike =
+    (one other : Config) (past history : List Event) → AllByRecursion (λ (e : Event). begins_sealing e ≡ false) past →
+    IsAlikeOpen one past other history → IsAlike one past other history

@@ -1,5 +1,5 @@
 -- Laws of whole histories: each vCPU runs on one CPU, and the frames are counted.
-use Rattle.std.specs.Prelude.{◌≡◌, ◌≢◌, ℕ, zero, suc, ◌+◌, ◌<◌, ◌==◌, true, if◌then◌else◌, List, ◌∷◌, length, take}
+use Rattle.std.specs.Prelude.{◌≡◌, ◌≢◌, ℕ, zero, suc, ◌+◌, ◌<◌, ◌==◌, true, if◌then◌else◌, List, ◌∷◌, filter, length, take}
 use Rattle.std.specs.List.{count_by}
 use Rattle.pef_model.specs.declared.state.Phase.TheVariants.{Secure}
 use Rattle.pef_model.specs.declared.state.VState.TheVariants.{Running}
@@ -44,11 +44,15 @@ OrderHasSecurePages =
     (plan : Plan) (past : List Event) (lpid gfn : ℕ) →
     count_by (λ p. p == gfn) (part_after plan past lpid).order ≡ (if is_secure ((part_after plan past lpid).pages gfn) then 1 else 0)
 
--- an order grows at its end alone
+-- the pages of a guest's order that are still Secure after an entry, in their order
+abbrev pub still_secure : Plan → List Event → Event → ℕ → List ℕ
+still_secure plan past e lpid = filter (λ gfn. is_secure ((part_after plan (e ∷ past) lpid).pages gfn)) (part_after plan past lpid).order
+
+-- the pages that stay Secure keep their order, and a page that becomes Secure stands behind them
 abbrev pub OrderGrows : Type 0
 OrderGrows =
     (plan : Plan) (past : List Event) (e : Event) (lpid : ℕ) →
-    take (length (part_after plan past lpid).order) (part_after plan (e ∷ past) lpid).order ≡ (part_after plan past lpid).order
+    take (length (still_secure plan past e lpid)) (part_after plan (e ∷ past) lpid).order ≡ still_secure plan past e lpid
 
 -- how many Secure pages a guest has
 abbrev pub secure_pages : Plan → List Event → ℕ → ℕ

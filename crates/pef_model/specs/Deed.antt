@@ -6,20 +6,25 @@ use Rattle.pef_model.specs.declared.state.Kind.{Kind}
 use Rattle.pef_model.specs.declared.state.Kind.TheVariants as kind
 use Rattle.pef_model.specs.declared.state.VState.{VState}
 use Rattle.pef_model.specs.declared.state.VState.TheVariants as vstate
+use Rattle.pef_model.specs.declared.state.Move.{Move}
+use Rattle.pef_model.specs.declared.state.Work.{Work}
+use Rattle.pef_model.specs.declared.state.Work.TheVariants.{Outward}
 use Rattle.pef_model.specs.declared.state.Ctx.{Ctx}
 use Rattle.pef_model.specs.declared.state.Ctx.TheVariants as ctx
-use Rattle.pef_model.specs.declared.command.Code.TheVariants.{UInvalid}
+use Rattle.pef_model.specs.declared.command.Code.{Code}
+use Rattle.pef_model.specs.declared.command.Code.TheVariants.{USuccess, UParameter, UPermission, UInvalid}
 use Rattle.pef_model.specs.declared.command.Cmd.{Cmd}
-use Rattle.pef_model.specs.declared.command.Cmd.TheVariants.{HLd, HSt, UReturn, GLi, GLd, GSt, GIrq}
+use Rattle.pef_model.specs.declared.command.Cmd.TheVariants.{HLd, HSt, UPageout, UReturn, GLi, GLd, GSt, GIrq, Go}
 use Rattle.pef_model.specs.declared.entry.Exit.TheVariants as exit
 use Rattle.pef_model.specs.declared.entry.Answer.{Answer}
 use Rattle.pef_model.specs.declared.entry.Answer.TheVariants as answer
 use Rattle.pef_model.specs.declared.entry.PoolSaw.{PoolSaw}
 use Rattle.pef_model.specs.Plan.{Plan}
-use Rattle.pef_model.specs.Target.{Ask}
+use Rattle.pef_model.specs.Target.{Ask, frame_of}
 use Rattle.pef_model.specs.GuestPart.{Page, GuestPart, page_of, has_place}
 use Rattle.pef_model.specs.Guest.{Guest, private_doubleword}
 use Rattle.pef_model.specs.Memory.{offset_of}
+use Rattle.pef_model.specs.PageOut.{page_out_code, sealed_page}
 use Rattle.pef_model.specs.Doubleword.{doubleword}
 
 -- what a step does at its target: the answer, the context after it, the values that the guest lets out, the pool, the frame, the bytes
@@ -40,10 +45,15 @@ abbrev pub taking : Deed → Bool → Deed
 taking deed true = record deed { pool = Some (record { any = true; taken = 1; given = 0 }) }
 taking deed false = record deed { pool = Some (record { any = false; taken = 0; given = 0 }) }
 
--- the hypervisor's load or store that has no frame is Hole; every other command that aims at nothing is one of another context
+-- a step that gives frames back
+abbrev pub giving : Deed → ℕ → Deed
+giving deed count = record deed { pool = Some (record { any = false; taken = 0; given = count }) }
+
+-- the hypervisor's load or store that has no frame is Hole, its call that names no guest U_PARAMETER; every other command that aims at nothing is one of another context
 abbrev pub answer_alone : Ctx → Cmd → Answer
 answer_alone ctx.Hv (HLd ra) = answer.Hole
 answer_alone ctx.Hv (HSt ra value) = answer.Hole
+answer_alone ctx.Hv (UPageout lpid dest gpa flags order) = answer.Ret UParameter
 answer_alone before cmd = answer.Context
 
 -- a command that aims at nothing
@@ -56,9 +66,55 @@ answer_frame plan bytes (HLd ra) = answer.Val (doubleword bytes (offset_of plan 
 answer_frame plan bytes (HSt ra value) = answer.Done
 answer_frame plan bytes cmd = answer.Context
 
+-- the hypervisor's command at a normal frame
+abbrev pub deed_address : Plan → ℕ → List ℕ → Ask → Cmd → Deed
+deed_address plan n bytes ask cmd = record (answering ask (answer_frame plan bytes cmd)) { frame = Some n }
+
+-- the copy of a page-out: the hand is written into the normal frame, whatever has become of the guest
+abbrev pub deed_page_out_copy : Move → ℕ → Ask → Deed
+deed_page_out_copy move n ask = record (answering ask answer.Step) { after = ctx.Uv (Outward (record move { copied = true })); frame = Some n; bytes = ask.hand }
+
+-- a step of a call in progress at a normal frame
+abbrev pub deed_copy : Work → ℕ → Ask → Deed
+deed_copy (Outward move) n ask = deed_page_out_copy move n ask
+
+-- a command at a normal frame with these bytes, by the CPU's context
+abbrev pub deed_frame_in : Ctx → Plan → ℕ → List ℕ → Ask → Cmd → Deed
+deed_frame_in ctx.Hv plan n bytes ask cmd = deed_address plan n bytes ask cmd
+deed_frame_in (ctx.Uv work) plan n bytes ask cmd = deed_copy work n ask
+deed_frame_in (ctx.Guest run) plan n bytes ask cmd = answering ask answer.Context
+
 -- a command at a normal frame with these bytes
 abbrev pub deed_frame : Plan → ℕ → List ℕ → Ask → Cmd → Deed
-deed_frame plan n bytes ask cmd = record (answering ask (answer_frame plan bytes cmd)) { frame = Some n }
+deed_frame plan n bytes ask cmd = deed_frame_in ask.before plan n bytes ask cmd
+
+-- a page-out begins: the page is sealed, and its CPU has the call in progress
+abbrev pub deed_page_out_begin : Plan → Guest → Ask → ℕ → ℕ → ℕ → Deed
+deed_page_out_begin plan g ask lpid dest gpa = record (answering ask answer.Step) {
+  after = ctx.Uv (Outward (record { lpid = lpid; generation = g.part.generation; gfn = page_of plan gpa; frame = frame_of plan dest; copied = false }));
+  bytes = sealed_page plan g lpid (page_of plan gpa);
+}
+
+-- a call that comes back at once with a code, or else does this
+abbrev pub returning : Ask → Option Code → Deed → Deed
+returning ask None deed = deed
+returning ask (Some code) deed = answering ask (answer.Ret code)
+
+-- UV_PAGE_OUT of the hypervisor
+abbrev pub deed_page_out : Plan → Guest → Ask → ℕ → ℕ → ℕ → ℕ → ℕ → Deed
+deed_page_out plan g ask lpid dest gpa flags order = returning ask (page_out_code plan g.part dest gpa flags order) (deed_page_out_begin plan g ask lpid dest gpa)
+
+-- a call in progress comes back to the hypervisor with a code; its bytes are the hand
+abbrev pub coming_back : Ask → Code → Deed
+coming_back ask code = record (answering ask (answer.Ret code)) { after = ctx.Hv; bytes = ask.hand }
+
+-- the end of a page-out: the secure frame goes back, unless the guest has ended
+abbrev pub deed_page_out_end : GuestPart → Ask → Move → Deed
+deed_page_out_end g ask move = if move.generation == g.generation then giving (coming_back ask USuccess) 1 else coming_back ask UParameter
+
+-- a step of a call in progress at a guest
+abbrev pub deed_work : Work → GuestPart → Ask → Deed
+deed_work (Outward move) g ask = deed_page_out_end g ask move
 
 -- whether UV_RETURN may take up a vCPU in this phase
 abbrev pub may_return_in : Phase → Bool
@@ -126,29 +182,34 @@ deed_interrupt ask = record (answering ask (answer.Exit exit.Irq)) { after = ctx
 abbrev pub deed_running : Plan → Guest → Bool → Ask → Cmd → Deed
 deed_running plan g any ask (HLd ra) = answering ask answer.Context
 deed_running plan g any ask (HSt ra value) = answering ask answer.Context
+deed_running plan g any ask (UPageout lpid dest gpa flags order) = record (answering ask (answer.Ret UPermission)) { shown = lpid ∷ dest ∷ gpa ∷ flags ∷ order ∷ [] }
 deed_running plan g any ask (UReturn r0 r2 outs) = record (answering ask (answer.Ret UInvalid)) { shown = r0 ∷ r2 ∷ outs }
 deed_running plan g any ask (GLi rd value) = answering ask answer.Done
 deed_running plan g any ask (GLd rd gpa) = deed_access ask (answer.Val (private_doubleword plan g gpa)) (reach plan g.part any gpa)
 deed_running plan g any ask (GSt rs gpa) = deed_access ask answer.Done (reach plan g.part any gpa)
 deed_running plan g any ask GIrq = deed_interrupt ask
+deed_running plan g any ask Go = answering ask answer.Context
 
 -- a guest whose generation is another by now lets nothing out, and the hypervisor runs
 abbrev pub deed_gone : Ask → Deed
 deed_gone ask = record (answering ask answer.Gone) { after = ctx.Hv }
 
 -- a command of the hypervisor at a guest
-abbrev pub deed_hypervisor : GuestPart → Ask → Cmd → Deed
-deed_hypervisor g ask (HLd ra) = answering ask answer.Context
-deed_hypervisor g ask (HSt ra value) = answering ask answer.Context
-deed_hypervisor g ask (UReturn r0 r2 outs) = deed_return g ask
-deed_hypervisor g ask (GLi rd value) = deed_alone ask (GLi rd value)
-deed_hypervisor g ask (GLd rd gpa) = deed_alone ask (GLd rd gpa)
-deed_hypervisor g ask (GSt rs gpa) = deed_alone ask (GSt rs gpa)
-deed_hypervisor g ask GIrq = deed_alone ask GIrq
+abbrev pub deed_hypervisor : Plan → Guest → Ask → Cmd → Deed
+deed_hypervisor plan g ask (HLd ra) = answering ask answer.Context
+deed_hypervisor plan g ask (HSt ra value) = answering ask answer.Context
+deed_hypervisor plan g ask (UPageout lpid dest gpa flags order) = deed_page_out plan g ask lpid dest gpa flags order
+deed_hypervisor plan g ask (UReturn r0 r2 outs) = deed_return g.part ask
+deed_hypervisor plan g ask (GLi rd value) = deed_alone ask (GLi rd value)
+deed_hypervisor plan g ask (GLd rd gpa) = deed_alone ask (GLd rd gpa)
+deed_hypervisor plan g ask (GSt rs gpa) = deed_alone ask (GSt rs gpa)
+deed_hypervisor plan g ask GIrq = deed_alone ask GIrq
+deed_hypervisor plan g ask Go = deed_alone ask Go
 
 -- a command at a guest, by the CPU's context
 abbrev pub deed_guest_in : Ctx → Plan → Guest → Bool → Ask → Cmd → Deed
-deed_guest_in ctx.Hv plan g any ask cmd = deed_hypervisor g.part ask cmd
+deed_guest_in ctx.Hv plan g any ask cmd = deed_hypervisor plan g ask cmd
+deed_guest_in (ctx.Uv work) plan g any ask cmd = deed_work work g.part ask
 deed_guest_in (ctx.Guest run) plan g any ask cmd = if run.generation == g.part.generation then deed_running plan g any ask cmd else deed_gone ask
 
 -- a command at a guest

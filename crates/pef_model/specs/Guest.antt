@@ -4,12 +4,12 @@ use Rattle.pef_model.specs.declared.state.Ctx.{Ctx}
 use Rattle.pef_model.specs.declared.state.Ctx.TheVariants as ctx
 use Rattle.pef_model.specs.declared.state.Regs.{Regs}
 use Rattle.pef_model.specs.declared.command.Cmd.{Cmd}
-use Rattle.pef_model.specs.declared.command.Cmd.TheVariants.{UReturn, GLi, GLd, GSt}
+use Rattle.pef_model.specs.declared.command.Cmd.TheVariants.{UPageout, UReturn, GLi, GLd, GSt}
 use Rattle.pef_model.specs.declared.entry.Answer.{Answer}
 use Rattle.pef_model.specs.declared.entry.Answer.TheVariants as answer
 use Rattle.pef_model.specs.Plan.{Plan}
 use Rattle.pef_model.specs.Event.{Event}
-use Rattle.pef_model.specs.Registers.{fresh_registers, load_return, with_code}
+use Rattle.pef_model.specs.Registers.{fresh_registers, load_return, load_page_out, with_code}
 use Rattle.pef_model.specs.GuestPart.{GuestPart, start_part, page_of, is_invalid, put, next_part}
 
 -- a guest whole: its public part, the doubleword at each address, the registers of each vCPU
@@ -36,9 +36,10 @@ stored_by_command plan g vid (GSt rs at) answer.Done gpa = if at == gpa then Som
 stored_by_command plan g vid (GLd rd at) (answer.Val value) gpa = backed_by plan g at gpa
 stored_by_command plan g vid cmd a gpa = None
 
--- the hypervisor's commands decide none
+-- the hypervisor's commands and the steps of a call in progress decide none
 abbrev pub stored_in : Ctx → Plan → Guest → Cmd → Answer → ℕ → Option ℕ
 stored_in ctx.Hv plan g cmd a gpa = None
+stored_in (ctx.Uv work) plan g cmd a gpa = None
 stored_in (ctx.Guest run) plan g cmd a gpa = stored_by_command plan g run.vid cmd a gpa
 
 -- the value that an entry gives the doubleword at an address
@@ -51,6 +52,7 @@ at_next_instruction regs gpr = record regs { gpr = gpr; nip = (regs.nip + 4) % 2
 
 -- a vCPU's registers after a command of its own, by its answer: one that answers Hole or Gone keeps them
 abbrev pub registers_after_command : Regs → Cmd → Answer → Regs
+registers_after_command regs (UPageout lpid dest gpa flags order) (answer.Ret code) = at_next_instruction regs (with_code (load_page_out regs.gpr lpid dest gpa flags order) code)
 registers_after_command regs (UReturn r0 r2 outs) (answer.Ret code) = at_next_instruction regs (with_code (load_return regs.gpr r0 r2 outs) code)
 registers_after_command regs (GLi rd value) answer.Done = at_next_instruction regs (slice_set regs.gpr rd value)
 registers_after_command regs (GLd rd gpa) (answer.Val value) = at_next_instruction regs (slice_set regs.gpr rd value)
@@ -66,9 +68,10 @@ abbrev pub registers_after_return : Regs → Cmd → Answer → Regs
 registers_after_return regs (UReturn r0 r2 outs) answer.Enter = entered_at regs r2
 registers_after_return regs cmd a = regs
 
--- the registers of a guest's vCPUs after a step, by the context before it: those of the selected vCPU, or of the running one
+-- the registers of a guest's vCPUs after a step, by the context before it: those of the selected vCPU, or of the running one; a call in progress keeps all
 abbrev pub registers_after_in : Ctx → (ℕ → Regs) → ℕ → Cmd → Answer → ℕ → Regs
 registers_after_in ctx.Hv registers vid cmd a = put registers vid (registers_after_return (registers vid) cmd a)
+registers_after_in (ctx.Uv work) registers vid cmd a = registers
 registers_after_in (ctx.Guest run) registers vid cmd a = put registers run.vid (registers_after_command (registers run.vid) cmd a)
 
 -- the registers of a guest's vCPUs after an entry

@@ -1,28 +1,35 @@
 -- A guest's public part, and what an entry makes of it.
-use Rattle.std.specs.Prelude.{ℕ, ◌/◌, ◌%◌, ◌^◌, ◌==◌, nat_lt, Bool, true, false, ◌&&◌, if◌then◌else◌, List, [], ◌∷◌, ◌++◌, Option, None}
+use Rattle.std.specs.Prelude.{ℕ, ◌+◌, ◌/◌, ◌%◌, ◌^◌, ◌==◌, nat_lt, Bool, true, false, not, ◌&&◌, if◌then◌else◌, List, [], ◌∷◌, ◌++◌, filter, Option, Some, None}
 use Rattle.pef_model.specs.declared.state.Phase.{Phase}
 use Rattle.pef_model.specs.declared.state.Phase.TheVariants as phase
 use Rattle.pef_model.specs.declared.state.Kind.{Kind}
 use Rattle.pef_model.specs.declared.state.Kind.TheVariants as kind
+use Rattle.pef_model.specs.declared.state.Way.TheVariants as way
 use Rattle.pef_model.specs.declared.state.Mover.{Mover}
 use Rattle.pef_model.specs.declared.state.Pending.{Pending}
 use Rattle.pef_model.specs.declared.state.Pending.TheVariants as pending
 use Rattle.pef_model.specs.declared.state.VState.{VState}
 use Rattle.pef_model.specs.declared.state.VState.TheVariants as vstate
+use Rattle.pef_model.specs.declared.state.Work.{Work}
+use Rattle.pef_model.specs.declared.state.Work.TheVariants.{Outward}
 use Rattle.pef_model.specs.declared.state.Ctx.{Ctx}
 use Rattle.pef_model.specs.declared.state.Ctx.TheVariants as ctx
 use Rattle.pef_model.specs.declared.command.Cmd.{Cmd}
-use Rattle.pef_model.specs.declared.command.Cmd.TheVariants.{HLd, HSt, UReturn, GLi, GLd, GSt, GIrq}
+use Rattle.pef_model.specs.declared.command.Cmd.TheVariants.{HLd, HSt, UPageout, UReturn, GLi, GLd, GSt, GIrq, Go}
+use Rattle.pef_model.specs.declared.command.Code.TheVariants.{USuccess}
 use Rattle.pef_model.specs.declared.entry.Exit.TheVariants as exit
 use Rattle.pef_model.specs.declared.entry.Answer.{Answer}
 use Rattle.pef_model.specs.declared.entry.Answer.TheVariants as answer
 use Rattle.pef_model.specs.Plan.{Plan}
 use Rattle.pef_model.specs.Event.{Event}
 
--- a page, as far as it is public: its kind, and who moves it
+-- a page, as far as it is public: its kind; who moves it; how often it was paged out, begun page-outs included; where it is Out what was last sealed of it; where it moves outward what is to be that
 pub record Page : Type 0 where
   pub kind : Kind
   pub mover : Option Mover
+  pub version : ℕ
+  pub sealed : Option (List ℕ)
+  pub pending : Option (List ℕ)
 
 -- a vCPU, as far as it is public: its state, and the guest's generation when it was taken up
 pub record VcpuPart : Type 0 where
@@ -41,13 +48,21 @@ pub record GuestPart : Type 0 where
 abbrev pub put : {X : Type 0} → (ℕ → X) → ℕ → X → ℕ → X
 put f at x n = if n == at then x else f n
 
--- a page that has no frame yet
+-- a page that has no frame yet, and was never paged out
 abbrev pub invalid_page : Page
-invalid_page = record { kind = kind.Invalid; mover = None }
+invalid_page = record { kind = kind.Invalid; mover = None; version = 0; sealed = None; pending = None }
 
--- a page in its secure frame
-abbrev pub secure_page : Page
-secure_page = record { kind = kind.Secure; mover = None }
+-- a page that was put into a secure frame; its version stays
+abbrev pub secured : Page → Page
+secured page = record { kind = kind.Secure; mover = None; version = page.version; sealed = None; pending = None }
+
+-- a page that a CPU begins to move outward: its version rises, and the bytes of the begin are pending
+abbrev pub begun_out : Page → ℕ → List ℕ → Page
+begun_out page cpu bytes = record page { mover = Some (record { cpu = cpu; way = way.Outward }); version = page.version + 1; pending = Some bytes }
+
+-- a page that has moved outward: it is Out, and what was pending is what was last sealed
+abbrev pub ended_out : Page → Page
+ended_out page = record { kind = kind.Out; mover = None; version = page.version; sealed = page.pending; pending = None }
 
 -- a vCPU in this state that was never taken up
 abbrev pub new_vcpu : VState → VcpuPart
@@ -102,7 +117,7 @@ is_secure page = is_secure_kind page.kind where
 
 -- a page that becomes Secure is the last in the order
 abbrev pub with_secure_page : GuestPart → ℕ → GuestPart
-with_secure_page g gfn = record g { pages = put g.pages gfn secure_page; order = g.order ++ gfn ∷ [] }
+with_secure_page g gfn = record g { pages = put g.pages gfn (secured (g.pages gfn)); order = g.order ++ gfn ∷ [] }
 
 -- an access that was done has backed the page where it was Invalid
 abbrev pub with_page_backed : GuestPart → ℕ → GuestPart
@@ -115,6 +130,19 @@ with_running_vcpu g vid cpu = record g { vcpus = put g.vcpus vid (record { state
 -- a vCPU that leaves is parked, in the generation in which it was taken up
 abbrev pub with_parked_vcpu : GuestPart → ℕ → Pending → GuestPart
 with_parked_vcpu g vid pending = record g { vcpus = put g.vcpus vid (record { state = vstate.Parked pending; generation = (g.vcpus vid).generation }) }
+
+-- a page begins to move outward; it keeps its place in the order
+abbrev pub with_page_leaving : GuestPart → ℕ → ℕ → List ℕ → GuestPart
+with_page_leaving g gfn cpu bytes = record g { pages = put g.pages gfn (begun_out (g.pages gfn) cpu bytes) }
+
+-- a page has moved outward, and leaves the order
+abbrev pub with_page_out : GuestPart → ℕ → GuestPart
+with_page_out g gfn = record g { pages = put g.pages gfn (ended_out (g.pages gfn)); order = filter (λ n. not (n == gfn)) g.order }
+
+-- after an answer of UV_PAGE_OUT in the hypervisor: where it is accepted a page begins to move
+abbrev pub part_after_page_out : GuestPart → ℕ → ℕ → Answer → List ℕ → GuestPart
+part_after_page_out g gfn cpu answer.Step bytes = with_page_leaving g gfn cpu bytes
+part_after_page_out g gfn cpu other bytes = g
 
 -- after an answer of UV_RETURN in the hypervisor
 abbrev pub part_after_return : GuestPart → ℕ → ℕ → Answer → GuestPart
@@ -133,28 +161,38 @@ part_after_interrupt g vid (answer.Exit exit.Irq) = with_parked_vcpu g vid pendi
 part_after_interrupt g vid other = g
 
 -- after a step of the hypervisor
-abbrev pub part_after_hypervisor : GuestPart → Cmd → Event → GuestPart
-part_after_hypervisor g (HLd ra) e = g
-part_after_hypervisor g (HSt ra value) e = g
-part_after_hypervisor g (UReturn r0 r2 outs) e = part_after_return g e.saw.vid e.trace.cpu e.trace.answer
-part_after_hypervisor g (GLi rd value) e = g
-part_after_hypervisor g (GLd rd gpa) e = g
-part_after_hypervisor g (GSt rs gpa) e = g
-part_after_hypervisor g GIrq e = g
+abbrev pub part_after_hypervisor : Plan → GuestPart → Cmd → Event → GuestPart
+part_after_hypervisor plan g (HLd ra) e = g
+part_after_hypervisor plan g (HSt ra value) e = g
+part_after_hypervisor plan g (UPageout lpid dest gpa flags order) e = part_after_page_out g (page_of plan gpa) e.trace.cpu e.trace.answer e.bytes
+part_after_hypervisor plan g (UReturn r0 r2 outs) e = part_after_return g e.saw.vid e.trace.cpu e.trace.answer
+part_after_hypervisor plan g (GLi rd value) e = g
+part_after_hypervisor plan g (GLd rd gpa) e = g
+part_after_hypervisor plan g (GSt rs gpa) e = g
+part_after_hypervisor plan g GIrq e = g
+part_after_hypervisor plan g Go e = g
+
+-- after a step of a call in progress: a page that moves outward has moved where the call comes back with U_SUCCESS
+abbrev pub part_after_work : GuestPart → Work → Answer → GuestPart
+part_after_work g (Outward move) (answer.Ret USuccess) = with_page_out g move.gfn
+part_after_work g (Outward move) other = g
 
 -- after a step of the guest's vCPU of this number
 abbrev pub part_after_guest : Plan → GuestPart → ℕ → Cmd → Answer → GuestPart
 part_after_guest plan g vid (HLd ra) a = g
 part_after_guest plan g vid (HSt ra value) a = g
+part_after_guest plan g vid (UPageout lpid dest gpa flags order) a = g
 part_after_guest plan g vid (UReturn r0 r2 outs) a = g
 part_after_guest plan g vid (GLi rd value) a = g
 part_after_guest plan g vid (GLd rd gpa) a = part_after_access g (page_of plan gpa) a
 part_after_guest plan g vid (GSt rs gpa) a = part_after_access g (page_of plan gpa) a
 part_after_guest plan g vid GIrq a = part_after_interrupt g vid a
+part_after_guest plan g vid Go a = g
 
 -- by the context before the entry
 abbrev pub part_after_in : Ctx → Plan → GuestPart → Event → GuestPart
-part_after_in ctx.Hv plan g e = part_after_hypervisor g e.trace.cmd e
+part_after_in ctx.Hv plan g e = part_after_hypervisor plan g e.trace.cmd e
+part_after_in (ctx.Uv work) plan g e = part_after_work g work e.trace.answer
 part_after_in (ctx.Guest run) plan g e = part_after_guest plan g run.vid e.trace.cmd e.trace.answer
 
 -- a guest's public part after an entry that touches it

@@ -1,18 +1,20 @@
 -- The objects after a history, the one entry that a step adds, and legal histories.
 use Rattle.std.specs.Prelude.{◌≡◌, ℕ, ◌<◌, ◌==◌, nat_lt, if◌then◌else◌, List, [], ◌∷◌, Option, Some, None, slice_index}
+use Rattle.pef_model.specs.declared.state.Work.TheVariants.{Outward}
 use Rattle.pef_model.specs.declared.state.Ctx.{Ctx}
 use Rattle.pef_model.specs.declared.state.Ctx.TheVariants as ctx
 use Rattle.pef_model.specs.declared.entry.Answer.{Answer}
 use Rattle.pef_model.specs.declared.entry.Answer.TheVariants as answer
 use Rattle.pef_model.specs.declared.command.Cmd.{Cmd}
-use Rattle.pef_model.specs.declared.command.Cmd.TheVariants.{HSt}
+use Rattle.pef_model.specs.declared.command.Cmd.TheVariants.{HSt, Go}
 use Rattle.pef_model.specs.Plan.{Plan}
 use Rattle.pef_model.specs.Event.{Event, Mark, mark_of, newest, value_after}
-use Rattle.pef_model.specs.Target.{Ask, Target, Alone, AtGuest, AtFrame, target_in, touches_cpu, touches_guest, touches_pool, touches_frame}
+use Rattle.pef_model.specs.Doubleword.{doubleword}
+use Rattle.pef_model.specs.Target.{Ask, Target, Alone, AtGuest, AtFrame, frame_of, uses_hand, target_in, touches_cpu, touches_guest, touches_pool, touches_frame}
 use Rattle.pef_model.specs.Cpu.{CpuPart, start_cpu, next_cpu}
 use Rattle.pef_model.specs.GuestPart.{GuestPart}
 use Rattle.pef_model.specs.Guest.{Guest, start_guest, next_guest, private_doubleword}
-use Rattle.pef_model.specs.Memory.{start_pool, next_pool, start_frame, next_frame}
+use Rattle.pef_model.specs.Memory.{offset_of, start_pool, next_pool, start_frame, next_frame}
 use Rattle.pef_model.specs.Deed.{Deed, deed_alone, deed_guest, deed_frame}
 
 -- a CPU after a history
@@ -31,7 +33,7 @@ pool_after plan past = value_after touches_pool next_pool (start_pool plan) past
 abbrev pub frame_after : Plan → ℕ → List Event → List ℕ
 frame_after plan n past = value_after (touches_frame n) (next_frame plan) (start_frame plan) past
 
--- all that the hypervisor could know; it has no secret
+-- all that the hypervisor could know; of secrets it has what the sealed bytes of page-outs tell
 pub record PublicState : Type 0 where
   pub cpus : ℕ → CpuPart
   pub guests : ℕ → GuestPart
@@ -51,25 +53,26 @@ public_state plan past = record {
 abbrev pub last_store : Plan → List Event → ℕ → ℕ → ℕ
 last_store plan past lpid gpa = private_doubleword plan (guest_after plan lpid past) gpa
 
--- the value that an entry stores at a real address
-abbrev pub norm_by : ℕ → Ctx → Cmd → Answer → Option ℕ
-norm_by ra ctx.Hv (HSt at value) answer.Done = if at == ra then Some value else None
-norm_by ra before cmd a = None
+-- the value that an entry writes at a real address: a store of the hypervisor its own, the copy of a page-out the hand's doubleword at the address
+abbrev pub norm_by : Plan → ℕ → Ctx → Cmd → Answer → List ℕ → Option ℕ
+norm_by plan ra ctx.Hv (HSt at value) answer.Done bytes = if at == ra then Some value else None
+norm_by plan ra (ctx.Uv (Outward move)) Go answer.Step bytes = if move.frame == frame_of plan ra then Some (doubleword bytes (offset_of plan ra)) else None
+norm_by plan ra before cmd a bytes = None
 
-abbrev pub decides_norm : ℕ → List Event → Event → Option ℕ
-decides_norm ra past e = norm_by ra e.saw.before e.trace.cmd e.trace.answer
+abbrev pub decides_norm : Plan → ℕ → List Event → Event → Option ℕ
+decides_norm plan ra past e = norm_by plan ra e.saw.before e.trace.cmd e.trace.answer e.bytes
 
--- the value last stored at a real address
-abbrev pub last_norm : List Event → ℕ → ℕ
-last_norm past ra = newest (decides_norm ra) 0 past
+-- the value last written at a real address
+abbrev pub last_norm : Plan → List Event → ℕ → ℕ
+last_norm plan past ra = newest (decides_norm plan ra) 0 past
 
 -- the value last assigned to one of R0 to R31 of a vCPU
 abbrev pub reg : Plan → List Event → ℕ → ℕ → ℕ → ℕ
 reg plan past lpid vid r = slice_index ((guest_after plan lpid past).registers vid).gpr r
 
 -- what a step learns of its CPU
-abbrev pub ask_of : CpuPart → Ask
-ask_of cpu = record { before = cpu.ctx; lpid = cpu.lpid; vid = cpu.vid; last = cpu.last }
+abbrev pub ask_of : CpuPart → Cmd → Ask
+ask_of cpu cmd = record { before = cpu.ctx; lpid = cpu.lpid; vid = cpu.vid; last = cpu.last; hand = if uses_hand cpu.ctx cmd then cpu.hand else [] }
 
 -- the entry of a step
 abbrev pub entry_of : Ask → Mark → Cmd → Deed → Event
@@ -91,7 +94,7 @@ next_entry_by plan past ask mark cmd = entry_of ask mark cmd (deed_after plan pa
 
 -- the one entry that a step of a CPU adds to a history
 abbrev pub next_entry : Plan → List Event → Mark → Cmd → Event
-next_entry plan past mark cmd = next_entry_by plan past (ask_of (cpu_after plan mark.cpu past)) mark cmd
+next_entry plan past mark cmd = next_entry_by plan past (ask_of (cpu_after plan mark.cpu past) cmd) mark cmd
 
 -- an entry extends a history: its CPU is one of the machine's, and it is the one that its step adds
 pub record Extends (plan : Plan) (past : List Event) (e : Event) : Type 0 where

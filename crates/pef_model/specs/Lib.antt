@@ -8,6 +8,7 @@ pub mod Cpu
 pub mod Guest
 pub mod GuestPart
 pub mod Memory
+pub mod PageOut
 pub mod Deed
 pub mod History
 pub mod Words
@@ -21,6 +22,8 @@ pub mod ReadLaw
 pub mod SecretLaw
 pub mod SearchLaw
 pub mod StepLaw
+pub mod Authority
+pub mod MoveLaw
 pub mod CountLaw
 pub mod ScriptText
 pub mod GrammarLaw

@@ -3,7 +3,7 @@ use Rattle.std.specs.Prelude.{ℕ, ◌+◌, ◌-◌, ◌%◌, ◌^◌, List, Opt
 use Rattle.pef_model.specs.declared.state.Ctx.{Ctx}
 use Rattle.pef_model.specs.declared.state.Ctx.TheVariants as ctx
 use Rattle.pef_model.specs.declared.command.Cmd.{Cmd}
-use Rattle.pef_model.specs.declared.command.Cmd.TheVariants.{HSt}
+use Rattle.pef_model.specs.declared.command.Cmd.TheVariants.{HSt, Go}
 use Rattle.pef_model.specs.declared.entry.Answer.{Answer}
 use Rattle.pef_model.specs.declared.entry.Answer.TheVariants as answer
 use Rattle.pef_model.specs.declared.entry.PoolSaw.{PoolSaw}
@@ -33,14 +33,20 @@ abbrev pub written : Plan → List ℕ → Cmd → Answer → List ℕ
 written plan bytes (HSt ra value) answer.Done = with_doubleword bytes (offset_of plan ra) value
 written plan bytes cmd a = bytes
 
+-- a frame after a step of a call in progress: a copy writes the whole hand
+abbrev pub copied : List ℕ → Cmd → Answer → List ℕ → List ℕ
+copied bytes Go answer.Step hand = hand
+copied bytes cmd a hand = bytes
+
 -- by the context before the entry
-abbrev pub written_in : Ctx → Plan → List ℕ → Cmd → Answer → List ℕ
-written_in ctx.Hv plan bytes cmd a = written plan bytes cmd a
-written_in (ctx.Guest run) plan bytes cmd a = bytes
+abbrev pub written_in : Ctx → Plan → List ℕ → Cmd → Answer → List ℕ → List ℕ
+written_in ctx.Hv plan bytes cmd a hand = written plan bytes cmd a
+written_in (ctx.Uv work) plan bytes cmd a hand = copied bytes cmd a hand
+written_in (ctx.Guest run) plan bytes cmd a hand = bytes
 
 -- a normal frame's bytes after an entry that touches it
 abbrev pub next_frame : Plan → List ℕ → Event → List ℕ
-next_frame plan bytes e = written_in e.saw.before plan bytes e.trace.cmd e.trace.answer
+next_frame plan bytes e = written_in e.saw.before plan bytes e.trace.cmd e.trace.answer e.bytes
 
 -- at the start each normal frame is zero
 abbrev pub start_frame : Plan → List ℕ

@@ -1,24 +1,27 @@
 -- Laws of normal memory.
-use Rattle.std.specs.Prelude.{◌≡◌, ℕ, true, List, ◌∷◌}
+use Rattle.std.specs.Prelude.{◌≡◌, ℕ, ◌<◌, true, false, List, ◌∷◌}
 use Rattle.std.specs.List.{AllByRecursion}
 use Rattle.pef_model.specs.declared.config.Config.{Config}
 use Rattle.pef_model.specs.declared.state.Run.{Run}
 use Rattle.pef_model.specs.declared.state.Ctx.TheVariants as ctx
-use Rattle.pef_model.specs.declared.command.Cmd.TheVariants.{HSt}
+use Rattle.pef_model.specs.declared.state.Move.{Move}
+use Rattle.pef_model.specs.declared.state.Work.TheVariants.{Outward}
+use Rattle.pef_model.specs.declared.command.Cmd.TheVariants.{HSt, UPageout}
 use Rattle.pef_model.specs.Plan.{Plan, plan_of, IsInRange}
 use Rattle.pef_model.specs.Event.{Event}
 use Rattle.pef_model.specs.Doubleword.{doubleword}
 use Rattle.pef_model.specs.Target.{frame_of, has_real_place}
 use Rattle.pef_model.specs.Memory.{offset_of}
-use Rattle.pef_model.specs.History.{frame_after, guest_after, last_norm, IsLegal}
+use Rattle.pef_model.specs.History.{frame_after, guest_after, last_norm, Extends, IsLegal}
 use Rattle.pef_model.specs.SearchLaw.{IsCommand}
+use Rattle.pef_model.specs.View.{view, memory_seen}
 
 -- the frames of the public state hold last_norm everywhere
 abbrev pub FramesHoldLastNorm : Type 0
 FramesHoldLastNorm =
     (config : Config) (past : List Event) (ra : ℕ) → IsInRange config → IsLegal (plan_of config) past → AllByRecursion (λ (e : Event). IsCommand e.trace.cmd) past →
     has_real_place (plan_of config) ra ≡ true →
-    doubleword (frame_after (plan_of config) (frame_of (plan_of config) ra) past) (offset_of (plan_of config) ra) ≡ last_norm past ra
+    doubleword (frame_after (plan_of config) (frame_of (plan_of config) ra) past) (offset_of (plan_of config) ra) ≡ last_norm (plan_of config) past ra
 
 -- a guest's step changes no normal frame
 abbrev pub GuestLeavesFrames : Type 0
@@ -31,3 +34,18 @@ abbrev pub StoreLeavesGuests : Type 0
 StoreLeavesGuests =
     (plan : Plan) (past : List Event) (e : Event) (ra value lpid : ℕ) → e.trace.cmd ≡ HSt ra value →
     guest_after plan lpid (e ∷ past) ≡ guest_after plan lpid past
+
+-- the hypervisor sees each change of normal memory: the frames of the public state are what the writes of the view leave
+abbrev pub WritesMakeFrames : Type 0
+WritesMakeFrames =
+    (config : Config) (past : List Event) (n : ℕ) → IsInRange config → IsLegal (plan_of config) past → AllByRecursion (λ (e : Event). IsCommand e.trace.cmd) past →
+    n < config.normal → memory_seen (plan_of config) (view (plan_of config) past) n ≡ frame_after (plan_of config) n past
+
+-- the steps of a page's move keep to their objects: a begin and an end change no normal frame, and a copy changes no guest
+pub record KeepsToItsObjects (plan : Plan) (past : List Event) (e : Event) : Type 0 where
+  pub begin : (lpid dest gpa flags order n : ℕ) → e.trace.cmd ≡ UPageout lpid dest gpa flags order → frame_after plan n (e ∷ past) ≡ frame_after plan n past
+  pub copy : (move : Move) (lpid : ℕ) → e.saw.before ≡ ctx.Uv (Outward move) → move.copied ≡ false → guest_after plan lpid (e ∷ past) ≡ guest_after plan lpid past
+  pub end : (move : Move) (n : ℕ) → e.saw.before ≡ ctx.Uv (Outward move) → move.copied ≡ true → frame_after plan n (e ∷ past) ≡ frame_after plan n past
+
+abbrev pub EachMoveKeepsToItsObjects : Type 0
+EachMoveKeepsToItsObjects = (plan : Plan) (past : List Event) (e : Event) → Extends plan past e → KeepsToItsObjects plan past e

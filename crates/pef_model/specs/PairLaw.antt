@@ -1,5 +1,6 @@
 -- Pairs of runs, computed: one in which a secret differs, and one in which the hypervisor's own values do.
-use Rattle.std.specs.Prelude.{◌≡◌, ◌≢◌, ℕ, [], ◌∷◌, replicate}
+use Rattle.std.specs.Prelude.{◌≡◌, ◌≢◌, ℕ, true, [], ◌∷◌, length, replicate}
+use Rattle.pef_model.specs.declared.config.Config.{Config}
 use Rattle.pef_model.specs.declared.command.Cmd.TheVariants.{HLd, HSt, UReturn, GLi, GLd, GSt, GIrq}
 use Rattle.pef_model.specs.Plan.{plan_of}
 use Rattle.pef_model.specs.Script.{Script}
@@ -7,7 +8,8 @@ use Rattle.pef_model.specs.Run.{run_of}
 use Rattle.pef_model.specs.History.{last_store}
 use Rattle.pef_model.specs.View.{view}
 use Rattle.pef_model.specs.Alike.{IsAlike}
-use Rattle.pef_model.specs.RunLaw.{small_config, line_at, return_with}
+use Rattle.pef_model.specs.SeenReport.{all_sealed}
+use Rattle.pef_model.specs.RunLaw.{small_config, line_at, return_with, page_out_script}
 
 -- a guest stores a value and loads it, while the hypervisor works on another CPU; an interrupt takes the guest from its CPU, and it goes on on the other
 abbrev pub secret_script : ℕ → Script
@@ -39,3 +41,32 @@ open_script value = record { config = small_config; lines = line_at 1 0 (HSt 0x1
 -- where the hypervisor's own values differ, the views do
 abbrev pub ViewShowsStores : Type 0
 ViewShowsStores = view (plan_of small_config) (run_of (open_script 7)) ≢ view (plan_of small_config) (run_of (open_script 9))
+
+-- that configuration with a vault
+abbrev pub vault_config : Config
+vault_config = record small_config { vault = true }
+
+-- the stream's sealed page tells pages apart: the guest pages out 7, or 9
+pub record ASealedPageTells (one other : ℕ) : Type 0 where
+  -- what was sealed differs
+  pub sealed : all_sealed (run_of (page_out_script small_config one)) ≢ all_sealed (run_of (page_out_script small_config other))
+  -- and so does what the hypervisor sees
+  pub seen : view (plan_of small_config) (run_of (page_out_script small_config one)) ≢ view (plan_of small_config) (run_of (page_out_script small_config other))
+
+abbrev pub StreamTells : Type 0
+StreamTells = ASealedPageTells 7 9
+
+-- the vault's sealed page doesn't: the guest pages out 7, or 9
+pub record AVaultIsShut (one other : ℕ) : Type 0 where
+  -- what the page holds differs
+  pub stored : last_store (plan_of vault_config) (run_of (page_out_script vault_config one)) 1 0x8 ≡ one
+  pub other_stored : last_store (plan_of vault_config) (run_of (page_out_script vault_config other)) 1 0x8 ≡ other
+  -- a page was sealed, the same in both runs
+  pub sealed : all_sealed (run_of (page_out_script vault_config one)) ≡ all_sealed (run_of (page_out_script vault_config other))
+  pub some : length (all_sealed (run_of (page_out_script vault_config one))) ≡ 1
+  -- the runs are alike, and show the hypervisor the same
+  pub alike : IsAlike vault_config (run_of (page_out_script vault_config one)) vault_config (run_of (page_out_script vault_config other))
+  pub seen : view (plan_of vault_config) (run_of (page_out_script vault_config one)) ≡ view (plan_of vault_config) (run_of (page_out_script vault_config other))
+
+abbrev pub VaultIsShut : Type 0
+VaultIsShut = AVaultIsShut 7 9

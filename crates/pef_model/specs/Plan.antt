@@ -1,11 +1,13 @@
--- A configuration, and what of it is public.
-use Rattle.std.specs.Prelude.{ℕ, ◌≤◌, ◌==◌, Bool, false, [], replicate, map, All}
+-- A configuration, and what of it runs that differ in secrets have in common.
+use Rattle.std.specs.Prelude.{ℕ, ◌≤◌, ◌==◌, Bool, false, List, [], replicate, map, All}
 use Rattle.std.specs.List.Sorted.{IsNonDecreasing, IsStrictlyIncreasing}
 use Rattle.std.specs.List.{list_any, count_by}
 use Rattle.pef_model.specs.declared.config.Config.{Config}
 use Rattle.pef_model.specs.declared.config.EntropyWord.{EntropyWord}
+use Rattle.pef_model.specs.declared.state.Tag.{Tag}
+use Rattle.pef_model.specs.Seal.{image as image_by}
 
--- what of a configuration is public: the sizes, who is born secure, the seal, and how many entropy words each guest has
+-- what a configuration has in common with those that differ from it in secrets alone: the sizes, who is born secure, the seal and the sealed page of each page, and how many entropy words each guest has
 pub record Plan : Type 0 where
   pub shift : ℕ
   pub normal : ℕ
@@ -14,7 +16,7 @@ pub record Plan : Type 0 where
   pub guests : ℕ
   pub vcpus : ℕ
   pub pages : ℕ
-  pub vault : Bool
+  pub image : Tag → List ℕ → List ℕ
   pub is_born : ℕ → Bool
   pub words : ℕ → ℕ
 
@@ -28,7 +30,7 @@ plan_of config = record {
   guests = config.guests;
   vcpus = config.vcpus;
   pages = config.pages;
-  vault = config.vault;
+  image = image_by config;
   is_born = λ lpid. list_any (λ born. born == lpid) config.born;
   words = λ lpid. count_by (λ (word : EntropyWord). word.lpid == lpid) config.entropy;
 }

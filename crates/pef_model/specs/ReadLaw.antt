@@ -1,9 +1,12 @@
 -- Laws of what an object's next value reads of an entry, and which entries it reads at all.
-use Rattle.std.specs.Prelude.{◌≡◌, ℕ, Bool, true, List, Some}
+use Rattle.std.specs.Prelude.{◌≡◌, ℕ, Bool, true, false, if◌then◌else◌, List, Option, Some, None}
 use Rattle.std.specs.List.{filter}
 use Rattle.pef_model.specs.declared.command.Cmd.{Cmd}
-use Rattle.pef_model.specs.declared.command.Cmd.TheVariants.{HLd, HSt, UReturn, GLi, GLd, GSt, GIrq}
-use Rattle.pef_model.specs.declared.entry.Answer.TheVariants.{Enter}
+use Rattle.pef_model.specs.declared.command.Cmd.TheVariants.{HLd, HSt, UPageout, UReturn, GLi, GLd, GSt, GIrq, Go}
+use Rattle.pef_model.specs.declared.state.Ctx.{Ctx}
+use Rattle.pef_model.specs.declared.state.Ctx.TheVariants as ctx
+use Rattle.pef_model.specs.declared.entry.Answer.{Answer}
+use Rattle.pef_model.specs.declared.entry.Answer.TheVariants.{Step, Enter}
 use Rattle.pef_model.specs.declared.entry.PoolSaw.{PoolSaw}
 use Rattle.pef_model.specs.Plan.{Plan}
 use Rattle.pef_model.specs.Event.{Event}
@@ -14,6 +17,7 @@ use Rattle.pef_model.specs.Guest.{Guest, next_guest}
 use Rattle.pef_model.specs.Memory.{next_pool, next_frame}
 use Rattle.pef_model.specs.Deed.{deed_guest}
 use Rattle.pef_model.specs.History.{cpu_after, guest_after, pool_after, frame_after, last_store, reg, Extends}
+use Rattle.pef_model.specs.SecretLaw.{is_sealing}
 
 -- the entries of a history that touch an object decide its value; so last_store and reg read only their guest's entries
 pub record OwnEntriesDecide (plan : Plan) (past : List Event) : Type 0 where
@@ -32,32 +36,48 @@ EachOwnEntriesDecide = (plan : Plan) (past : List Event) → OwnEntriesDecide pl
 abbrev pub IsReturn : Cmd → Type 0
 IsReturn (HLd ra) = ⊥
 IsReturn (HSt ra value) = ⊥
+IsReturn (UPageout lpid dest gpa flags order) = ⊥
 IsReturn (UReturn r0 r2 outs) = Unit {0}
 IsReturn (GLi rd value) = ⊥
 IsReturn (GLd rd gpa) = ⊥
 IsReturn (GSt rs gpa) = ⊥
 IsReturn GIrq = ⊥
+IsReturn Go = ⊥
 
--- two entries agree in what a CPU's record reads of them
+-- whether an answer gives a page or a vCPU to a CPU
+abbrev pub GivesCpu : Answer → Type 0
+GivesCpu Step = Unit {0}
+GivesCpu Enter = Unit {0}
+GivesCpu a = ⊥
+
+-- two entries agree in what a CPU's record reads of them: the bytes where a page-out begins
 pub record AgreeForCpu (e f : Event) : Type 0 where
   pub cmd : e.trace.cmd ≡ f.trace.cmd
   pub answer : e.trace.answer ≡ f.trace.answer
   pub before : e.saw.before ≡ f.saw.before
   pub after : e.saw.after ≡ f.saw.after
+  pub bytes : is_sealing e.saw.before e.trace.cmd e.trace.answer ≡ true → e.bytes ≡ f.bytes
 
--- two entries agree in what a guest reads of them: the vCPU at UV_RETURN alone, the CPU where the vCPU runs from then on
+-- two entries agree in what a guest reads of them: the vCPU at UV_RETURN alone, the CPU where a vCPU runs or a page moves from then on, the bytes where a page-out begins
 pub record AgreeForGuest (e f : Event) : Type 0 where
   pub cmd : e.trace.cmd ≡ f.trace.cmd
   pub answer : e.trace.answer ≡ f.trace.answer
   pub before : e.saw.before ≡ f.saw.before
   pub vid : IsReturn e.trace.cmd → e.saw.vid ≡ f.saw.vid
-  pub cpu : e.trace.answer ≡ Enter → e.trace.cpu ≡ f.trace.cpu
+  pub cpu : GivesCpu e.trace.answer → e.trace.cpu ≡ f.trace.cpu
+  pub bytes : is_sealing e.saw.before e.trace.cmd e.trace.answer ≡ true → e.bytes ≡ f.bytes
 
--- two entries agree in what a normal frame reads of them
+-- whether a step is one of a call in progress that isn't its end
+abbrev pub is_copying : Ctx → Cmd → Answer → Bool
+is_copying (ctx.Uv work) Go Step = true
+is_copying before cmd a = false
+
+-- two entries agree in what a normal frame reads of them: the bytes where a page is copied
 pub record AgreeForFrame (e f : Event) : Type 0 where
   pub cmd : e.trace.cmd ≡ f.trace.cmd
   pub answer : e.trace.answer ≡ f.trace.answer
   pub before : e.saw.before ≡ f.saw.before
+  pub bytes : is_copying e.saw.before e.trace.cmd e.trace.answer ≡ true → e.bytes ≡ f.bytes
 
 -- entries that agree in these fields give equal next values
 pub record NextValuesAgree (plan : Plan) (e f : Event) : Type 0 where
@@ -82,6 +102,22 @@ pub record AgreeWhereTouched (plan : Plan) (past other : List Event) (e : Event)
 abbrev pub TouchedObjectsDecide : Type 0
 TouchedObjectsDecide = (plan : Plan) (past other : List Event) (e : Event) → AgreeWhereTouched plan past other e → Extends plan past e → Extends plan other e
 
--- a step that reads or changes the number of free frames tells whether one was free
+-- whether a step tells that a frame was free
+abbrev pub tells_free : Option PoolSaw → Bool
+tells_free None = false
+tells_free (Some saw) = saw.any
+
+-- whether a frame is free makes no difference to a step that doesn't tell it
+abbrev pub UnaskedMakesNoDifference : Type 0
+UnaskedMakesNoDifference =
+    (plan : Plan) (g : Guest) (ask : Ask) (cmd : Cmd) → tells_free (deed_guest plan g true ask cmd).pool ≡ false → deed_guest plan g false ask cmd ≡ deed_guest plan g true ask cmd
+
+-- whether a step may need a free frame: one of a guest may, and a page-out's doesn't
+abbrev pub asks_pool : Ctx → Bool
+asks_pool ctx.Hv = false
+asks_pool (ctx.Uv work) = false
+asks_pool (ctx.Guest run) = true
+
+-- a step that needs a free frame tells whether one was free, and one that only gives a frame back tells nothing of it
 abbrev pub AskedIsTold : Type 0
-AskedIsTold = (plan : Plan) (g : Guest) (any : Bool) (ask : Ask) (cmd : Cmd) (saw : PoolSaw) → (deed_guest plan g any ask cmd).pool ≡ Some saw → saw.any ≡ any
+AskedIsTold = (plan : Plan) (g : Guest) (any : Bool) (ask : Ask) (cmd : Cmd) (saw : PoolSaw) → (deed_guest plan g any ask cmd).pool ≡ Some saw → saw.any ≡ (if asks_pool ask.before then any else false)

@@ -1,12 +1,21 @@
 -- Registers as lists of 32, and what a call loads into them.
-use Rattle.std.specs.Prelude.{ℕ, List, ◌++◌, take, drop, slice_set, replicate}
-use Rattle.pef_model.specs.declared.command.TheConstants.{UV_RETURN, EXTERNAL_INTERRUPT}
+use Rattle.std.specs.Prelude.{ℕ, ◌+◌, List, [], ◌∷◌, ◌++◌, length, take, drop, slice_set, replicate}
+use Rattle.pef_model.specs.declared.command.TheConstants.{UV_PAGE_OUT, UV_RETURN, EXTERNAL_INTERRUPT}
 use Rattle.pef_model.specs.declared.command.Code.{Code}
-use Rattle.pef_model.specs.declared.command.Code.TheVariants.{UInvalid}
+use Rattle.pef_model.specs.declared.command.Code.TheVariants.{USuccess, UParameter, UP2, UP3, UP4, UP5, UFunction, UBusy, UPermission, UInvalid}
 use Rattle.pef_model.specs.declared.state.Regs.{Regs}
 
 -- the number of a code
 abbrev pub number_of : Code → ℕ
+number_of USuccess = 0
+number_of UParameter = 1
+number_of UP2 = 2
+number_of UP3 = 3
+number_of UP4 = 4
+number_of UP5 = 5
+number_of UFunction = 6
+number_of UBusy = 7
+number_of UPermission = 8
 number_of UInvalid = 9
 
 -- registers that are all zero
@@ -26,6 +35,16 @@ abbrev pub load_return : List ℕ → ℕ → ℕ → List ℕ → List ℕ
 load_return gpr r0 r2 outs = with_outputs (slice_set (slice_set (slice_set gpr 0 r0) 2 r2) 3 UV_RETURN) where
   with_outputs : List ℕ → List ℕ
   with_outputs loaded = take 4 loaded ++ (outs ++ drop 13 loaded)
+
+-- a call loads its number into R3, and its operands into R4 and the registers after it
+abbrev pub load_call : List ℕ → ℕ → List ℕ → List ℕ
+load_call gpr number operands = with_operands (slice_set gpr 3 number) where
+  with_operands : List ℕ → List ℕ
+  with_operands loaded = take 4 loaded ++ (operands ++ drop (4 + length operands) loaded)
+
+-- UV_PAGE_OUT loads its number, and five operands
+abbrev pub load_page_out : List ℕ → ℕ → ℕ → ℕ → ℕ → ℕ → List ℕ
+load_page_out gpr lpid dest gpa flags order = load_call gpr UV_PAGE_OUT (lpid ∷ dest ∷ gpa ∷ flags ∷ order ∷ [])
 
 -- a code comes back in R3
 abbrev pub with_code : List ℕ → Code → List ℕ

@@ -5,12 +5,12 @@ use Rattle.std.specs.Fmt.{digits}
 use Rattle.hex.specs.Hex.{encode_lower}
 use Rattle.sha2.specs.Sha256.{sha256}
 use Rattle.pef_model.specs.declared.command.Code.{Code}
-use Rattle.pef_model.specs.declared.command.Code.TheVariants.{UInvalid}
+use Rattle.pef_model.specs.declared.command.Code.TheVariants.{USuccess, UParameter, UP2, UP3, UP4, UP5, UFunction, UBusy, UPermission, UInvalid}
 use Rattle.pef_model.specs.declared.command.Cmd.{Cmd}
-use Rattle.pef_model.specs.declared.command.Cmd.TheVariants.{HLd, HSt, UReturn, GLi, GLd, GSt, GIrq}
+use Rattle.pef_model.specs.declared.command.Cmd.TheVariants.{HLd, HSt, UPageout, UReturn, GLi, GLd, GSt, GIrq, Go}
 use Rattle.pef_model.specs.declared.entry.Exit.TheVariants as exit
 use Rattle.pef_model.specs.declared.entry.Answer.{Answer}
-use Rattle.pef_model.specs.declared.entry.Answer.TheVariants.{Done, Val, Ret, Enter, Exit, Again, Gone, Hole, Context, Nothing}
+use Rattle.pef_model.specs.declared.entry.Answer.TheVariants.{Done, Val, Ret, Step, Enter, Exit, Again, Gone, Hole, Context, Nothing}
 use Rattle.pef_model.specs.Plan.{Plan}
 use Rattle.pef_model.specs.Event.{Event}
 use Rattle.pef_model.specs.History.{frame_after, pool_after}
@@ -23,14 +23,25 @@ value_text value = codes "0x" ++ digits 16 false value
 abbrev pub command_name : Cmd → List ℕ
 command_name (HLd ra) = codes "h.ld"
 command_name (HSt ra value) = codes "h.st"
+command_name (UPageout lpid dest gpa flags order) = codes "u.pageout"
 command_name (UReturn r0 r2 outs) = codes "u.return"
 command_name (GLi rd value) = codes "g.li"
 command_name (GLd rd gpa) = codes "g.ld"
 command_name (GSt rs gpa) = codes "g.st"
 command_name GIrq = codes "g.irq"
+command_name Go = codes "go"
 
 -- a code's name
 abbrev pub code_name : Code → List ℕ
+code_name USuccess = codes "U_SUCCESS"
+code_name UParameter = codes "U_PARAMETER"
+code_name UP2 = codes "U_P2"
+code_name UP3 = codes "U_P3"
+code_name UP4 = codes "U_P4"
+code_name UP5 = codes "U_P5"
+code_name UFunction = codes "U_FUNCTION"
+code_name UBusy = codes "U_BUSY"
+code_name UPermission = codes "U_PERMISSION"
 code_name UInvalid = codes "U_INVALID"
 
 -- an answer
@@ -38,6 +49,7 @@ abbrev pub answer_text : Answer → List ℕ
 answer_text Done = codes "done"
 answer_text (Val value) = codes "val " ++ value_text value
 answer_text (Ret code) = codes "ret " ++ code_name code
+answer_text Step = codes "step"
 answer_text Enter = codes "enter"
 answer_text (Exit exit.Irq) = codes "exit irq"
 answer_text Again = codes "again"

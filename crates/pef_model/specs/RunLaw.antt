@@ -1,12 +1,18 @@
 -- Laws of runs and reports.
-use Rattle.std.specs.Prelude.{◌≡◌, ℕ, List, [], ◌∷◌, replicate, map, codes, Option, Some, None}
+use Rattle.std.specs.Prelude.{◌≡◌, ℕ, ◌<◌, true, List, [], ◌∷◌, ◌++◌, length, replicate, map, codes, Option, Some, None}
+use Rattle.std.specs.List.{AllByRecursion}
 use Rattle.pef_model.specs.declared.config.Config.{Config}
+use Rattle.pef_model.specs.declared.command.Directive.TheVariants.{Once, GoAll}
 use Rattle.pef_model.specs.declared.command.Cmd.{Cmd}
-use Rattle.pef_model.specs.declared.command.Cmd.TheVariants.{UReturn, GLi, GLd, GSt}
-use Rattle.pef_model.specs.Plan.{plan_of, default_config}
+use Rattle.pef_model.specs.declared.command.Code.TheVariants.{USuccess}
+use Rattle.pef_model.specs.declared.command.Cmd.TheVariants.{UPageout, UReturn, GLi, GLd, GSt, GIrq}
+use Rattle.pef_model.specs.declared.entry.Exit.TheVariants.{Irq}
+use Rattle.pef_model.specs.declared.entry.Answer.TheVariants.{Done, Ret, Step, Enter, Exit}
+use Rattle.pef_model.specs.Plan.{Plan, plan_of, default_config}
 use Rattle.pef_model.specs.Event.{Event}
 use Rattle.pef_model.specs.Script.{Line, Script, IsScript, script_of}
-use Rattle.pef_model.specs.Run.{IsRun, run_of}
+use Rattle.pef_model.specs.History.{IsLegal}
+use Rattle.pef_model.specs.Run.{IsRun, ends_go, GoesOn, with_gos, most_gos, run_of}
 use Rattle.pef_model.specs.Report.{report}
 
 -- a fact holds of a value, and of no other
@@ -34,7 +40,10 @@ abbrev pub small_config : Config
 small_config = record default_config { shift = 8; normal = 5; secure = 1; cpus = 2; guests = 3; vcpus = 2; pages = 4; born = 1 ∷ [] }
 
 abbrev pub line_at : ℕ → ℕ → Cmd → Line
-line_at number cpu cmd = record { number = number; cpu = cpu; cmd = cmd }
+line_at number cpu cmd = record { number = number; cpu = cpu; directive = Once cmd }
+
+abbrev pub go_all_at : ℕ → ℕ → Line
+go_all_at number cpu = record { number = number; cpu = cpu; directive = GoAll }
 
 abbrev pub return_with : ℕ → Cmd
 return_with r0 = UReturn r0 0 (replicate 9 0)
@@ -64,3 +73,21 @@ NoneIsBorn =
 -- places count each CPU's entries from 0, stamps all entries from 1
 abbrev pub MarksOfOneFrame : Type 0
 MarksOfOneFrame = map (λ (e : Event). e.trace.place) (run_of small_script) ≡ 8 ∷ 7 ∷ 6 ∷ 5 ∷ 4 ∷ 3 ∷ 2 ∷ 1 ∷ 1 ∷ 0 ∷ 0 ∷ []
+
+-- the guest stores a value and leaves; the hypervisor pages its page out into normal frame 1
+abbrev pub page_out_script : Config → ℕ → Script
+page_out_script config value = record {
+  config = config;
+  lines =
+      line_at 1 0 (return_with 0) ∷ line_at 2 0 (GLi 20 value) ∷ line_at 3 0 (GSt 20 0x8) ∷ line_at 4 0 GIrq ∷ line_at 5 0 (UPageout 1 0x100 0x0 0 8) ∷ go_all_at 6 0 ∷ [];
+}
+
+-- what its entries answer, the newest first: go* gives two
+abbrev pub GoesOut : Type 0
+GoesOut = map (λ (e : Event). e.trace.answer) (run_of (page_out_script small_config 7)) ≡ Ret USuccess ∷ Step ∷ Step ∷ Exit Irq ∷ Done ∷ Done ∷ Enter ∷ []
+
+-- go* ends: its newest entry is one with which it ends, it ended with none before, and it made fewer than the most
+abbrev pub EachGoAllEnds : Type 0
+EachGoAllEnds =
+    (plan : Plan) (past : List Event) (line : Line) → IsLegal plan past →
+    (earlier : List Event) × (e : Event) × (with_gos plan (most_gos plan) past line ≡ e ∷ (earlier ++ past)) × (ends_go e ≡ true) × AllByRecursion GoesOn earlier × (length earlier < most_gos plan)

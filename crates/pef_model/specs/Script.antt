@@ -1,20 +1,22 @@
 -- Which bytes are a script: lines that end in LF, words parted by one space.
-use Rattle.std.specs.Prelude.{◌≡◌, ℕ, ◌+◌, ◌<◌, ◌&&◌, if◌then◌else◌, List, [], ◌∷◌, replicate, map, codes, Option, Some, None, option_and_then}
+use Rattle.std.specs.Prelude.{◌≡◌, ℕ, ◌+◌, ◌<◌, ◌&&◌, if◌then◌else◌, List, [], ◌∷◌, replicate, map, codes, Option, Some, None, option_map, option_and_then}
 use Rattle.std.specs.List.{AllByRecursion}
 use Rattle.std.specs.List.Sorted.{IsStrictlyIncreasing}
 use Rattle.std.specs.Str.{bytes_eq}
 use Rattle.pef_model.specs.declared.config.Config.{Config}
+use Rattle.pef_model.specs.declared.command.Directive.{Directive}
+use Rattle.pef_model.specs.declared.command.Directive.TheVariants.{Once, GoAll}
 use Rattle.pef_model.specs.declared.command.Cmd.{Cmd}
-use Rattle.pef_model.specs.declared.command.Cmd.TheVariants.{HLd, HSt, UReturn, GLi, GLd, GSt, GIrq}
+use Rattle.pef_model.specs.declared.command.Cmd.TheVariants.{HLd, HSt, UPageout, UReturn, GLi, GLd, GSt, GIrq, Go}
 use Rattle.pef_model.specs.Header.{Header, header_of}
 use Rattle.pef_model.specs.Plan.{IsInRange}
 use Rattle.pef_model.specs.Words.{lines_of, words_of, number_in, number_below, register_in}
 
--- a command line: its number from 1, its CPU, its command
+-- a command line: its number from 1, its CPU, what it tells the CPU to do
 pub record Line : Type 0 where
   pub number : ℕ
   pub cpu : ℕ
-  pub cmd : Cmd
+  pub directive : Directive
 
 -- a script: a configuration, and command lines
 pub record Script : Type 0 where
@@ -47,9 +49,13 @@ abbrev pub guest_command_of : (ℕ → ℕ → Cmd) → Option ℕ → Option �
 guest_command_of cmd (Some r) (Some n) = Some (cmd r n)
 guest_command_of cmd r n = None
 
--- a command, by its name alone
-abbrev pub bare_command_of : List ℕ → Option Cmd
-bare_command_of name = if bytes_eq name (codes "g.irq") then Some GIrq else None
+-- a directive, by its name alone
+abbrev pub bare_directive_of : List ℕ → Option Directive
+bare_directive_of name =
+    if bytes_eq name (codes "g.irq") then Some (Once GIrq)
+    else if bytes_eq name (codes "go") then Some (Once Go)
+    else if bytes_eq name (codes "go*") then Some GoAll
+    else None
 
 -- a command, by its name and one operand
 abbrev pub short_command_of : List ℕ → List ℕ → Option Cmd
@@ -65,22 +71,33 @@ command_of name first second =
     else if bytes_eq name (codes "g.st") then guest_command_of GSt (register_in first) (number_in second)
     else None
 
--- a command, by its name and operands
-abbrev pub command_in : List (List ℕ) → Option Cmd
-command_in (name ∷ []) = bare_command_of name
-command_in (name ∷ operand ∷ []) = short_command_of name operand
-command_in (name ∷ first ∷ second ∷ []) = command_of name first second
-command_in words = None
+-- UV_PAGE_OUT with its five operands
+abbrev pub page_out_of : Option ℕ → Option ℕ → Option ℕ → Option ℕ → Option ℕ → Option Cmd
+page_out_of (Some lpid) (Some dest) (Some gpa) (Some flags) (Some order) = Some (UPageout lpid dest gpa flags order)
+page_out_of lpid dest gpa flags order = None
 
--- a line of a CPU and its command
-abbrev pub numbered_line : ℕ → Option ℕ → Option Cmd → Option Line
-numbered_line number (Some cpu) (Some cmd) = Some (record { number = number; cpu = cpu; cmd = cmd })
-numbered_line number cpu cmd = None
+-- a command, by its name and five operands
+abbrev pub long_command_of : List ℕ → List ℕ → List ℕ → List ℕ → List ℕ → List ℕ → Option Cmd
+long_command_of name lpid dest gpa flags order =
+    if bytes_eq name (codes "u.pageout") then page_out_of (number_in lpid) (number_in dest) (number_in gpa) (number_in flags) (number_in order) else None
 
--- a line, by its words: one of the machine's CPUs, and a command
+-- a directive, by its name and operands
+abbrev pub directive_in : List (List ℕ) → Option Directive
+directive_in (name ∷ []) = bare_directive_of name
+directive_in (name ∷ operand ∷ []) = option_map Once (short_command_of name operand)
+directive_in (name ∷ first ∷ second ∷ []) = option_map Once (command_of name first second)
+directive_in (name ∷ lpid ∷ dest ∷ gpa ∷ flags ∷ order ∷ []) = option_map Once (long_command_of name lpid dest gpa flags order)
+directive_in words = None
+
+-- a line of a CPU and its directive
+abbrev pub numbered_line : ℕ → Option ℕ → Option Directive → Option Line
+numbered_line number (Some cpu) (Some directive) = Some (record { number = number; cpu = cpu; directive = directive })
+numbered_line number cpu directive = None
+
+-- a line, by its words: one of the machine's CPUs, and a directive
 abbrev pub line_in : ℕ → ℕ → List (List ℕ) → Option Line
 line_in cpus number [] = None
-line_in cpus number (cpu ∷ command) = numbered_line number (number_below cpus cpu) (command_in command)
+line_in cpus number (cpu ∷ words) = numbered_line number (number_below cpus cpu) (directive_in words)
 
 -- a line before others
 abbrev pub before_lines : Option Line → Option (List Line) → Option (List Line)

@@ -3,8 +3,10 @@ use Rattle.std.specs.Prelude.{◌≡◌, ℕ, ◌+◌, ◌^◌, ◌<◌, Bool, f
 use Rattle.std.specs.List.{AllByRecursion, flat_map, join_with_byte}
 use Rattle.std.specs.Fmt.{digits, decimal}
 use Rattle.pef_model.specs.declared.config.Config.{Config}
+use Rattle.pef_model.specs.declared.command.Directive.{Directive}
+use Rattle.pef_model.specs.declared.command.Directive.TheVariants.{Once, GoAll}
 use Rattle.pef_model.specs.declared.command.Cmd.{Cmd}
-use Rattle.pef_model.specs.declared.command.Cmd.TheVariants.{HLd, HSt, UReturn, GLi, GLd, GSt, GIrq}
+use Rattle.pef_model.specs.declared.command.Cmd.TheVariants.{HLd, HSt, UPageout, UReturn, GLi, GLd, GSt, GIrq, Go}
 use Rattle.pef_model.specs.Plan.{IsInRange}
 use Rattle.pef_model.specs.Script.{Line, Script}
 
@@ -24,15 +26,23 @@ seal_text vault = if vault then codes "vault" else codes "stream"
 abbrev pub command_text : Bool → Cmd → List (List ℕ)
 command_text hex (HLd ra) = codes "h.ld" ∷ number_text hex ra ∷ []
 command_text hex (HSt ra value) = codes "h.st" ∷ number_text hex ra ∷ number_text hex value ∷ []
+command_text hex (UPageout lpid dest gpa flags order) =
+    codes "u.pageout" ∷ number_text hex lpid ∷ number_text hex dest ∷ number_text hex gpa ∷ number_text hex flags ∷ number_text hex order ∷ []
 command_text hex (UReturn r0 r2 outs) = codes "u.return" ∷ number_text hex r0 ∷ number_text hex r2 ∷ []
 command_text hex (GLi rd value) = codes "g.li" ∷ register_text rd ∷ number_text hex value ∷ []
 command_text hex (GLd rd gpa) = codes "g.ld" ∷ register_text rd ∷ number_text hex gpa ∷ []
 command_text hex (GSt rs gpa) = codes "g.st" ∷ register_text rs ∷ number_text hex gpa ∷ []
 command_text hex GIrq = codes "g.irq" ∷ []
+command_text hex Go = codes "go" ∷ []
 
--- a command line's words: its CPU, the command's name, its operands
+-- a directive's name and operands
+abbrev pub directive_text : Bool → Directive → List (List ℕ)
+directive_text hex (Once cmd) = command_text hex cmd
+directive_text hex GoAll = codes "go*" ∷ []
+
+-- a command line's words: its CPU, the directive's name, its operands
 abbrev pub line_words : Bool → Line → List (List ℕ)
-line_words hex line = number_text hex line.cpu ∷ command_text hex line.cmd
+line_words hex line = number_text hex line.cpu ∷ directive_text hex line.directive
 
 -- the words of the lines before the commands: the script's first line, each size and the seal, `born 1` and `begin`
 abbrev pub header_words : Bool → Config → List (List (List ℕ))
@@ -60,11 +70,18 @@ script_text hex script = flat_map words_text (header_words hex script.config ++ 
 abbrev pub CanBeWritten : Cmd → Type 0
 CanBeWritten (HLd ra) = ra < 2 ^ 64
 CanBeWritten (HSt ra value) = (ra < 2 ^ 64) × (value < 2 ^ 64)
+CanBeWritten (UPageout lpid dest gpa flags order) = (lpid < 2 ^ 64) × (dest < 2 ^ 64) × (gpa < 2 ^ 64) × (flags < 2 ^ 64) × (order < 2 ^ 64)
 CanBeWritten (UReturn r0 r2 outs) = (r0 < 2 ^ 64) × (r2 < 2 ^ 64) × (outs ≡ replicate 9 0)
 CanBeWritten (GLi rd value) = (rd < 32) × (value < 2 ^ 64)
 CanBeWritten (GLd rd gpa) = (rd < 32) × (gpa < 2 ^ 64)
 CanBeWritten (GSt rs gpa) = (rs < 32) × (gpa < 2 ^ 64)
 CanBeWritten GIrq = Unit {0}
+CanBeWritten Go = Unit {0}
+
+-- a directive whose command can be written
+abbrev pub DirectiveCanBeWritten : Directive → Type 0
+DirectiveCanBeWritten (Once cmd) = CanBeWritten cmd
+DirectiveCanBeWritten GoAll = Unit {0}
 
 -- the lines' numbers count up from this one
 abbrev pub CountsFrom : ℕ → List Line → Type 0
@@ -79,10 +96,10 @@ pub record HasDefaults (config : Config) : Type 0 where
   pub born : config.born ≡ 1 ∷ []
   pub entropy : config.entropy ≡ []
 
--- a script that a text can say, whose first command has this line: its sizes are in their ranges, and each line is one of a machine's CPUs with a command that can be written
+-- a script that a text can say, whose first command has this line: its sizes are in their ranges, and each line is one of a machine's CPUs with a directive that can be written
 pub record IsWritable (first : ℕ) (script : Script) : Type 0 where
   pub range : IsInRange script.config
   pub defaults : HasDefaults script.config
   pub counts : CountsFrom first script.lines
   pub cpus : AllByRecursion (λ (line : Line). line.cpu < script.config.cpus) script.lines
-  pub cmds : AllByRecursion (λ (line : Line). CanBeWritten line.cmd) script.lines
+  pub directives : AllByRecursion (λ (line : Line). DirectiveCanBeWritten line.directive) script.lines

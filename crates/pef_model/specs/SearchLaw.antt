@@ -5,7 +5,7 @@ use Rattle.pef_model.specs.declared.state.Run.{Run}
 use Rattle.pef_model.specs.declared.state.Ctx.{Ctx}
 use Rattle.pef_model.specs.declared.state.Ctx.TheVariants as ctx
 use Rattle.pef_model.specs.declared.command.Cmd.{Cmd}
-use Rattle.pef_model.specs.declared.command.Cmd.TheVariants.{HLd, HSt, UReturn, GLi, GLd, GSt, GIrq}
+use Rattle.pef_model.specs.declared.command.Cmd.TheVariants.{HLd, HSt, UPageout, UReturn, GLi, GLd, GSt, GIrq, Go}
 use Rattle.pef_model.specs.declared.entry.Answer.{Answer}
 use Rattle.pef_model.specs.declared.entry.Answer.TheVariants as answer
 use Rattle.pef_model.specs.Plan.{Plan}
@@ -29,6 +29,7 @@ access_decides plan lpid gpa past vid cmd a = None
 -- only the guest's own steps decide its doublewords
 abbrev pub step_decides : Plan → ℕ → ℕ → List Event → Ctx → Cmd → Answer → Option ℕ
 step_decides plan lpid gpa past ctx.Hv cmd a = None
+step_decides plan lpid gpa past (ctx.Uv work) cmd a = None
 step_decides plan lpid gpa past (ctx.Guest run) cmd a = if run.lpid == lpid then access_decides plan lpid gpa past run.vid cmd a else None
 
 -- the value that an entry gives the doubleword at an address of a guest
@@ -51,8 +52,20 @@ loaded_value r0 r2 outs code r =
     else if nat_le 4 r && nat_lt r 13 then Some (slice_index outs (r - 4))
     else None
 
+-- the value that UV_PAGE_OUT gives a register: R3 has this, R4 to R8 the operands
+abbrev pub value_of_page_out : ℕ → ℕ → ℕ → ℕ → ℕ → ℕ → ℕ → Option ℕ
+value_of_page_out lpid dest gpa flags order code r =
+    if r == 3 then Some code
+    else if r == 4 then Some lpid
+    else if r == 5 then Some dest
+    else if r == 6 then Some gpa
+    else if r == 7 then Some flags
+    else if r == 8 then Some order
+    else None
+
 -- the value that a command of a vCPU gives one of its registers
 abbrev pub assigned_by_command : Cmd → Answer → ℕ → Option ℕ
+assigned_by_command (UPageout lpid dest gpa flags order) (answer.Ret code) r = value_of_page_out lpid dest gpa flags order (number_of code) r
 assigned_by_command (UReturn r0 r2 outs) (answer.Ret code) r = loaded_value r0 r2 outs (number_of code) r
 assigned_by_command (GLi rd value) answer.Done r = if r == rd then Some value else None
 assigned_by_command (GLd rd gpa) (answer.Val value) r = if r == rd then Some value else None
@@ -61,21 +74,24 @@ assigned_by_command cmd a r = None
 -- the value that an entry gives a register of a vCPU
 abbrev pub assigned_in : Ctx → ℕ → Cmd → Answer → ℕ → Option ℕ
 assigned_in ctx.Hv vid cmd a r = None
+assigned_in (ctx.Uv work) vid cmd a r = None
 assigned_in (ctx.Guest run) vid cmd a r = if vid == run.vid then assigned_by_command cmd a r else None
 
 -- the value that an entry of a guest gives a register of its vCPU
 abbrev pub decides_register : Plan → ℕ → ℕ → ℕ → List Event → Event → Option ℕ
 decides_register plan lpid vid r past e = if touches_guest plan lpid e then assigned_in e.saw.before vid e.trace.cmd e.trace.answer r else None
 
--- a command that a script can have: its registers are R0 to R31, UV_RETURN has nine outputs, and what is stored has 64 bits
+-- a command that a script can have: its registers are R0 to R31, UV_RETURN has nine outputs, and what the hypervisor stores has 64 bits
 abbrev pub IsCommand : Cmd → Type 0
 IsCommand (HLd ra) = Unit {0}
 IsCommand (HSt ra value) = value < 2 ^ 64
+IsCommand (UPageout lpid dest gpa flags order) = Unit {0}
 IsCommand (UReturn r0 r2 outs) = length outs ≡ 9
 IsCommand (GLi rd value) = rd < 32
 IsCommand (GLd rd gpa) = rd < 32
 IsCommand (GSt rs gpa) = rs < 32
 IsCommand GIrq = Unit {0}
+IsCommand Go = Unit {0}
 
 -- reg is what the newest entry says that assigned the register
 abbrev pub RegIsNewest : Type 0

@@ -1,11 +1,13 @@
--- The law that the public state has no secret.
-use Rattle.std.specs.Prelude.{◌≡◌, ℕ, Bool, List, map}
+-- The law that the public state has no secret but what the sealed bytes of page-outs tell.
+use Rattle.std.specs.Prelude.{◌≡◌, ℕ, Bool, true, false, List, map}
 use Rattle.pef_model.specs.declared.state.Ctx.{Ctx}
 use Rattle.pef_model.specs.declared.state.Ctx.TheVariants as ctx
+use Rattle.pef_model.specs.declared.command.Directive.{Directive}
+use Rattle.pef_model.specs.declared.command.Directive.TheVariants.{Once, GoAll}
 use Rattle.pef_model.specs.declared.command.Cmd.{Cmd}
-use Rattle.pef_model.specs.declared.command.Cmd.TheVariants.{HLd, HSt, UReturn, GLi, GLd, GSt, GIrq}
+use Rattle.pef_model.specs.declared.command.Cmd.TheVariants.{HLd, HSt, UPageout, UReturn, GLi, GLd, GSt, GIrq, Go}
 use Rattle.pef_model.specs.declared.entry.Answer.{Answer}
-use Rattle.pef_model.specs.declared.entry.Answer.TheVariants.{Val}
+use Rattle.pef_model.specs.declared.entry.Answer.TheVariants as answer
 use Rattle.pef_model.specs.Plan.{Plan}
 use Rattle.pef_model.specs.Event.{Event}
 use Rattle.pef_model.specs.Target.{Ask, touches_cpu, touches_guest, touches_pool, touches_frame}
@@ -20,20 +22,33 @@ use Rattle.pef_model.specs.Memory.{next_pool, next_frame}
 abbrev pub open_cmd : Cmd → Cmd
 open_cmd (HLd ra) = HLd ra
 open_cmd (HSt ra value) = HSt ra value
+open_cmd (UPageout lpid dest gpa flags order) = UPageout lpid dest gpa flags order
 open_cmd (UReturn r0 r2 outs) = UReturn r0 r2 outs
 open_cmd (GLi rd value) = GLi rd 0
 open_cmd (GLd rd gpa) = GLd rd gpa
 open_cmd (GSt rs gpa) = GSt rs gpa
 open_cmd GIrq = GIrq
+open_cmd Go = Go
+
+-- a directive without that value
+abbrev pub open_directive : Directive → Directive
+open_directive (Once cmd) = Once (open_cmd cmd)
+open_directive GoAll = GoAll
+
+-- whether a step begins a page-out, which seals the page
+abbrev pub is_sealing : Ctx → Cmd → Answer → Bool
+is_sealing ctx.Hv (UPageout lpid dest gpa flags order) answer.Step = true
+is_sealing before cmd a = false
 
 -- a guest's answer without the value that it alone knows
 abbrev pub open_answer_of_guest : Answer → Answer
-open_answer_of_guest (Val value) = Val 0
+open_answer_of_guest (answer.Val value) = answer.Val 0
 open_answer_of_guest a = a
 
 -- the answer of a step, without a value that a guest alone knows
 abbrev pub open_answer : Ctx → Answer → Answer
 open_answer ctx.Hv a = a
+open_answer (ctx.Uv work) a = a
 open_answer (ctx.Guest run) a = open_answer_of_guest a
 
 -- an entry without the value of a g.li and the value that a guest's load gave
@@ -55,21 +70,21 @@ pub record SecretsStayIn (plan : Plan) (e f : Event) : Type 0 where
 abbrev pub NoSecretInOneEntry : Type 0
 NoSecretInOneEntry = (plan : Plan) (e f : Event) → open_entry e ≡ open_entry f → SecretsStayIn plan e f
 
--- the public state has no secret: two histories whose entries agree but there have one public state
+-- the public state has no secret but what entries' bytes tell: two histories whose entries agree but in a g.li's value and what a load gave have one public state
 abbrev pub NoSecretInPublicState : Type 0
 NoSecretInPublicState = (plan : Plan) (past other : List Event) → map open_entry past ≡ map open_entry other → public_state plan past ≡ public_state plan other
 
--- two deeds agree but for the value that a guest alone knows
-pub record AgreeButValue (before : Ctx) (one other : Deed) : Type 0 where
+-- two deeds agree but for the value that a guest alone knows, and for the page that is sealed where a page-out begins
+pub record AgreeButValue (before : Ctx) (cmd : Cmd) (one other : Deed) : Type 0 where
   pub answer : open_answer before one.answer ≡ open_answer before other.answer
   pub after : one.after ≡ other.after
   pub shown : one.shown ≡ other.shown
   pub pool : one.pool ≡ other.pool
   pub frame : one.frame ≡ other.frame
-  pub bytes : one.bytes ≡ other.bytes
+  pub bytes : is_sealing before cmd one.answer ≡ false → one.bytes ≡ other.bytes
 
--- what a step does at a guest is decided by the guest's public part and the command without the value of a g.li, but for the value of a load
+-- what a step does at a guest is decided by the guest's public part and the command without the value of a g.li, but for the value of a load and the page that is sealed
 abbrev pub NoSecretInDeeds : Type 0
 NoSecretInDeeds =
     (plan : Plan) (one other : Guest) (any : Bool) (ask : Ask) (cmd with_ : Cmd) → one.part ≡ other.part → open_cmd cmd ≡ open_cmd with_ →
-    AgreeButValue ask.before (deed_guest plan one any ask cmd) (deed_guest plan other any ask with_)
+    AgreeButValue ask.before cmd (deed_guest plan one any ask cmd) (deed_guest plan other any ask with_)

@@ -1,5 +1,5 @@
 -- Two runs that are alike have reports that agree in the hypervisor's lines.
-use Rattle.std.specs.Prelude.{◌≡◌, ℕ, List, map}
+use Rattle.std.specs.Prelude.{◌≡◌, ◌⊎◌, ℕ, List, map, IsTrue}
 use Rattle.std.specs.List.{filter}
 use Rattle.pef_model.specs.declared.config.Config.{Config}
 use Rattle.pef_model.specs.Plan.{Plan, plan_of}
@@ -8,9 +8,9 @@ use Rattle.pef_model.specs.History.{IsLegal}
 use Rattle.pef_model.specs.Script.{Line, Script}
 use Rattle.pef_model.specs.Run.{run_of}
 use Rattle.pef_model.specs.Report.{entry_line, report_end}
-use Rattle.pef_model.specs.SecretLaw.{open_cmd}
+use Rattle.pef_model.specs.SecretLaw.{open_directive}
 use Rattle.pef_model.specs.View.{is_seen}
-use Rattle.pef_model.specs.Alike.{AgreeButWords, IsAlike, IsAlikeOpen}
+use Rattle.pef_model.specs.Alike.{AgreeButWords, begins_sealing, IsAlike}
 
 -- two histories whose reports say the same where the hypervisor sees it
 pub record ReportTheSame (plan other_plan : Plan) (past history : List Event) : Type 0 where
@@ -29,7 +29,7 @@ AlikeReportTheSame =
 
 -- a line without the value that a guest alone knows
 abbrev pub open_line : Line → Line
-open_line line = record line { cmd = open_cmd line.cmd }
+open_line line = record line { directive = open_directive line.directive }
 
 -- two scripts differ in the values of g.li and in entropy words alone
 pub record DifferInSecrets (one other : Script) : Type 0 where
@@ -40,8 +40,13 @@ pub record DifferInSecrets (one other : Script) : Type 0 where
 abbrev pub all_let_out : List Event → List (List ℕ)
 all_let_out past = map (λ (e : Event). e.saw.shown) past
 
--- the runs of two scripts that differ in secrets alone are alike but for sealed bytes, where the guests let out the same
+-- the pages that the page-outs of a history sealed
+abbrev pub all_sealed : List Event → List (List ℕ)
+all_sealed past = map (λ (e : Event). e.bytes) (filter begins_sealing past)
+
+-- the runs of two scripts that differ in secrets alone are alike, where the guests let out the same, and where the sealed pages are the same or lie in a vault
 abbrev pub SecretsGiveAlikeRuns : Type 0
 SecretsGiveAlikeRuns =
     (one other : Script) → DifferInSecrets one other → all_let_out (run_of one) ≡ all_let_out (run_of other) →
-    IsAlikeOpen one.config (run_of one) other.config (run_of other)
+    (all_sealed (run_of one) ≡ all_sealed (run_of other)) ⊎ IsTrue one.config.vault →
+    IsAlike one.config (run_of one) other.config (run_of other)

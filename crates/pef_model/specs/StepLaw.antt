@@ -1,12 +1,13 @@
 -- Laws of one entry: what it makes of its CPU and lets out, and what it makes of a vCPU's registers.
-use Rattle.std.specs.Prelude.{◌≡◌, ℕ, ◌+◌, ◌%◌, ◌^◌, ◌==◌, ◌<◌, Bool, true, false, ◌||◌, if◌then◌else◌, List, [], ◌∷◌, length, Option, Some, None, unwrap_or, slice_index}
+use Rattle.std.specs.Prelude.{◌≡◌, ℕ, ◌+◌, ◌%◌, ◌^◌, ◌==◌, ◌<◌, Bool, true, false, ◌||◌, if◌then◌else◌, List, [], ◌∷◌, Option, Some, None, unwrap_or, slice_index}
+use Rattle.std.specs.List.{AllByRecursion}
 use Rattle.pef_model.specs.declared.state.Run.{Run}
 use Rattle.pef_model.specs.declared.state.Regs.{Regs}
 use Rattle.pef_model.specs.declared.state.Ctx.{Ctx}
 use Rattle.pef_model.specs.declared.state.Ctx.TheVariants as ctx
-use Rattle.pef_model.specs.declared.command.TheConstants.{UV_RETURN, EXTERNAL_INTERRUPT}
+use Rattle.pef_model.specs.declared.command.TheConstants.{UV_PAGE_OUT, UV_RETURN, EXTERNAL_INTERRUPT}
 use Rattle.pef_model.specs.declared.command.Cmd.{Cmd}
-use Rattle.pef_model.specs.declared.command.Cmd.TheVariants.{HLd, UReturn}
+use Rattle.pef_model.specs.declared.command.Cmd.TheVariants.{HLd, UPageout, UReturn}
 use Rattle.pef_model.specs.declared.entry.Exit.TheVariants as exit
 use Rattle.pef_model.specs.declared.entry.Answer.{Answer}
 use Rattle.pef_model.specs.declared.entry.Answer.TheVariants as answer
@@ -15,7 +16,8 @@ use Rattle.pef_model.specs.Event.{Event}
 use Rattle.pef_model.specs.Registers.{number_of}
 use Rattle.pef_model.specs.View.{is_hypervisor}
 use Rattle.pef_model.specs.History.{cpu_after, guest_after, Extends}
-use Rattle.pef_model.specs.SearchLaw.{loaded_value, IsCommand}
+use Rattle.pef_model.specs.SearchLaw.{loaded_value, value_of_page_out, IsCommand}
+use Rattle.pef_model.specs.SecretLaw.{is_sealing}
 
 -- whether the hypervisor keeps an answer as its last: it isn't Context, and the hypervisor ran before the step or runs after it
 abbrev pub is_kept : Ctx → Answer → Ctx → Bool
@@ -27,6 +29,11 @@ abbrev pub given_by_return : ℕ → ℕ → List ℕ → Answer → ℕ → Opt
 given_by_return r0 r2 outs (answer.Ret code) r = loaded_value r0 r2 outs (number_of code) r
 given_by_return r0 r2 outs a r = loaded_value r0 r2 outs UV_RETURN r
 
+-- the value that UV_PAGE_OUT of the hypervisor gives one of its registers: R3 has the code where the call came back at once, and else its number
+abbrev pub given_by_page_out : ℕ → ℕ → ℕ → ℕ → ℕ → Answer → ℕ → Option ℕ
+given_by_page_out lpid dest gpa flags order (answer.Ret code) r = value_of_page_out lpid dest gpa flags order (number_of code) r
+given_by_page_out lpid dest gpa flags order a r = value_of_page_out lpid dest gpa flags order UV_PAGE_OUT r
+
 -- the value that a load of the hypervisor gives one of its registers: R3 has what was loaded
 abbrev pub given_by_load : Answer → ℕ → Option ℕ
 given_by_load (answer.Val value) r = if r == 3 then Some value else None
@@ -35,6 +42,7 @@ given_by_load a r = None
 -- the value that a command of the hypervisor gives one of its registers: a load that was refused and a store give none
 abbrev pub given_by_command : Cmd → Answer → ℕ → Option ℕ
 given_by_command (HLd ra) a r = given_by_load a r
+given_by_command (UPageout lpid dest gpa flags order) a r = given_by_page_out lpid dest gpa flags order a r
 given_by_command (UReturn r0 r2 outs) a r = given_by_return r0 r2 outs a r
 given_by_command cmd a r = None
 
@@ -44,9 +52,15 @@ given_by_leaving (answer.Exit exit.Irq) r = Some (if r == 3 then EXTERNAL_INTERR
 given_by_leaving answer.Gone r = Some 0
 given_by_leaving a r = None
 
+-- a call in progress that comes back gives R3 its code
+abbrev pub given_by_coming_back : Answer → ℕ → Option ℕ
+given_by_coming_back (answer.Ret code) r = if r == 3 then Some (number_of code) else None
+given_by_coming_back a r = None
+
 -- the value that a step gives one of the hypervisor's registers
 abbrev pub own_given_in : Ctx → Cmd → Answer → ℕ → Option ℕ
 own_given_in ctx.Hv cmd a r = given_by_command cmd a r
+own_given_in (ctx.Uv work) cmd a r = given_by_coming_back a r
 own_given_in (ctx.Guest run) cmd a r = given_by_leaving a r
 
 -- the value that an entry gives one of the hypervisor's registers on its CPU
@@ -63,8 +77,9 @@ abbrev pub selected_vid : Ctx → Answer → ℕ → ℕ
 selected_vid (ctx.Guest run) (answer.Exit exit) old = run.vid
 selected_vid before a old = old
 
--- what a step lets out: a guest's UV_RETURN that came back its operands, every other step nothing
+-- what a step lets out: a guest's call that came back its operands, every other step nothing
 abbrev pub let_out : Ctx → Cmd → Answer → List ℕ
+let_out (ctx.Guest run) (UPageout lpid dest gpa flags order) (answer.Ret code) = lpid ∷ dest ∷ gpa ∷ flags ∷ order ∷ []
 let_out (ctx.Guest run) (UReturn r0 r2 outs) (answer.Ret code) = r0 ∷ r2 ∷ outs
 let_out before cmd a = []
 
@@ -82,12 +97,14 @@ pub record LeavesCpu (plan : Plan) (past : List Event) (e : Event) : Type 0 wher
   pub lpid : (cpu_after plan e.trace.cpu (e ∷ past)).lpid ≡ selected_lpid e.saw.before e.trace.answer (cpu_after plan e.trace.cpu past).lpid
   -- and so does the selected vCPU
   pub vid : (cpu_after plan e.trace.cpu (e ∷ past)).vid ≡ selected_vid e.saw.before e.trace.answer (cpu_after plan e.trace.cpu past).vid
+  -- the hand has the entry's bytes where a page-out begins, and else stays
+  pub hand : (cpu_after plan e.trace.cpu (e ∷ past)).hand ≡ (if is_sealing e.saw.before e.trace.cmd e.trace.answer then e.bytes else (cpu_after plan e.trace.cpu past).hand)
   -- the entry shows what the step lets out
   pub shown : e.saw.shown ≡ let_out e.saw.before e.trace.cmd e.trace.answer
 
 abbrev pub EachEntryLeavesCpu : Type 0
 EachEntryLeavesCpu =
-    (plan : Plan) (past : List Event) (e : Event) → IsCommand e.trace.cmd → length (cpu_after plan e.trace.cpu past).own ≡ 32 → Extends plan past e → LeavesCpu plan past e
+    (plan : Plan) (past : List Event) (e : Event) → IsCommand e.trace.cmd → AllByRecursion (λ (f : Event). IsCommand f.trace.cmd) past → Extends plan past e → LeavesCpu plan past e
 
 -- an entry is a step of a vCPU
 pub record IsStepOf (lpid vid : ℕ) (run : Run) (e : Event) : Type 0 where

@@ -1,23 +1,38 @@
 -- At what a step aims, and which objects an entry touches.
-use Rattle.std.specs.Prelude.{ℕ, ◌/◌, ◌%◌, ◌^◌, ◌==◌, nat_lt, Bool, false, ◌&&◌, if◌then◌else◌, Option, Some, None, is_some}
+use Rattle.std.specs.Prelude.{ℕ, ◌/◌, ◌%◌, ◌^◌, ◌==◌, nat_lt, nat_le, Bool, true, false, ◌&&◌, if◌then◌else◌, List, [], Option, Some, None, is_some}
+use Rattle.pef_model.specs.declared.state.Move.{Move}
+use Rattle.pef_model.specs.declared.state.Work.{Work}
+use Rattle.pef_model.specs.declared.state.Work.TheVariants.{Outward}
 use Rattle.pef_model.specs.declared.state.Ctx.{Ctx}
 use Rattle.pef_model.specs.declared.state.Ctx.TheVariants as ctx
 use Rattle.pef_model.specs.declared.command.Cmd.{Cmd}
-use Rattle.pef_model.specs.declared.command.Cmd.TheVariants.{HLd, HSt, UReturn, GLi, GLd, GSt, GIrq}
+use Rattle.pef_model.specs.declared.command.Cmd.TheVariants.{HLd, HSt, UPageout, UReturn, GLi, GLd, GSt, GIrq, Go}
 use Rattle.pef_model.specs.declared.entry.Answer.{Answer}
 use Rattle.pef_model.specs.Plan.{Plan}
 use Rattle.pef_model.specs.Event.{Event}
 
--- what a step learns of its CPU: the context, the selected vCPU, the last answer
+-- whether a step uses the page in its CPU's hand: those of a call in progress do
+abbrev pub uses_hand : Ctx → Cmd → Bool
+uses_hand (ctx.Uv work) Go = true
+uses_hand before cmd = false
+
+-- what a step learns of its CPU: the context, the selected vCPU, the last answer, and the hand where it uses it
 pub record Ask : Type 0 where
   pub before : Ctx
   pub lpid : ℕ
   pub vid : ℕ
   pub last : Answer
+  pub hand : List ℕ
 
--- the same, as an entry tells it
+-- the same, as an entry tells it: the hand is the bytes of a step that uses it
 abbrev pub told : Event → Ask
-told e = record { before = e.saw.before; lpid = e.saw.lpid; vid = e.saw.vid; last = e.saw.last }
+told e = record {
+  before = e.saw.before;
+  lpid = e.saw.lpid;
+  vid = e.saw.vid;
+  last = e.saw.last;
+  hand = if uses_hand e.saw.before e.trace.cmd then e.bytes else [];
+}
 
 -- the object whose state decides a step's answer
 pub data Target : Type 0 where
@@ -37,29 +52,54 @@ has_real_place plan ra = (ra % 8 == 0) && nat_lt (frame_of plan ra) plan.normal
 abbrev pub target_of_address : Plan → ℕ → Target
 target_of_address plan ra = if has_real_place plan ra then AtFrame (frame_of plan ra) else Alone
 
--- in the hypervisor UV_RETURN aims at the selected guest, a load or store at its frame, and a guest's command at nothing
+-- a call that names a guest aims at it, if there is one of that number
+abbrev pub target_of_number : Plan → ℕ → Target
+target_of_number plan lpid = if nat_le 1 lpid && nat_le lpid plan.guests then AtGuest lpid else Alone
+
+-- in the hypervisor UV_RETURN aims at the selected guest, UV_PAGE_OUT at the one that it names, a load or store at its frame, and every other command at nothing
 abbrev pub target_of_hypervisor : Plan → ℕ → Cmd → Target
 target_of_hypervisor plan lpid (HLd ra) = target_of_address plan ra
 target_of_hypervisor plan lpid (HSt ra value) = target_of_address plan ra
+target_of_hypervisor plan lpid (UPageout named dest gpa flags order) = target_of_number plan named
 target_of_hypervisor plan lpid (UReturn r0 r2 outs) = AtGuest lpid
 target_of_hypervisor plan lpid (GLi rd value) = Alone
 target_of_hypervisor plan lpid (GLd rd gpa) = Alone
 target_of_hypervisor plan lpid (GSt rs gpa) = Alone
 target_of_hypervisor plan lpid GIrq = Alone
+target_of_hypervisor plan lpid Go = Alone
 
--- a guest's own commands aim at the guest, whatever they name, and the hypervisor's at nothing
+-- a guest's own commands aim at the guest, whatever they name, and every other command at nothing
 abbrev pub target_of_running : ℕ → Cmd → Target
 target_of_running lpid (HLd ra) = Alone
 target_of_running lpid (HSt ra value) = Alone
+target_of_running lpid (UPageout named dest gpa flags order) = AtGuest lpid
 target_of_running lpid (UReturn r0 r2 outs) = AtGuest lpid
 target_of_running lpid (GLi rd value) = AtGuest lpid
 target_of_running lpid (GLd rd gpa) = AtGuest lpid
 target_of_running lpid (GSt rs gpa) = AtGuest lpid
 target_of_running lpid GIrq = AtGuest lpid
+target_of_running lpid Go = Alone
+
+-- a page on the move outward aims at its normal frame until it is copied there, and then at its guest
+abbrev pub target_of_outward : Move → Target
+target_of_outward move = if move.copied then AtGuest move.lpid else AtFrame move.frame
+
+-- the next step of a call in progress aims as its work says, and every other command at nothing
+abbrev pub target_of_work : Work → Cmd → Target
+target_of_work (Outward move) (HLd ra) = Alone
+target_of_work (Outward move) (HSt ra value) = Alone
+target_of_work (Outward move) (UPageout named dest gpa flags order) = Alone
+target_of_work (Outward move) (UReturn r0 r2 outs) = Alone
+target_of_work (Outward move) (GLi rd value) = Alone
+target_of_work (Outward move) (GLd rd gpa) = Alone
+target_of_work (Outward move) (GSt rs gpa) = Alone
+target_of_work (Outward move) GIrq = Alone
+target_of_work (Outward move) Go = target_of_outward move
 
 -- the target of a step
 abbrev pub target_in : Plan → Ctx → ℕ → Cmd → Target
 target_in plan ctx.Hv lpid cmd = target_of_hypervisor plan lpid cmd
+target_in plan (ctx.Uv work) lpid cmd = target_of_work work cmd
 target_in plan (ctx.Guest run) lpid cmd = target_of_running run.lpid cmd
 
 -- the target of an entry's step

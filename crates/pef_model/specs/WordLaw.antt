@@ -1,7 +1,8 @@
 -- Words at the edge of the grammar, each computed from the definitions.
 use Rattle.std.specs.Prelude.{◌≡◌, true, [], ◌∷◌, codes, Option, Some, None}
 use Rattle.pef_model.specs.declared.config.Config.{Config}
-use Rattle.pef_model.specs.declared.command.Cmd.TheVariants.{GLd, GIrq}
+use Rattle.pef_model.specs.declared.command.Directive.TheVariants.{Once, GoAll}
+use Rattle.pef_model.specs.declared.command.Cmd.TheVariants.{UPageout, GLd, GIrq, Go}
 use Rattle.pef_model.specs.Header.{born_one}
 use Rattle.pef_model.specs.Script.{Script, script_of}
 use Rattle.pef_model.specs.Words.{number_in, register_in}
@@ -94,10 +95,22 @@ pub record HeadersAtTheEdge : Type 0 where
   pub three_words : script_of (codes "pef 1\nshift 8 8\nborn 1\nbegin\n") ≡ None
   pub no_number : script_of (codes "pef 1\nshift\nborn 1\nbegin\n") ≡ None
   pub last_cpu : script_of (codes "pef 1\ncpus 2\nborn 1\nbegin\n0x1 g.ld r3 4\n")
-      ≡ Some (record { config = record born_one { cpus = 2 }; lines = record { number = 5; cpu = 1; cmd = GLd 3 4 } ∷ [] })
+      ≡ Some (record { config = record born_one { cpus = 2 }; lines = record { number = 5; cpu = 1; directive = Once (GLd 3 4) } ∷ [] })
   pub cpu_too_great : script_of (codes "pef 1\ncpus 2\nborn 1\nbegin\n2 g.ld r3 4\n") ≡ None
   pub interrupt : script_of (codes "pef 1\ncpus 2\nborn 1\nbegin\n1 g.irq\n")
-      ≡ Some (record { config = record born_one { cpus = 2 }; lines = record { number = 5; cpu = 1; cmd = GIrq } ∷ [] })
+      ≡ Some (record { config = record born_one { cpus = 2 }; lines = record { number = 5; cpu = 1; directive = Once GIrq } ∷ [] })
+
+-- a page-out with its five operands, and `go` and `go*` with none
+pub record CallsAtTheEdge : Type 0 where
+  pub page_out : script_of (codes "pef 1\nborn 1\nbegin\n0 u.pageout 1 0x100 0 0 8\n")
+      ≡ Some (record { config = born_one; lines = record { number = 4; cpu = 0; directive = Once (UPageout 1 256 0 0 8) } ∷ [] })
+  pub four_operands : script_of (codes "pef 1\nborn 1\nbegin\n0 u.pageout 1 0x100 0 0\n") ≡ None
+  pub six_operands : script_of (codes "pef 1\nborn 1\nbegin\n0 u.pageout 1 0x100 0 0 8 8\n") ≡ None
+  pub operand_is_no_number : script_of (codes "pef 1\nborn 1\nbegin\n0 u.pageout 1 r1 0 0 8\n") ≡ None
+  pub go : script_of (codes "pef 1\nborn 1\nbegin\n0 go\n") ≡ Some (record { config = born_one; lines = record { number = 4; cpu = 0; directive = Once Go } ∷ [] })
+  pub go_all : script_of (codes "pef 1\nborn 1\nbegin\n0 go*\n") ≡ Some (record { config = born_one; lines = record { number = 4; cpu = 0; directive = GoAll } ∷ [] })
+  pub go_with_operand : script_of (codes "pef 1\nborn 1\nbegin\n0 go 1\n") ≡ None
+  pub go_all_apart : script_of (codes "pef 1\nborn 1\nbegin\n0 go *\n") ≡ None
 
 -- the edge, whole
 pub record WordsAtTheEdge : Type 0 where
@@ -106,3 +119,4 @@ pub record WordsAtTheEdge : Type 0 where
   pub lines : LinesAtTheEdge
   pub sizes : SizesAtTheEdge
   pub headers : HeadersAtTheEdge
+  pub calls : CallsAtTheEdge

@@ -5,8 +5,14 @@ ghost use Rattle.pef_model.specs.Registers.{number_of};
 
 use std::marker::Model;
 
+/// The number of the ultracall UV_PAGE_OUT, which its caller puts into R3. This project's own.
+pub const UV_PAGE_OUT: u64 = 5;
+
 /// The number of the ultracall UV_RETURN, which its caller puts into R3. This project's own.
 pub const UV_RETURN: u64 = 8;
+
+/// The flag of UV_PAGE_OUT that asks for a copy of a page which stays. This project's own number.
+pub const UV_SNAPSHOT: u64 = 1;
 
 /// What R3 shows the hypervisor where an external interrupt takes a secure guest from the CPU: the interrupt's vector. This
 /// project's own choice of register.
@@ -55,6 +61,24 @@ impl Reg {
 /// What an ultracall or a hypercall gives back in R3.
 #[derive(Clone, Copy, Debug, PartialEq, Eq)]
 pub enum Code {
+    /// The call is done.
+    USuccess,
+    /// The first operand names nothing that the call is for, or the guest has ended since the call began.
+    UParameter,
+    /// The second operand is wrong.
+    UP2,
+    /// The third operand is wrong.
+    UP3,
+    /// The fourth operand is wrong.
+    UP4,
+    /// The fifth operand is wrong.
+    UP5,
+    /// The call doesn't do what was asked for.
+    UFunction,
+    /// The call can't be done at present.
+    UBusy,
+    /// The caller has no right to the call.
+    UPermission,
     /// The call makes no sense in the caller's state.
     UInvalid,
 }
@@ -65,27 +89,74 @@ impl Code {
         ensures { result ≡ number_of self }
     {
         match self {
+            Code::USuccess => 0,
+            Code::UParameter => 1,
+            Code::UP2 => 2,
+            Code::UP3 => 3,
+            Code::UP4 => 4,
+            Code::UP5 => 5,
+            Code::UFunction => 6,
+            Code::UBusy => 7,
+            Code::UPermission => 8,
             Code::UInvalid => 9,
         }
     }
 }
 
-/// A command of a script: what the hypervisor or the guest on a CPU does in one step.
+/// A command: what the hypervisor or the guest on a CPU does in one step.
 #[derive(Clone, Copy, Debug, PartialEq, Eq)]
 pub enum Cmd {
     /// The hypervisor loads the doubleword at a real address, in bytes, into R3.
-    HLd { ra: u64 },
+    HLd {
+        ra: u64,
+    },
     /// The hypervisor stores a doubleword at a real address, in bytes.
-    HSt { ra: u64, value: u64 },
+    HSt {
+        ra: u64,
+        value: u64,
+    },
+    /// The ultracall UV_PAGE_OUT: the page at a guest address, in bytes, of the guest of a number, from 1, moves into the
+    /// normal frame at a real address, in bytes; the order is a page's size as a power of two.
+    UPageout {
+        lpid: u64,
+        dest: u64,
+        gpa: u64,
+        flags: u64,
+        order: u64,
+    },
     /// The ultracall UV_RETURN, with the values that the caller loads: R0 a hypercall's return value, R2 the
     /// address of a synthesized interrupt or 0, and R4 to R12 a hypercall's outputs.
-    UReturn { r0: u64, r2: u64, outs: [u64; 9] },
+    UReturn {
+        r0: u64,
+        r2: u64,
+        outs: [u64; 9],
+    },
     /// The guest puts a value into a register.
-    GLi { rd: Reg, value: u64 },
+    GLi {
+        rd: Reg,
+        value: u64,
+    },
     /// The guest loads the doubleword at a guest address, in bytes, into a register.
-    GLd { rd: Reg, gpa: u64 },
+    GLd {
+        rd: Reg,
+        gpa: u64,
+    },
     /// The guest stores a register at a guest address, in bytes.
-    GSt { rs: Reg, gpa: u64 },
+    GSt {
+        rs: Reg,
+        gpa: u64,
+    },
     /// An external interrupt comes while the guest runs.
     GIrq,
+    /// The next step of the call in progress.
+    Go,
+}
+
+/// What a line of a script tells its CPU to do.
+#[derive(Clone, Copy, Debug, PartialEq, Eq)]
+pub enum Directive {
+    /// One command, once.
+    Once(Cmd),
+    /// `go` again and again, at least once, until no call is in progress or nothing can be done at present.
+    GoAll,
 }

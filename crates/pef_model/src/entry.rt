@@ -23,6 +23,8 @@ pub enum Answer {
     Val(u64),
     /// The call came back with this code.
     Ret(Code),
+    /// One step of a call is done, and the call is in progress.
+    Step,
     /// A vCPU runs from now on.
     Enter,
     /// The guest leaves, and the hypervisor runs from now on.

@@ -1,14 +1,14 @@
 //! The laws of the definitions: each is the contract of a function that does nothing.
 
-ghost use Rattle.pef_model.specs.RunLaw.{OneRun, StoreAndLoad, OneFrame, MarksOfOneFrame, NoneIsBorn};
+ghost use Rattle.pef_model.specs.RunLaw.{OneRun, StoreAndLoad, OneFrame, MarksOfOneFrame, NoneIsBorn, GoesOut, EachGoAllEnds};
 ghost use Rattle.pef_model.specs.WordLaw.{WordsAtTheEdge};
-ghost use Rattle.pef_model.specs.ReadLaw.{EachOwnEntriesDecide, TheseFieldsDecide, TouchedObjectsDecide, AskedIsTold};
+ghost use Rattle.pef_model.specs.ReadLaw.{EachOwnEntriesDecide, TheseFieldsDecide, TouchedObjectsDecide, AskedIsTold, UnaskedMakesNoDifference};
 ghost use Rattle.pef_model.specs.SecretLaw.{NoSecretInPublicState, NoSecretInOneEntry, NoSecretInDeeds};
 ghost use Rattle.pef_model.specs.SearchLaw.{LastStoreIsNewest, RegIsNewest, LoadGivesLastStore, LastStoreIsStored, LastStoreIsZero};
-ghost use Rattle.pef_model.specs.Alike.{AlikeShowTheSame, OpenIsAlike};
+ghost use Rattle.pef_model.specs.Alike.{AlikeShowTheSame, OpenIsAlike, UnsealedIsAlike};
 ghost use Rattle.pef_model.specs.SeenReport.{AlikeReportTheSame, SecretsGiveAlikeRuns};
-ghost use Rattle.pef_model.specs.PairLaw.{SecretStaysIn, ViewShowsStores};
-ghost use Rattle.pef_model.specs.NormalLaw.{FramesHoldLastNorm, GuestLeavesFrames, StoreLeavesGuests};
+ghost use Rattle.pef_model.specs.PairLaw.{SecretStaysIn, ViewShowsStores, StreamTells, VaultIsShut};
+ghost use Rattle.pef_model.specs.NormalLaw.{FramesHoldLastNorm, GuestLeavesFrames, StoreLeavesGuests, WritesMakeFrames, EachMoveKeepsToItsObjects};
 
 /// A secure guest that stores 7 loads 7, and the report says so.
 pub fn store_and_load()
@@ -82,7 +82,8 @@ pub fn words_at_the_edge()
     ensures { WordsAtTheEdge }
 {}
 
-/// What a step does at a guest is decided by the guest's public part, but for the value of a load.
+/// What a step does at a guest is decided by the guest's public part, but for the value of a load and the page that a
+/// page-out seals.
 pub fn no_secret_in_deeds()
     ensures { NoSecretInDeeds }
 {}
@@ -98,9 +99,24 @@ pub fn touched_objects_decide()
     ensures { TouchedObjectsDecide }
 {}
 
-/// A step that reads or changes the number of free frames tells whether one was free.
+/// A step that needs a free frame tells whether one was free, and one that only gives a frame back doesn't.
 pub fn asked_is_told()
     ensures { AskedIsTold }
+{}
+
+/// Whether a frame is free makes no difference to a step that doesn't tell it.
+pub fn unasked_makes_no_difference()
+    ensures { UnaskedMakesNoDifference }
+{}
+
+/// The normal frames are what the writes that the hypervisor sees leave, on memory that begins with zeros.
+pub fn writes_make_frames()
+    ensures { WritesMakeFrames }
+{}
+
+/// The begin and the end of a page-out change no normal frame, and its copy no guest.
+pub fn each_move_keeps_to_its_objects()
+    ensures { EachMoveKeepsToItsObjects }
 {}
 
 /// The frames of the public state hold what was last stored at each real address.
@@ -130,7 +146,8 @@ pub fn alike_report_the_same()
     ensures { AlikeReportTheSame }
 {}
 
-/// Two scripts that differ in secrets alone have alike runs, where the guests let out the same.
+/// Two scripts that differ in secrets alone have alike runs, where the guests let out the same and the sealed pages are the
+/// same or lie in a vault.
 pub fn secrets_give_alike_runs()
     ensures { SecretsGiveAlikeRuns }
 {}
@@ -145,7 +162,34 @@ pub fn view_shows_stores()
     ensures { ViewShowsStores }
 {}
 
-/// No command seals a page, so histories that are alike but for sealed bytes are alike.
+/// Where the configuration has a vault, legal histories that are alike but for sealed bytes are alike.
 pub fn open_is_alike()
     ensures { OpenIsAlike }
+{}
+
+/// Histories in which no page-out begins are alike where they are alike but for sealed bytes.
+pub fn unsealed_is_alike()
+    ensures { UnsealedIsAlike }
+{}
+
+/// Two runs in which a guest's page is paged out by the stream, with 7 and with 9 in it: what is sealed differs, and so do
+/// the views.
+pub fn stream_tells()
+    ensures { StreamTells }
+{}
+
+/// Two runs in which a guest's page is paged out into the vault, with 7 and with 9 in it: what is sealed is the same, and so
+/// are the views.
+pub fn vault_is_shut()
+    ensures { VaultIsShut }
+{}
+
+/// A page is paged out in three steps, of which `go*` makes two.
+pub fn goes_out()
+    ensures { GoesOut }
+{}
+
+/// After a legal history `go*` ends within its most entries.
+pub fn each_go_all_ends()
+    ensures { EachGoAllEnds }
 {}

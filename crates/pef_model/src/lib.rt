@@ -6,10 +6,15 @@ pub mod config;
 pub mod entry;
 pub mod grammar_laws;
 pub mod laws;
+pub mod move_laws;
 pub mod state;
 pub mod step_laws;
 
-pub use command::{Cmd, Code, EXTERNAL_INTERRUPT, Reg, UV_RETURN};
+pub use command::{
+    Cmd, Code, Directive, EXTERNAL_INTERRUPT, Reg, UV_PAGE_OUT, UV_RETURN, UV_SNAPSHOT,
+};
 pub use config::{Config, EntropyWord, EntropyWords, Lpids};
 pub use entry::{Answer, Entry, Exit, Exposed, History, PoolSaw, Saw, Trace};
-pub use state::{Ctx, Digest32, Kind, Mover, Pending, Phase, Regs, Run, Tag, VState, Way};
+pub use state::{
+    Ctx, Digest32, Kind, Move, Mover, Pending, Phase, Regs, Run, Tag, VState, Way, Work,
+};

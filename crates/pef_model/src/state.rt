@@ -100,11 +100,35 @@ pub struct Run {
     pub generation: u64,
 }
 
+/// A page on the move: which one, and between which frames.
+#[derive(Clone, Copy, Debug, PartialEq, Eq)]
+pub struct Move {
+    /// The guest's number, from 1.
+    pub lpid: u16,
+    /// The guest's generation when the move began, from 1.
+    pub generation: u64,
+    /// The page's number, from 0.
+    pub gfn: u32,
+    /// The normal frame's number, from 0.
+    pub frame: u32,
+    /// Whether the copy between the hand and the normal frame was made.
+    pub copied: bool,
+}
+
+/// What is left to do of a call that a CPU has in progress.
+#[derive(Clone, Copy, Debug, PartialEq, Eq)]
+pub enum Work {
+    /// UV_PAGE_OUT: the page moves into normal memory.
+    Outward(Move),
+}
+
 /// What a CPU is doing.
 #[derive(Clone, Copy, Debug, PartialEq, Eq)]
 pub enum Ctx {
     /// The hypervisor runs.
     Hv,
+    /// A call is in progress.
+    Uv(Work),
     /// A guest's vCPU runs.
     Guest(Run),
 }

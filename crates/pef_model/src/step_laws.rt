@@ -3,8 +3,8 @@
 ghost use Rattle.pef_model.specs.StepLaw.{EachEntryLeavesCpu, EachEntryLeavesRegisters};
 ghost use Rattle.pef_model.specs.CountLaw.{EachCpuRunsItsVcpu, NoVcpuRunsTwice, FramesAreCounted, OrderHasSecurePages, OrderGrows};
 
-/// An entry leaves its CPU in the context that it tells, with these registers, last answer and selection, and shows what
-/// its step lets out.
+/// An entry leaves its CPU in the context that it tells, with these registers, last answer, selection and hand, and shows
+/// what its step lets out.
 pub fn each_entry_leaves_cpu()
     ensures { EachEntryLeavesCpu }
 {}
@@ -35,7 +35,7 @@ pub fn order_has_secure_pages()
     ensures { OrderHasSecurePages }
 {}
 
-/// A guest's order grows at its end alone.
+/// The pages that stay Secure keep their order, and a page that becomes Secure stands behind them.
 pub fn order_grows()
     ensures { OrderGrows }
 {}

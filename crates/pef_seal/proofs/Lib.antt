@@ -1,4 +1,3 @@
-pub mod Filled
 pub mod Masks
 mod Messages
 pub mod Places

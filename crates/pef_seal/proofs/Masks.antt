@@ -1,35 +1,12 @@
--- The exclusive-or with a keystream, its mask: block by block, and twice.
-use Rattle.std.proofs.Common.{◌≡◌, ℕ, ◌+◌, ◌-◌, ◌*◌, ◌/◌, ◌%◌, ◌<◌, ◌≤◌, List, ◌++◌, length, take, drop, slice_index, bit_xor, arith, ap, sym, ◌∙◌, length-take, inl, inr}
-use Rattle.std.specs.Int.Bits.{xor_assoc, xor_self, xor_zero_r}
-use Rattle.std.proofs.lemmas.List.FromFn.{length-map-range_with_len, get_or-map-range_with_len, fill_by_all}
+-- The exclusive-or with a keystream, its mask, block by block.
+use Rattle.std.proofs.Common.{◌≡◌, ℕ, ◌+◌, ◌-◌, ◌*◌, ◌/◌, ◌%◌, ◌<◌, ◌≤◌, List, ◌++◌, length, take, drop, slice_index, bit_xor, arith, ap, ◌∙◌, length-take, inl, inr}
+use Rattle.std.proofs.lemmas.List.FromFn.{fill_by_all}
 use Rattle.std.proofs.lemmas.Bool.{cases_lt}
 use Rattle.std.proofs.lemmas.List.{get_or_append_left, get_or-append_right, get_or-take, get_or-drop}
 use borrow.Rule.Slice.PartMut.{put_mid}
 use Rattle.pef_model.specs.Seal.{keystream, keystream_block, stream_image}
 use Rattle.pef_model.specs.declared.state.Tag.{Tag}
-
--- the exclusive-or with a number is undone by itself
-pub xor_twice : (a b : ℕ) → bit_xor (bit_xor a b) b ≡ a
-xor_twice a b = xor_assoc a b b ∙ ap (bit_xor a) (xor_self b) ∙ xor_zero_r a
-
--- a sealed page is as long as the page
-pub length-stream_image : (key : List ℕ) (tag : Tag) (plain : List ℕ) → length (stream_image key tag plain) ≡ length plain
-length-stream_image key tag plain = length-map-range_with_len _ 0 (length plain)
-
--- byte i of a sealed page
-stream_image-byte : (key : List ℕ) (tag : Tag) (plain : List ℕ) (i : ℕ) → i < length plain →
-    slice_index (stream_image key tag plain) i ≡ bit_xor (slice_index plain i) (keystream key tag i)
-stream_image-byte key tag plain i within =
-    get_or-map-range_with_len (λ (k : ℕ). bit_xor (slice_index plain k) (keystream key tag k)) 0 (length plain) i i 0 within (omega arith)
-
--- sealing a sealed page gives the page
-pub stream_image-twice : (key : List ℕ) (tag : Tag) (plain : List ℕ) → stream_image key tag (stream_image key tag plain) ≡ plain
-stream_image-twice key tag plain =
-    let sealed = stream_image key tag plain in
-    let long = length-stream_image key tag plain in
-    sym (fill_by_all (λ (k : ℕ). bit_xor (slice_index sealed k) (keystream key tag k)) plain (length sealed) 0 (sym long)
-    (λ k within.
-    sym (ap (λ (b : ℕ). bit_xor b (keystream key tag k)) (stream_image-byte key tag plain k (omega arith)) ∙ xor_twice (slice_index plain k) (keystream key tag k))))
+use Rattle.pef_model.proofs.Streams.{stream_image-twice}
 
 -- byte i of block n of the keystream
 keystream-late : (key : List ℕ) (tag : Tag) (n i : ℕ) → 32 * n ≤ i → i < 32 * n + 32 → slice_index (keystream_block key tag n) (i - 32 * n) ≡ keystream key tag i

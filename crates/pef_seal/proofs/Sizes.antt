@@ -1,14 +1,14 @@
 -- What a page's size is large enough for, and what divides it.
 use Rattle.std.proofs.Common.{◌≡◌, ℕ, ◌+◌, ◌-◌, ◌*◌, ◌%◌, ◌^◌, ◌≤◌, arith, ap, ◌∙◌}
-use Rattle.std.proofs.Math.Nat.{pow-le-pow_right}
 use Rattle.std.proofs.lemmas.Nat.{pow-add}
+use Rattle.pef_model.proofs.Filled.{tag_fits}
 use Rattle.pef_seal.specs.PageSize.{IsPageSize}
 
 -- a tag fits into a page
 pub page_holds_tag : (size : ℕ) → IsPageSize size → 32 ≤ size
 page_holds_tag size page =
-    let least : 2 ^ 8 ≤ 2 ^ page.shift = pow-le-pow_right (omega arith) page.range.0 in
-    omega (arith, least, page.is)
+    let fits = tag_fits page.shift page.range.0 in
+    omega (arith, fits, page.is)
 
 -- a power of two from 32 on, as a number of blocks
 power_of_blocks : (shift : ℕ) → 8 ≤ shift → 2 ^ shift ≡ 2 ^ (shift - 5) * 32

@@ -1,6 +1,5 @@
 -- What follows from the definition of a sealed page.
-use Rattle.std.specs.Prelude.{◌≡◌, ℕ, ◌<◌, ◌^◌, List, length, IsTrue}
-use Rattle.pef_model.specs.Plan.{IsInRange}
+use Rattle.std.specs.Prelude.{◌≡◌, ℕ, ◌<◌, ◌^◌, List, IsTrue}
 use Rattle.pef_model.specs.Seal.{stream_image, vault_image, image}
 use Rattle.pef_model.specs.declared.config.Config.{Config}
 use Rattle.pef_model.specs.declared.state.Tag.{Tag}
@@ -8,11 +7,6 @@ use Rattle.pef_model.specs.declared.state.Tag.{Tag}
 -- the stream's sealed page of its sealed page is the page
 abbrev pub StreamSealsBack : Type 0
 StreamSealsBack = (key : List ℕ) (tag : Tag) (plain : List ℕ) → stream_image key tag (stream_image key tag plain) ≡ plain
-
--- a sealed page has as many bytes as the page
-abbrev pub SealedPagesFill : Type 0
-SealedPagesFill = (config : Config) (tag : Tag) (plain : List ℕ) → IsInRange config → length plain ≡ 2 ^ config.shift →
-    length (image config tag plain) ≡ 2 ^ config.shift
 
 -- two pages have one sealed page under a tag, where the vault keeps them
 abbrev pub VaultShowsNoPage : Type 0

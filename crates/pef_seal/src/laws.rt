@@ -1,17 +1,11 @@
 //! The laws of sealed pages: each is the contract of a function that does nothing.
 
-ghost use Rattle.pef_seal.specs.SealLaw.{StreamSealsBack, SealedPagesFill, VaultShowsNoPage, VaultTellsTags};
+ghost use Rattle.pef_seal.specs.SealLaw.{StreamSealsBack, VaultShowsNoPage, VaultTellsTags};
 
 /// Sealed twice under one tag by the stream a page is itself again, so that unsealing is sealing.
 #[tactic(auto, using(crate::proofs::Masks::twice))]
 pub fn stream_seals_back()
     ensures { StreamSealsBack }
-{}
-
-/// A configuration's sealed pages have as many bytes as its pages.
-#[tactic(auto, using(crate::proofs::Filled::sealed_pages_fill))]
-pub fn sealed_pages_fill()
-    ensures { SealedPagesFill }
 {}
 
 /// The vault's sealed page is decided by the tag: it shows nothing of the page.

@@ -1,4 +1,4 @@
-use Rattle.pef_model.proofs.Secrets.{no_secret_in_deeds}
+use Rattle.pef_model.proofs.Deeds.{no_secret_in_deeds}
 use Rattle.pef_model.proofs.laws.no_secret_in_deeds.Goals as goal
 
 pub returns : goal.returns

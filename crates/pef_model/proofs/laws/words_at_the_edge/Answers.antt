@@ -84,4 +84,14 @@ returns c = record {
     cpu_too_great = refl;
     interrupt = refl;
   };
+  calls = record {
+    page_out = refl;
+    four_operands = refl;
+    six_operands = refl;
+    operand_is_no_number = refl;
+    go = refl;
+    go_all = refl;
+    go_with_operand = refl;
+    go_all_apart = refl;
+  };
 }

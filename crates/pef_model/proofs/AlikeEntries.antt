@@ -1,0 +1,158 @@
+-- Alike entries that extend histories with as much in common are one to an onlooker.
+use Rattle.std.proofs.Common.{◌≡◌, ℕ, Bool, true, false, if◌then◌else◌, List, [], refl, ap, sym, subst, ◌∙◌, nat_lt}
+use Rattle.pef_model.specs.declared.state.Ctx.{Ctx}
+use Rattle.pef_model.specs.declared.state.Ctx.TheVariants as ctx
+use Rattle.pef_model.specs.declared.command.Cmd.{Cmd}
+use Rattle.pef_model.specs.declared.command.Cmd.TheVariants.{HLd, HSt, UPageout, UReturn, GLi, GLd, GSt, GIrq, Go}
+use Rattle.pef_model.specs.declared.entry.Answer.{Answer}
+use Rattle.pef_model.specs.Plan.{Plan}
+use Rattle.pef_model.specs.Event.{Event, mark_of}
+use Rattle.pef_model.specs.Target.{Ask, Target, Alone, AtGuest, AtFrame, target_in, uses_hand}
+use Rattle.pef_model.specs.Cpu.{CpuPart}
+use Rattle.pef_model.specs.Deed.{Deed, answer_alone, answer_frame, deed_guest, deed_frame, deed_frame_in}
+use Rattle.pef_model.specs.History.{cpu_after, guest_after, pool_after, frame_after, ask_of, entry_of, deed_after, next_entry, next_entry_by}
+use Rattle.pef_model.specs.SecretLaw.{open_cmd, open_answer, open_entry, is_sealing, AgreeButValue}
+use Rattle.pef_model.specs.View.{view}
+use Rattle.pef_model.specs.Alike.{AreAlikeOpen, begins_sealing}
+use Rattle.pef_model.proofs.Opened.{target_open, uses_hand_open, alone_open, frame_answer_open}
+use Rattle.pef_model.proofs.Deeds.{no_secret_in_deeds, same_deed, IsShut, bytes_shut}
+
+-- an entry without its stamp
+abbrev pub unstamped : Event → Event
+unstamped e = record e { trace = record e.trace { stamp = 0 } }
+
+-- an entry as an onlooker may know it
+abbrev pub opened : Event → Event
+opened e = open_entry (unstamped e)
+
+-- an entry is the one that its step adds to a history, whether or not its CPU is one of the machine's
+abbrev pub IsNext : Plan → List Event → Event → Type 0
+IsNext plan past e = e ≡ next_entry plan past (mark_of e) e.trace.cmd
+
+-- what two runs have in common so far
+pub record Same (plan : Plan) (past history : List Event) : Type 0 where
+  pub cpu : (n : ℕ) → cpu_after plan n past ≡ cpu_after plan n history
+  pub part : (lpid : ℕ) → (guest_after plan lpid past).part ≡ (guest_after plan lpid history).part
+  pub pool : pool_after plan past ≡ pool_after plan history
+  pub frame : (n : ℕ) → frame_after plan n past ≡ frame_after plan n history
+  pub seen : view plan past ≡ view plan history
+
+-- deeds at a normal frame
+frames_agree : (plan : Plan) (n : ℕ) (bytes : List ℕ) (ask : Ask) (cmd other : Cmd) (c : Ctx) → open_cmd cmd ≡ open_cmd other →
+    AgreeButValue c cmd (deed_frame_in c plan n bytes ask cmd) (deed_frame_in c plan n bytes ask other)
+frames_agree plan n bytes ask cmd other ctx.Hv cmds = record {
+  answer = frame_answer_open plan bytes cmd ∙ ap (answer_frame plan bytes) cmds ∙ sym (frame_answer_open plan bytes other);
+  after = refl;
+  shown = refl;
+  pool = refl;
+  frame = refl;
+  bytes = λ unsealed. refl;
+}
+frames_agree plan n bytes ask cmd other (ctx.Uv work) cmds = same_deed (ctx.Uv work) cmd (deed_frame_in (ctx.Uv work) plan n bytes ask cmd)
+frames_agree plan n bytes ask cmd other (ctx.Guest run) cmds = same_deed (ctx.Guest run) cmd (deed_frame_in (ctx.Guest run) plan n bytes ask cmd)
+
+-- deeds at one target, after histories that have this in common
+deeds_agree : (plan : Plan) (past history : List Event) (ask : Ask) (cmd other : Cmd) (t : Target) → Same plan past history → open_cmd cmd ≡ open_cmd other →
+    AgreeButValue ask.before cmd (deed_after plan past ask cmd t) (deed_after plan history ask other t)
+deeds_agree plan past history ask cmd other Alone same cmds =
+    let answer : answer_alone ask.before cmd ≡ answer_alone ask.before other =
+    alone_open ask.before cmd ∙ ap (answer_alone ask.before) cmds ∙ sym (alone_open ask.before other) in
+    record { answer = ap (open_answer ask.before) answer; after = refl; shown = refl; pool = refl; frame = refl; bytes = λ unsealed. refl }
+deeds_agree plan past history ask cmd other (AtFrame n) same cmds =
+    subst (λ (bytes : List ℕ). AgreeButValue ask.before cmd (deed_frame plan n (frame_after plan n past) ask cmd) (deed_frame plan n bytes ask other))
+    (same.frame n) (frames_agree plan n (frame_after plan n past) ask cmd other ask.before cmds)
+deeds_agree plan past history ask cmd other (AtGuest lpid) same cmds =
+    subst (λ (free : ℕ). AgreeButValue ask.before cmd (deed_guest plan (guest_after plan lpid past) (nat_lt 0 (pool_after plan past)) ask cmd)
+    (deed_guest plan (guest_after plan lpid history) (nat_lt 0 free) ask other))
+    same.pool
+    (no_secret_in_deeds plan (guest_after plan lpid past) (guest_after plan lpid history) (nat_lt 0 (pool_after plan past)) ask cmd other (same.part lpid) cmds)
+
+-- their bytes, where sealed pages tell nothing
+deeds_shut : (plan : Plan) (past history : List Event) (ask : Ask) (cmd other : Cmd) (t : Target) → Same plan past history → open_cmd cmd ≡ open_cmd other → IsShut plan →
+    (deed_after plan past ask cmd t).bytes ≡ (deed_after plan history ask other t).bytes
+deeds_shut plan past history ask cmd other Alone same cmds shut = refl
+deeds_shut plan past history ask cmd other (AtFrame n) same cmds shut = by_ctx ask.before where
+  by_ctx : (c : Ctx) → (deed_frame_in c plan n (frame_after plan n past) ask cmd).bytes ≡ (deed_frame_in c plan n (frame_after plan n history) ask other).bytes
+  by_ctx ctx.Hv = refl
+  by_ctx (ctx.Uv work) = refl
+  by_ctx (ctx.Guest run) = refl
+deeds_shut plan past history ask cmd other (AtGuest lpid) same cmds shut =
+    ap (λ (free : ℕ). (deed_guest plan (guest_after plan lpid past) (nat_lt 0 free) ask cmd).bytes) same.pool
+    ∙ bytes_shut plan shut (guest_after plan lpid past) (guest_after plan lpid history) (nat_lt 0 (pool_after plan history)) ask cmd other (same.part lpid) cmds
+
+-- what a CPU's steps learn of it is the same for two such commands
+asks_agree : (cpu other : CpuPart) (cmd with_ : Cmd) → cpu ≡ other → open_cmd cmd ≡ open_cmd with_ → ask_of cpu cmd ≡ ask_of other with_
+asks_agree cpu other cmd with_ cpus cmds =
+    let uses : uses_hand cpu.ctx cmd ≡ uses_hand cpu.ctx with_ = uses_hand_open cpu.ctx cmd ∙ ap (uses_hand cpu.ctx) cmds ∙ sym (uses_hand_open cpu.ctx with_) in
+    (λ i. record { before = cpu.ctx; lpid = cpu.lpid; vid = cpu.vid; last = cpu.last; hand = if uses i then cpu.hand else [] })
+    ∙ ap (λ (x : CpuPart). ask_of x with_) cpus
+
+-- whether a step begins a page-out is no secret
+sealing_open : (c : Ctx) (cmd : Cmd) (a : Answer) → is_sealing c cmd a ≡ is_sealing c (open_cmd cmd) (open_answer c a)
+sealing_open ctx.Hv (HLd ra) a = refl
+sealing_open ctx.Hv (HSt ra value) a = refl
+sealing_open ctx.Hv (UPageout lpid dest gpa flags order) a = refl
+sealing_open ctx.Hv (UReturn r0 r2 outs) a = refl
+sealing_open ctx.Hv (GLi rd value) a = refl
+sealing_open ctx.Hv (GLd rd gpa) a = refl
+sealing_open ctx.Hv (GSt rs gpa) a = refl
+sealing_open ctx.Hv GIrq a = refl
+sealing_open ctx.Hv Go a = refl
+sealing_open (ctx.Uv work) cmd a = refl
+sealing_open (ctx.Guest run) cmd a = refl
+
+module _ (plan : Plan) (past history : List Event) (e f : Event) (same : Same plan past history) (p : IsNext plan past e) (q : IsNext plan history f) (alike : AreAlikeOpen e f) where
+  abbrev ask : Ask
+  ask = ask_of (cpu_after plan f.trace.cpu history) f.trace.cmd
+
+  abbrev t : Target
+  t = target_in plan ask.before ask.lpid f.trace.cmd
+
+  abbrev deed : Deed
+  deed = deed_after plan past ask e.trace.cmd t
+
+  abbrev other_deed : Deed
+  other_deed = deed_after plan history ask f.trace.cmd t
+
+  is : e ≡ entry_of ask (mark_of e) e.trace.cmd deed
+  is =
+      let asks : ask_of (cpu_after plan e.trace.cpu past) e.trace.cmd ≡ ask =
+      asks_agree (cpu_after plan e.trace.cpu past) (cpu_after plan f.trace.cpu history) e.trace.cmd f.trace.cmd
+      (same.cpu e.trace.cpu ∙ ap (λ (n : ℕ). cpu_after plan n history) alike.cpu) alike.cmd in
+      let targets : target_in plan ask.before ask.lpid e.trace.cmd ≡ t =
+      target_open plan ask.before ask.lpid e.trace.cmd ∙ ap (target_in plan ask.before ask.lpid) alike.cmd ∙ sym (target_open plan ask.before ask.lpid f.trace.cmd) in
+      p ∙ ap (λ (a : Ask). next_entry_by plan past a (mark_of e) e.trace.cmd) asks
+      ∙ ap (λ (x : Target). entry_of ask (mark_of e) e.trace.cmd (deed_after plan past ask e.trace.cmd x)) targets
+
+  agree : AgreeButValue ask.before e.trace.cmd deed other_deed
+  agree = deeds_agree plan past history ask e.trace.cmd f.trace.cmd t same alike.cmd
+
+  -- both begin a page-out, or neither does
+  pub sealings_agree : begins_sealing e ≡ begins_sealing f
+  sealings_agree =
+      ap begins_sealing is ∙ sealing_open ask.before e.trace.cmd deed.answer
+      ∙ ap (λ (cmd : Cmd). is_sealing ask.before cmd (open_answer ask.before deed.answer)) alike.cmd
+      ∙ ap (is_sealing ask.before (open_cmd f.trace.cmd)) agree.answer
+      ∙ sym (sealing_open ask.before f.trace.cmd other_deed.answer) ∙ sym (ap begins_sealing q)
+
+  -- where sealed pages tell nothing their bytes agree
+  pub entries_shut : IsShut plan → e.bytes ≡ f.bytes
+  entries_shut shut =
+      ap (λ (x : Event). x.bytes) is ∙ deeds_shut plan past history ask e.trace.cmd f.trace.cmd t same alike.cmd shut ∙ sym (ap (λ (x : Event). x.bytes) q)
+
+  -- else they agree where those of a page-out that begins do
+  bytes_agree : (begins_sealing e ≡ true → e.bytes ≡ f.bytes) → deed.bytes ≡ other_deed.bytes
+  bytes_agree sealed = by_test (is_sealing ask.before e.trace.cmd deed.answer) refl where
+    by_test : (b : Bool) → is_sealing ask.before e.trace.cmd deed.answer ≡ b → deed.bytes ≡ other_deed.bytes
+    by_test true h = sym (ap (λ (x : Event). x.bytes) is) ∙ sealed (ap begins_sealing is ∙ h) ∙ ap (λ (x : Event). x.bytes) q
+    by_test false h = agree.bytes h
+
+  pub entries_agree : (begins_sealing e ≡ true → e.bytes ≡ f.bytes) → opened e ≡ opened f
+  entries_agree sealed =
+      ap opened is
+      ∙ (λ i. record {
+        trace = record { line = alike.line i; cpu = alike.cpu i; place = alike.place i; stamp = 0; cmd = alike.cmd i; answer = agree.answer i };
+        saw = record { before = ask.before; after = agree.after i; lpid = ask.lpid; vid = ask.vid; last = ask.last; pool = agree.pool i; frame = agree.frame i; shown = agree.shown i };
+        bytes = bytes_agree sealed i;
+      })
+      ∙ sym (ap opened q)

@@ -1,0 +1,196 @@
+-- A page's version counts the page-outs of it that began, and the newest of them is what is pending or was last sealed.
+use Rattle.std.proofs.Common.{◌≡◌, ℕ, ◌+◌, List, [], ◌∷◌, Bool, true, false, refl, ap, sym, subst, ◌∙◌, ◌==◌, ◌&&◌, cond, if◌then◌else◌, inl, inr, Option, Some, None, arith}
+use Rattle.std.specs.Prelude.{IsSome}
+use Rattle.std.specs.List.{count_by}
+use Rattle.std.proofs.lemmas.List.Sums.{sum_by-cons}
+use Rattle.pef_model.specs.declared.state.Kind.TheVariants.{Secure, Out}
+use Rattle.pef_model.specs.declared.state.Move.{Move}
+use Rattle.pef_model.specs.declared.state.Work.TheVariants.{Outward}
+use Rattle.pef_model.specs.declared.state.Ctx.{Ctx}
+use Rattle.pef_model.specs.declared.state.Ctx.TheVariants as ctx
+use Rattle.pef_model.specs.declared.command.Cmd.{Cmd}
+use Rattle.pef_model.specs.declared.command.Cmd.TheVariants.{UPageout}
+use Rattle.pef_model.specs.declared.entry.Answer.{Answer}
+use Rattle.pef_model.specs.declared.entry.Answer.TheVariants.{Step}
+use Rattle.pef_model.specs.Plan.{Plan}
+use Rattle.pef_model.specs.Event.{Event}
+use Rattle.pef_model.specs.Target.{touches_cpu}
+use Rattle.pef_model.specs.Cpu.{CpuPart, start_cpu, next_cpu}
+use Rattle.pef_model.specs.GuestPart.{Page, GuestPart, start_part_of, secured, begun_out, ended_out}
+use Rattle.pef_model.specs.History.{cpu_after, Extends, IsLegal}
+use Rattle.pef_model.specs.MoveLaw.{begins_out, begins_out_in, last_begun, LastSealedIsBegun, VersionsCountPageOuts}
+use Rattle.pef_model.proofs.Folds.{same_test, test_same, counts}
+use Rattle.pef_model.proofs.Puts.{put_in, here_or_elsewhere, put_in-here, put_in-elsewhere, IsElsewhere}
+use Rattle.pef_model.proofs.Outcomes.{Outcome, outcome}
+use Rattle.pef_model.proofs.Steps.{ctx_after}
+use Rattle.pef_model.proofs.Changes.{Change, Quiet, Begins, Copies, Ends, Drops, Takes, Parked, Gone, Backs, LeavesCpu}
+use Rattle.pef_model.proofs.ChangeOf.{change}
+use Rattle.pef_model.proofs.Fields.{field_after, same_field, kept_field}
+use Rattle.pef_model.proofs.Moving.{IsMoving}
+use Rattle.pef_model.proofs.Paging.{pages, AllMoved, all_moved}
+
+-- a page-out that begins leaves the hypervisor with a call in progress
+abbrev StaysOut : Ctx → Ctx → Type 0
+StaysOut before after = (move : Move) → before ≡ ctx.Hv → after ≡ ctx.Uv (Outward move) → ⊥
+
+-- so a step that doesn't begins no page-out
+begins_none : (plan : Plan) (lpid gfn : ℕ) (c : Ctx) (cmd : Cmd) (a : Answer) (after : Ctx) (shown : List ℕ) → Outcome c cmd a after shown → StaysOut c after → begins_out_in plan lpid gfn c cmd a ≡ false
+begins_none plan lpid gfn ctx.Hv (UPageout named dest gpa flags order) Step (ctx.Uv (Outward move)) shown h stays = absurd (stays move refl refl)
+begins_none plan lpid gfn ctx.Hv (UPageout named dest gpa flags order) Step after shown h stays = absurd h.0
+begins_none plan lpid gfn c cmd a after shown h stays = refl
+
+-- the test of a place holds there
+both_same : (l g m n : ℕ) → m ≡ l → n ≡ g → (l == m) && (g == n) ≡ true
+both_same l g m n p q = rw (p, q, same_test l, same_test g) refl
+
+-- and nowhere else
+not_both : (l g m n : ℕ) → IsElsewhere l g m n → (l == m) && (g == n) ≡ false
+not_both l g m n elsewhere = by_first (l == m) refl where
+  by_second : l ≡ m → (b : Bool) → (g == n) ≡ b → b ≡ false
+  by_second p true s = absurd (elsewhere (sym p) (sym (test_same g n s)))
+  by_second p false s = refl
+
+  by_first : (b : Bool) → (l == m) ≡ b → b && (g == n) ≡ false
+  by_first true t = by_second (test_same l m t) (g == n) refl
+  by_first false t = refl
+
+-- how an entry leaves a page, by whether it begins a page-out of it
+data PageStep (old new : Page) (begins : Bool) (bytes : List ℕ) : Type 0 where
+  Stays : begins ≡ false → new ≡ old → PageStep old new begins bytes
+  Begun : begins ≡ true → (cpu : ℕ) → old.kind ≡ Secure → new ≡ begun_out old cpu bytes → PageStep old new begins bytes
+  Ended : begins ≡ false → (hand : List ℕ) (cpu : ℕ) → IsMoving old hand cpu → new ≡ ended_out old → PageStep old new begins bytes
+  Backed : begins ≡ false → new ≡ secured old → PageStep old new begins bytes
+
+-- a page that has begun so often, the last time with these bytes
+record IsCounted (page : Page) (count : ℕ) (last : Option (List ℕ)) : Type 0 where
+  version : page.version ≡ count
+  sealed : page.kind ≡ Out → page.sealed ≡ last
+  pending : IsSome page.mover → page.pending ≡ last
+
+-- one more where a page-out begins
+abbrev counted_on : Bool → ℕ → ℕ
+counted_on begins count = if begins then 1 + count else count
+
+-- as the count has it
+counted_on_is : (begins : Bool) (count : ℕ) → cond begins 1 0 + count ≡ counted_on begins count
+counted_on_is true count = refl
+counted_on_is false count = omega arith
+
+-- the count and the newest bytes after an entry
+counted_after : (old new : Page) (begins : Bool) (bytes : List ℕ) (count : ℕ) (last : Option (List ℕ)) → PageStep old new begins bytes → IsCounted old count last →
+    IsCounted new (counted_on begins count) (if begins then Some bytes else last)
+counted_after old new true bytes count last (Stays none is) h = cc
+counted_after old new false bytes count last (Stays none is) h = subst (λ (page : Page). IsCounted page count last) (sym is) h
+counted_after old new true bytes count last (Begun begins cpu secure is) h =
+    subst (λ (page : Page). IsCounted page (1 + count) (Some bytes)) (sym is)
+    (record { version = let same = h.version in omega arith; sealed = λ out. cc; pending = λ moves. refl })
+counted_after old new false bytes count last (Begun begins cpu secure is) h = cc
+counted_after old new true bytes count last (Ended none hand cpu moving is) h = cc
+counted_after old new false bytes count last (Ended none hand cpu moving is) h =
+    let moves : IsSome old.mover = rw moving.mover refl in
+    subst (λ (page : Page). IsCounted page count last) (sym is)
+    (record { version = h.version; sealed = λ out. h.pending moves; pending = λ rests. cc })
+counted_after old new true bytes count last (Backed none is) h = cc
+counted_after old new false bytes count last (Backed none is) h =
+    subst (λ (page : Page). IsCounted page count last) (sym is)
+    (record { version = h.version; sealed = λ out. cc; pending = λ rests. cc })
+
+module _ (plan : Plan) (past : List Event) (e : Event) (extends : Extends plan past e) (lpid gfn : ℕ) where
+  abbrev cpu : CpuPart
+  cpu = cpu_after plan e.trace.cpu past
+
+  -- the context before the entry is its CPU's
+  before_is : cpu.ctx ≡ e.saw.before
+  before_is = ap (λ (x : Event). x.saw.before) (sym extends.is)
+
+  -- and so is the one after it
+  after_is : (after : Ctx) (hand : List ℕ) (l : ℕ) → LeavesCpu cpu e after hand l → e.saw.after ≡ after
+  after_is after hand l left =
+      sym (ctx_after plan past e extends)
+      ∙ ap (λ (x : CpuPart). x.ctx) (counts (touches_cpu e.trace.cpu) next_cpu (start_cpu plan) e past (same_test e.trace.cpu))
+      ∙ left.ctx_is
+
+  -- an entry that leaves its CPU so begins no page-out
+  none_begins : (after : Ctx) (hand : List ℕ) (l : ℕ) → LeavesCpu cpu e after hand l → StaysOut cpu.ctx after → begins_out plan lpid gfn e ≡ false
+  none_begins after hand l left stays =
+      begins_none plan lpid gfn e.saw.before e.trace.cmd e.trace.answer e.saw.after e.saw.shown (outcome plan past e extends)
+      (λ move hypervisor call. stays move (before_is ∙ hypervisor) (sym (after_is after hand l left) ∙ call))
+
+  -- the page, and whether a page-out of it begins
+  abbrev StepsPage : Type 0
+  StepsPage = PageStep (pages plan past lpid gfn) (pages plan (e ∷ past) lpid gfn) (begins_out plan lpid gfn e) e.bytes
+
+  -- where no part or no page changes
+  page_kept : begins_out plan lpid gfn e ≡ false → pages plan past ≡ pages plan (e ∷ past) → StepsPage
+  page_kept none same = Stays none (ap (λ (f : ℕ → ℕ → Page). f lpid gfn) (sym same))
+
+  -- where one page changes
+  page_put : (l g : ℕ) (new : Page) → put_in (pages plan past) l g new ≡ pages plan (e ∷ past) →
+      (lpid ≡ l → gfn ≡ g → pages plan (e ∷ past) lpid gfn ≡ new → StepsPage) → (IsElsewhere l g lpid gfn → begins_out plan lpid gfn e ≡ false) → StepsPage
+  page_put l g new is here none = elim (here_or_elsewhere l g lpid gfn) [
+    | inl (p, q) ↦ here p q (
+        ap (λ (f : ℕ → ℕ → Page). f lpid gfn) (sym is) ∙ ap (λ (x : ℕ). put_in (pages plan past) l g new x gfn) p ∙ ap (put_in (pages plan past) l g new l) q
+        ∙ put_in-here (pages plan past) l g new)
+    | inr elsewhere ↦ Stays (none elsewhere) (ap (λ (f : ℕ → ℕ → Page). f lpid gfn) (sym is) ∙ put_in-elsewhere (pages plan past) l g new lpid gfn elsewhere)
+  ]
+
+  -- what is here is the old page of this place
+  old_page : (l g : ℕ) → lpid ≡ l → gfn ≡ g → pages plan past l g ≡ pages plan past lpid gfn
+  old_page l g p q = ap (λ (x : ℕ). pages plan past x g) (sym p) ∙ ap (pages plan past lpid) (sym q)
+
+  -- each change steps the page so
+  page_step : AllMoved plan past → Change plan past cpu e → StepsPage
+  page_step all (Quiet x) =
+      page_kept (none_begins _ _ _ x.cpu_is (λ move hypervisor call. cc)) (kept_field plan past e (λ (g : GuestPart). g.pages) x.parts)
+  page_step all (Begins x) =
+      page_put x.move.lpid x.move.gfn _ (field_after plan past e (λ (g : GuestPart). g.pages) _ _ x.parts)
+      (λ p q is. Begun (x.begins lpid gfn ∙ both_same x.move.lpid x.move.gfn lpid gfn p q) e.trace.cpu
+      (ap (λ (page : Page). page.kind) (sym (old_page x.move.lpid x.move.gfn p q)) ∙ x.kind_is)
+      (is ∙ ap (λ (page : Page). begun_out page e.trace.cpu e.bytes) (old_page x.move.lpid x.move.gfn p q)))
+      (λ elsewhere. x.begins lpid gfn ∙ not_both x.move.lpid x.move.gfn lpid gfn elsewhere)
+  page_step all (Copies x) =
+      page_kept (none_begins _ _ _ x.cpu_is (λ move hypervisor call. let before = x.before in cc)) (kept_field plan past e (λ (g : GuestPart). g.pages) x.parts)
+  page_step all (Ends x) =
+      let moving = all.moves e.trace.cpu x.move x.before x.generation in
+      let none = none_begins _ _ _ x.cpu_is (λ move hypervisor call. let before = x.before in cc) in
+      page_put x.move.lpid x.move.gfn _ (field_after plan past e (λ (g : GuestPart). g.pages) _ _ x.parts)
+      (λ p q is. Ended none cpu.hand e.trace.cpu
+      (subst (λ (page : Page). IsMoving page cpu.hand e.trace.cpu) (old_page x.move.lpid x.move.gfn p q) moving)
+      (is ∙ ap ended_out (old_page x.move.lpid x.move.gfn p q)))
+      (λ elsewhere. none)
+  page_step all (Drops x) =
+      page_kept (none_begins _ _ _ x.cpu_is (λ move hypervisor call. let before = x.before in cc)) (kept_field plan past e (λ (g : GuestPart). g.pages) x.parts)
+  page_step all (Takes x) =
+      page_kept (none_begins _ _ _ x.cpu_is (λ move hypervisor call. cc)) (same_field plan past e (λ (g : GuestPart). g.pages) _ _ x.parts refl)
+  page_step all (Parked x) =
+      page_kept (none_begins _ _ _ x.cpu_is (λ move hypervisor call. cc)) (same_field plan past e (λ (g : GuestPart). g.pages) _ _ x.parts refl)
+  page_step all (Gone x) =
+      page_kept (none_begins _ _ _ x.cpu_is (λ move hypervisor call. cc)) (kept_field plan past e (λ (g : GuestPart). g.pages) x.parts)
+  page_step all (Backs x) =
+      let none = none_begins _ _ _ x.cpu_is (λ move hypervisor call. let before = x.before in cc) in
+      page_put x.run.lpid x.gfn _ (field_after plan past e (λ (g : GuestPart). g.pages) _ _ x.parts)
+      (λ p q is. Backed none (is ∙ ap secured (old_page x.run.lpid x.gfn p q)))
+      (λ elsewhere. none)
+
+-- at the start no page-out has begun
+start_counted : (b : Bool) (gfn : ℕ) → IsCounted ((start_part_of b).pages gfn) 0 None
+start_counted true gfn = record { version = refl; sealed = λ out. cc; pending = λ moves. refl }
+start_counted false gfn = record { version = refl; sealed = λ out. cc; pending = λ moves. refl }
+
+-- by induction over the history
+counted : (plan : Plan) (past : List Event) (lpid gfn : ℕ) → IsLegal plan past → IsCounted (pages plan past lpid gfn) (count_by (begins_out plan lpid gfn) past) (last_begun plan lpid gfn past)
+counted plan [] lpid gfn legal = start_counted (plan.is_born lpid) gfn
+counted plan (e ∷ past) lpid gfn legal =
+    let begins : Bool = begins_out plan lpid gfn e in
+    let last : Option (List ℕ) = last_begun plan lpid gfn (e ∷ past) in
+    subst (λ (count : ℕ). IsCounted (pages plan (e ∷ past) lpid gfn) count last)
+    (sym (sum_by-cons (λ (x : Event). cond (begins_out plan lpid gfn x) 1 0) e past ∙ counted_on_is begins (count_by (begins_out plan lpid gfn) past)))
+    (counted_after _ _ begins e.bytes _ _ (page_step plan past e legal.0 lpid gfn (all_moved plan past legal.1) (change plan past e legal.0)) (counted plan past lpid gfn legal.1))
+
+-- what was last sealed is the newest begin's
+pub last_sealed_is_begun : LastSealedIsBegun
+last_sealed_is_begun plan past lpid gfn legal out = let is = counted plan past lpid gfn legal in is.sealed out
+
+-- and the version the number of begins
+pub versions_count_page_outs : VersionsCountPageOuts
+versions_count_page_outs plan past lpid gfn legal = let is = counted plan past lpid gfn legal in is.version

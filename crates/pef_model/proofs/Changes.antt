@@ -1,0 +1,183 @@
+-- What a step can change: its CPU, the public part of one guest, the pool.
+use Rattle.std.proofs.Common.{◌≡◌, ◌≢◌, ℕ, ◌+◌, List, ◌∷◌, Bool, true, false, refl, ap, sym, ◌∙◌, ◌==◌, ◌&&◌, if◌then◌else◌, None}
+use Rattle.pef_model.specs.declared.state.Kind.TheVariants.{Secure}
+use Rattle.pef_model.specs.declared.state.Pending.TheVariants as pending
+use Rattle.pef_model.specs.declared.state.Run.{Run}
+use Rattle.pef_model.specs.declared.state.Move.{Move}
+use Rattle.pef_model.specs.declared.state.Work.TheVariants.{Outward}
+use Rattle.pef_model.specs.declared.state.Ctx.{Ctx}
+use Rattle.pef_model.specs.declared.state.Ctx.TheVariants as ctx
+use Rattle.pef_model.specs.declared.command.Cmd.{Cmd}
+use Rattle.pef_model.specs.Plan.{Plan}
+use Rattle.pef_model.specs.Event.{Event, Mark}
+use Rattle.pef_model.specs.Target.{Ask, Target, Alone, AtGuest, target_in, target_of, is_guest}
+use Rattle.pef_model.specs.Cpu.{CpuPart, next_cpu}
+use Rattle.pef_model.specs.GuestPart.{GuestPart, put, is_invalid, next_part, with_secure_page, with_running_vcpu, with_parked_vcpu, with_page_leaving, with_page_out}
+use Rattle.pef_model.specs.Guest.{next_guest}
+use Rattle.pef_model.specs.PageOut.{sealed_page}
+use Rattle.pef_model.specs.Deed.{Deed, may_return_in, is_waiting}
+use Rattle.pef_model.specs.History.{guest_after, pool_after, deed_after, ask_of, entry_of}
+use Rattle.pef_model.specs.CountLaw.{part_after}
+use Rattle.pef_model.specs.MoveLaw.{begins_out}
+use Rattle.pef_model.proofs.Folds.{test_same}
+use Rattle.pef_model.proofs.Puts.{not_swapped, put-same}
+
+-- a CPU after an entry of its own: its context, hand and selected guest
+pub record LeavesCpu (cpu : CpuPart) (e : Event) (after : Ctx) (hand : List ℕ) (lpid : ℕ) : Type 0 where
+  pub ctx_is : (next_cpu cpu e).ctx ≡ after
+  pub hand_is : (next_cpu cpu e).hand ≡ hand
+  pub lpid_is : (next_cpu cpu e).lpid ≡ lpid
+
+-- no guest's public part changes
+abbrev pub KeepsParts : Plan → List Event → Event → Type 0
+KeepsParts plan past e = (lpid : ℕ) → part_after plan (e ∷ past) lpid ≡ part_after plan past lpid
+
+-- the public part of one guest becomes this one, and every other stays
+abbrev pub PutsPart : Plan → List Event → Event → ℕ → GuestPart → Type 0
+PutsPart plan past e l new = (lpid : ℕ) → part_after plan (e ∷ past) lpid ≡ put (part_after plan past) l new lpid
+
+-- nothing changes but what is no concern here: registers, contents, frames
+pub record IsQuiet (plan : Plan) (past : List Event) (cpu : CpuPart) (e : Event) : Type 0 where
+  pub cpu_is : LeavesCpu cpu e cpu.ctx cpu.hand cpu.lpid
+  pub parts : KeepsParts plan past e
+  pub pool : pool_after plan (e ∷ past) ≡ pool_after plan past
+
+-- a Secure page at rest begins to move outward, sealed into the hand
+pub record BeginsMove (plan : Plan) (past : List Event) (cpu : CpuPart) (e : Event) : Type 0 where
+  pub move : Move
+  pub before : cpu.ctx ≡ ctx.Hv
+  pub generation : move.generation ≡ (part_after plan past move.lpid).generation
+  pub kind_is : ((part_after plan past move.lpid).pages move.gfn).kind ≡ Secure
+  pub at_rest : ((part_after plan past move.lpid).pages move.gfn).mover ≡ None
+  pub sealed : e.bytes ≡ sealed_page plan (guest_after plan move.lpid past) move.lpid move.gfn
+  pub begins : (lpid gfn : ℕ) → begins_out plan lpid gfn e ≡ (move.lpid == lpid) && (move.gfn == gfn)
+  pub cpu_is : LeavesCpu cpu e (ctx.Uv (Outward move)) e.bytes cpu.lpid
+  pub parts : PutsPart plan past e move.lpid (with_page_leaving (part_after plan past move.lpid) move.gfn e.trace.cpu e.bytes)
+  pub pool : pool_after plan (e ∷ past) ≡ pool_after plan past
+
+-- a page that moves is copied
+pub record CopiesPage (plan : Plan) (past : List Event) (cpu : CpuPart) (e : Event) : Type 0 where
+  pub move : Move
+  pub before : cpu.ctx ≡ ctx.Uv (Outward move)
+  pub cpu_is : LeavesCpu cpu e (ctx.Uv (Outward (record move { copied = true }))) cpu.hand cpu.lpid
+  pub parts : KeepsParts plan past e
+  pub pool : pool_after plan (e ∷ past) ≡ pool_after plan past
+
+-- a page has moved outward, and its secure frame goes back
+pub record EndsMove (plan : Plan) (past : List Event) (cpu : CpuPart) (e : Event) : Type 0 where
+  pub move : Move
+  pub before : cpu.ctx ≡ ctx.Uv (Outward move)
+  pub generation : move.generation ≡ (part_after plan past move.lpid).generation
+  pub cpu_is : LeavesCpu cpu e ctx.Hv cpu.hand cpu.lpid
+  pub parts : PutsPart plan past e move.lpid (with_page_out (part_after plan past move.lpid) move.gfn)
+  pub pool : pool_after plan (e ∷ past) ≡ pool_after plan past + 1
+
+-- a page-out of a guest that has ended comes back
+pub record DropsMove (plan : Plan) (past : List Event) (cpu : CpuPart) (e : Event) : Type 0 where
+  pub move : Move
+  pub before : cpu.ctx ≡ ctx.Uv (Outward move)
+  pub generation : move.generation ≢ (part_after plan past move.lpid).generation
+  pub cpu_is : LeavesCpu cpu e ctx.Hv cpu.hand cpu.lpid
+  pub parts : KeepsParts plan past e
+  pub pool : pool_after plan (e ∷ past) ≡ pool_after plan past
+
+-- a vCPU of the selected guest that waits is taken up
+pub record TakesUp (plan : Plan) (past : List Event) (cpu : CpuPart) (e : Event) : Type 0 where
+  pub before : cpu.ctx ≡ ctx.Hv
+  pub allowed : may_return_in (part_after plan past cpu.lpid).phase ≡ true
+  pub waits : is_waiting ((part_after plan past cpu.lpid).vcpus cpu.vid).state ≡ true
+  pub cpu_is : LeavesCpu cpu e (ctx.Guest (record { lpid = cpu.lpid; vid = cpu.vid; generation = (part_after plan past cpu.lpid).generation })) cpu.hand cpu.lpid
+  pub parts : PutsPart plan past e cpu.lpid (with_running_vcpu (part_after plan past cpu.lpid) cpu.vid e.trace.cpu)
+  pub pool : pool_after plan (e ∷ past) ≡ pool_after plan past
+
+-- an interrupt takes a vCPU from its CPU
+pub record Parks (plan : Plan) (past : List Event) (cpu : CpuPart) (e : Event) : Type 0 where
+  pub run : Run
+  pub before : cpu.ctx ≡ ctx.Guest run
+  pub cpu_is : LeavesCpu cpu e ctx.Hv cpu.hand run.lpid
+  pub parts : PutsPart plan past e run.lpid (with_parked_vcpu (part_after plan past run.lpid) run.vid pending.Irq)
+  pub pool : pool_after plan (e ∷ past) ≡ pool_after plan past
+
+-- a CPU finds that the guest which it runs has ended
+pub record FindsGone (plan : Plan) (past : List Event) (cpu : CpuPart) (e : Event) : Type 0 where
+  pub run : Run
+  pub before : cpu.ctx ≡ ctx.Guest run
+  pub cpu_is : LeavesCpu cpu e ctx.Hv cpu.hand cpu.lpid
+  pub parts : KeepsParts plan past e
+  pub pool : pool_after plan (e ∷ past) ≡ pool_after plan past
+
+-- an access backs an Invalid page with a free frame
+pub record BacksPage (plan : Plan) (past : List Event) (cpu : CpuPart) (e : Event) : Type 0 where
+  pub run : Run
+  pub gfn : ℕ
+  pub before : cpu.ctx ≡ ctx.Guest run
+  pub invalid : is_invalid ((part_after plan past run.lpid).pages gfn) ≡ true
+  pub at_rest : ((part_after plan past run.lpid).pages gfn).mover ≡ None
+  pub cpu_is : LeavesCpu cpu e cpu.ctx cpu.hand cpu.lpid
+  pub parts : PutsPart plan past e run.lpid (with_secure_page (part_after plan past run.lpid) gfn)
+  pub pool : pool_after plan (e ∷ past) + 1 ≡ pool_after plan past
+
+-- what an entry of a legal history changes, where its CPU was this before
+pub data Change (plan : Plan) (past : List Event) (cpu : CpuPart) (e : Event) : Type 0 where
+  Quiet : IsQuiet plan past cpu e → Change plan past cpu e
+  Begins : BeginsMove plan past cpu e → Change plan past cpu e
+  Copies : CopiesPage plan past cpu e → Change plan past cpu e
+  Ends : EndsMove plan past cpu e → Change plan past cpu e
+  Drops : DropsMove plan past cpu e → Change plan past cpu e
+  Takes : TakesUp plan past cpu e → Change plan past cpu e
+  Parked : Parks plan past cpu e → Change plan past cpu e
+  Gone : FindsGone plan past cpu e → Change plan past cpu e
+  Backs : BacksPage plan past cpu e → Change plan past cpu e
+
+-- an entry that aims at no guest changes none
+pub at_none : (plan : Plan) (past : List Event) (e : Event) → ((lpid : ℕ) → is_guest lpid (target_of plan e) ≡ false) → KeepsParts plan past e
+at_none plan past e none lpid = ap (λ (b : Bool). (if b then next_guest plan (guest_after plan lpid past) e else guest_after plan lpid past).part) (none lpid)
+
+-- one that aims at a guest makes this of it, and changes no other
+pub at_guest : (plan : Plan) (past : List Event) (e : Event) (l : ℕ) (new : GuestPart) → target_of plan e ≡ AtGuest l → next_part plan (part_after plan past l) e ≡ new →
+    PutsPart plan past e l new
+at_guest plan past e l new target is lpid = ap (λ (t : Target). after (is_guest lpid t)) target ∙ by_test (l == lpid) (lpid == l) refl refl where
+  after : Bool → GuestPart
+  after b = (if b then next_guest plan (guest_after plan lpid past) e else guest_after plan lpid past).part
+
+  by_test : (b c : Bool) → (l == lpid) ≡ b → (lpid == l) ≡ c → after b ≡ (if c then new else part_after plan past lpid)
+  by_test true true t s = ap (λ (x : ℕ). next_part plan (part_after plan past x) e) (sym (test_same l lpid t)) ∙ is
+  by_test false false t s = refl
+  by_test true false t s = absurd (not_swapped l lpid t s)
+  by_test false true t s = absurd (not_swapped lpid l s t)
+
+-- one that aims at a guest and leaves it as it is changes none
+pub at_guest_same : (plan : Plan) (past : List Event) (e : Event) (l : ℕ) → target_of plan e ≡ AtGuest l → next_part plan (part_after plan past l) e ≡ part_after plan past l →
+    KeepsParts plan past e
+at_guest_same plan past e l target is lpid = at_guest plan past e l (part_after plan past l) target is lpid ∙ put-same (part_after plan past) l lpid
+
+-- a step that aims at no guest, and leaves its CPU
+pub at_nothing : (plan : Plan) (past : List Event) (cpu : CpuPart) (e : Event) → LeavesCpu cpu e cpu.ctx cpu.hand cpu.lpid → ((lpid : ℕ) → is_guest lpid (target_of plan e) ≡ false) →
+    pool_after plan (e ∷ past) ≡ pool_after plan past → Change plan past cpu e
+at_nothing plan past cpu e left none pool = Quiet (record { cpu_is = left; parts = at_none plan past e none; pool = pool })
+
+-- a step that aims at a guest, and leaves it and its CPU
+pub at_one : (plan : Plan) (past : List Event) (cpu : CpuPart) (e : Event) (l : ℕ) → LeavesCpu cpu e cpu.ctx cpu.hand cpu.lpid → target_of plan e ≡ AtGuest l →
+    next_part plan (part_after plan past l) e ≡ part_after plan past l → pool_after plan (e ∷ past) ≡ pool_after plan past → Change plan past cpu e
+at_one plan past cpu e l left target is pool = Quiet (record { cpu_is = left; parts = at_guest_same plan past e l target is; pool = pool })
+
+-- what a step learns of a CPU in this context
+abbrev pub asked : CpuPart → Ctx → Cmd → Ask
+asked cpu c cmd = record (ask_of cpu cmd) { before = c }
+
+-- the entry of a deed of a CPU in this context
+abbrev pub entry : CpuPart → Ctx → Mark → Cmd → Deed → Event
+entry cpu c mark cmd deed = entry_of (asked cpu c cmd) mark cmd deed
+
+-- a command that is none of its context, or names nothing
+pub refused : (plan : Plan) (past : List Event) (cpu : CpuPart) (mark : Mark) (c : Ctx) → cpu.ctx ≡ c → (cmd : Cmd) →
+    let e : Event = entry cpu c mark cmd (deed_after plan past (asked cpu c cmd) cmd Alone) in
+    LeavesCpu cpu e c cpu.hand cpu.lpid → target_in plan c cpu.lpid cmd ≡ Alone → Change plan past cpu e
+refused plan past cpu mark c h cmd left target =
+    at_nothing plan past cpu (entry cpu c mark cmd (deed_after plan past (asked cpu c cmd) cmd Alone))
+    (record { ctx_is = left.ctx_is ∙ sym h; hand_is = left.hand_is; lpid_is = left.lpid_is }) (λ lpid. ap (is_guest lpid) target) refl
+
+-- two tests that hold together hold each
+pub both : (a b : Bool) → a && b ≡ true → (a ≡ true) × (b ≡ true)
+both true b h = (refl, h)
+both false b h = cc

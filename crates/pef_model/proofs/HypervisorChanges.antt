@@ -1,0 +1,191 @@
+-- Which change a step of the hypervisor makes, and one of its call in progress.
+use Rattle.std.proofs.Common.{◌≡◌, ℕ, nat_lt, List, Bool, true, false, not, refl, ap, sym, ◌==◌, ◌&&◌, ◌||◌, if◌then◌else◌, Option, Some, None, is_some, arith}
+use Rattle.std.proofs.lemmas.Bool.Decides.{nat_tests}
+use Rattle.pef_model.specs.declared.state.Kind.{Kind}
+use Rattle.pef_model.specs.declared.state.Kind.TheVariants as kind
+use Rattle.pef_model.specs.declared.state.Move.{Move}
+use Rattle.pef_model.specs.declared.state.Mover.{Mover}
+use Rattle.pef_model.specs.declared.state.Work.TheVariants.{Outward}
+use Rattle.pef_model.specs.declared.state.Ctx.TheVariants as ctx
+use Rattle.pef_model.specs.declared.command.TheConstants.{UV_SNAPSHOT}
+use Rattle.pef_model.specs.declared.command.Code.{Code}
+use Rattle.pef_model.specs.declared.command.Code.TheVariants.{USuccess, UParameter, UP2, UP3, UP4, UP5, UFunction, UBusy, UInvalid}
+use Rattle.pef_model.specs.declared.command.Cmd.TheVariants.{HLd, HSt, UPageout, UReturn, Go}
+use Rattle.pef_model.specs.declared.entry.Answer.TheVariants as answer
+use Rattle.pef_model.specs.Plan.{Plan}
+use Rattle.pef_model.specs.Event.{Event, Mark}
+use Rattle.pef_model.specs.Target.{Ask, Alone, AtGuest, AtFrame, frame_of, has_real_place, target_in, is_guest}
+use Rattle.pef_model.specs.Cpu.{CpuPart}
+use Rattle.pef_model.specs.GuestPart.{Page, GuestPart, page_of, with_running_vcpu, with_page_leaving, with_page_out}
+use Rattle.pef_model.specs.Guest.{Guest}
+use Rattle.pef_model.specs.PageOut.{may_page_out_in, has_frame, has_page, can_go_out, is_shared, is_starting, page_out_code, sealed_page}
+use Rattle.pef_model.specs.Deed.{Deed, answering, giving, coming_back, returning, may_return_in, is_waiting, deed_page_out_begin, deed_return}
+use Rattle.pef_model.specs.History.{guest_after, deed_after}
+use Rattle.pef_model.specs.CountLaw.{part_after}
+use Rattle.pef_model.proofs.Folds.{test_same}
+use Rattle.pef_model.proofs.Changes.{Change, Begins, Copies, Ends, Drops, Takes, asked, entry, both, refused, at_none, at_nothing, at_one, at_guest, at_guest_same}
+
+-- an address aims at no guest
+address_aims : (plan : Plan) (ra lpid : ℕ) (b : Bool) → is_guest lpid (if b then AtFrame (frame_of plan ra) else Alone) ≡ false
+address_aims plan ra lpid true = refl
+address_aims plan ra lpid false = refl
+
+-- where a test holds that answers a code, no page begins to move
+passes : (b : Bool) (code : Code) (rest : Option Code) → (if b then Some code else rest) ≡ None → (b ≡ false) × (rest ≡ None)
+passes true code rest h = cc
+passes false code rest h = (refl, h)
+
+-- what isn't denied holds
+not_false : (b : Bool) → not b ≡ false → b ≡ true
+not_false true h = refl
+not_false false h = cc
+
+-- where one of two tests would do, and none did, each fails
+neither : (a b : Bool) → a || b ≡ false → (a ≡ false) × (b ≡ false)
+neither true b h = cc
+neither false b h = (refl, h)
+
+-- a page that can go out and isn't Shared is Secure
+secure_kind : (k : Kind) → can_go_out k ≡ true → is_shared k ≡ false → k ≡ kind.Secure
+secure_kind kind.Invalid goes alone = cc
+secure_kind kind.Secure goes alone = refl
+secure_kind kind.Out goes alone = cc
+secure_kind (kind.Shared frame fresh) goes alone = cc
+
+-- a page without a mover rests
+no_mover : (mover : Option Mover) → is_some mover ≡ false → mover ≡ None
+no_mover None h = refl
+no_mover (Some mover) h = cc
+
+-- UV_PAGE_OUT begins to move only a Secure page at rest
+page_begins : (plan : Plan) (g : GuestPart) (dest gpa flags order : ℕ) → page_out_code plan g dest gpa flags order ≡ None →
+    ((g.pages (page_of plan gpa)).kind ≡ kind.Secure) × ((g.pages (page_of plan gpa)).mover ≡ None)
+page_begins plan g dest gpa flags order h =
+    let page : Page = g.pages (page_of plan gpa) in
+    let phases = passes (not (may_page_out_in g.phase)) UParameter _ h in
+    let frames = passes (not (has_frame plan dest)) UP2 _ phases.1 in
+    let pages = passes (not (has_page plan gpa && can_go_out page.kind)) UP3 _ frames.1 in
+    let snapshots = passes (flags == UV_SNAPSHOT) UFunction _ pages.1 in
+    let flagged = passes (nat_lt 0 flags) UP4 _ snapshots.1 in
+    let orders = passes (not (order == plan.shift)) UP5 _ flagged.1 in
+    let shared = passes (is_shared page.kind) USuccess _ orders.1 in
+    let busy = passes (is_starting g.phase || is_some page.mover) UBusy _ shared.1 in
+    let goes = both (has_page plan gpa) (can_go_out page.kind) (not_false (has_page plan gpa && can_go_out page.kind) pages.0) in
+    let rests = neither (is_starting g.phase) (is_some page.mover) busy.0 in
+    (secure_kind page.kind goes.1 shared.0, no_mover page.mover rests.1)
+
+module _ (plan : Plan) (past : List Event) (cpu : CpuPart) (mark : Mark) where
+  -- the hypervisor's loads and stores
+  pub load : cpu.ctx ≡ ctx.Hv → (ra : ℕ) (b : Bool) →
+      Change plan past cpu (entry cpu ctx.Hv mark (HLd ra) (deed_after plan past (asked cpu ctx.Hv (HLd ra)) (HLd ra) (if b then AtFrame (frame_of plan ra) else Alone)))
+  load h ra true = at_nothing plan past cpu _ (record { ctx_is = sym h; hand_is = refl; lpid_is = refl }) (λ lpid. address_aims plan ra lpid (has_real_place plan ra)) refl
+  load h ra false = at_nothing plan past cpu _ (record { ctx_is = sym h; hand_is = refl; lpid_is = refl }) (λ lpid. address_aims plan ra lpid (has_real_place plan ra)) refl
+
+  pub store : cpu.ctx ≡ ctx.Hv → (ra value : ℕ) (b : Bool) →
+      Change plan past cpu (entry cpu ctx.Hv mark (HSt ra value) (deed_after plan past (asked cpu ctx.Hv (HSt ra value)) (HSt ra value) (if b then AtFrame (frame_of plan ra) else Alone)))
+  store h ra value true = at_nothing plan past cpu _ (record { ctx_is = sym h; hand_is = refl; lpid_is = refl }) (λ lpid. address_aims plan ra lpid (has_real_place plan ra)) refl
+  store h ra value false = at_nothing plan past cpu _ (record { ctx_is = sym h; hand_is = refl; lpid_is = refl }) (λ lpid. address_aims plan ra lpid (has_real_place plan ra)) refl
+
+  -- UV_RETURN takes up a vCPU that waits where the guest's phase allows it
+  pub return : cpu.ctx ≡ ctx.Hv → (r0 r2 : ℕ) (outs : List ℕ) →
+      Change plan past cpu (entry cpu ctx.Hv mark (UReturn r0 r2 outs) (deed_return (part_after plan past cpu.lpid) (asked cpu ctx.Hv (UReturn r0 r2 outs))))
+  return h r0 r2 outs = by_test (may_return_in g.phase && is_waiting (g.vcpus cpu.vid).state) refl where
+    ask : Ask
+    ask = asked cpu ctx.Hv (UReturn r0 r2 outs)
+
+    g : GuestPart
+    g = part_after plan past cpu.lpid
+
+    deed : Bool → Deed
+    deed b = if b then (record (answering ask answer.Enter) { after = ctx.Guest (record { lpid = cpu.lpid; vid = cpu.vid; generation = g.generation }) }) else answering ask (answer.Ret UInvalid)
+
+    by_test : (b : Bool) → may_return_in g.phase && is_waiting (g.vcpus cpu.vid).state ≡ b → Change plan past cpu (entry cpu ctx.Hv mark (UReturn r0 r2 outs) (deed b))
+    by_test true t =
+        let parts = both (may_return_in g.phase) (is_waiting (g.vcpus cpu.vid).state) t in
+        Takes (record {
+          before = h;
+          allowed = parts.0;
+          waits = parts.1;
+          cpu_is = record { ctx_is = refl; hand_is = refl; lpid_is = refl };
+          parts = at_guest plan past (entry cpu ctx.Hv mark (UReturn r0 r2 outs) (deed true)) cpu.lpid (with_running_vcpu g cpu.vid mark.cpu) refl refl;
+          pool = refl;
+        })
+    by_test false t = at_one plan past cpu _ cpu.lpid (record { ctx_is = sym h; hand_is = refl; lpid_is = refl }) refl refl refl
+
+  -- UV_PAGE_OUT of a guest begins to move a Secure page at rest
+  pub page_out : cpu.ctx ≡ ctx.Hv → (lpid dest gpa flags order : ℕ) → target_in plan ctx.Hv cpu.lpid (UPageout lpid dest gpa flags order) ≡ AtGuest lpid →
+      Change plan past cpu (entry cpu ctx.Hv mark (UPageout lpid dest gpa flags order) (deed_after plan past (asked cpu ctx.Hv (UPageout lpid dest gpa flags order)) (UPageout lpid dest gpa flags order) (AtGuest lpid)))
+  page_out h lpid dest gpa flags order target = by_code (page_out_code plan g.part dest gpa flags order) refl where
+    ask : Ask
+    ask = asked cpu ctx.Hv (UPageout lpid dest gpa flags order)
+
+    g : Guest
+    g = guest_after plan lpid past
+
+    deed : Option Code → Deed
+    deed code = returning ask code (deed_page_out_begin plan g ask lpid dest gpa)
+
+    by_code : (code : Option Code) → page_out_code plan g.part dest gpa flags order ≡ code → Change plan past cpu (entry cpu ctx.Hv mark (UPageout lpid dest gpa flags order) (deed code))
+    by_code None t =
+        let begins = page_begins plan g.part dest gpa flags order t in
+        Begins (record {
+          move = record { lpid = lpid; generation = g.part.generation; gfn = page_of plan gpa; frame = frame_of plan dest; copied = false };
+          before = h;
+          generation = refl;
+          kind_is = begins.0;
+          at_rest = begins.1;
+          sealed = refl;
+          begins = λ named gfn. refl;
+          cpu_is = record { ctx_is = refl; hand_is = refl; lpid_is = refl };
+          parts = at_guest plan past (entry cpu ctx.Hv mark (UPageout lpid dest gpa flags order) (deed None)) lpid (with_page_leaving g.part (page_of plan gpa) mark.cpu (sealed_page plan g lpid (page_of plan gpa))) target refl;
+          pool = refl;
+        })
+    by_code (Some code) t = at_one plan past cpu _ lpid (record { ctx_is = sym h; hand_is = refl; lpid_is = refl }) target refl refl
+
+  -- whether it names a guest or not
+  pub any_page_out : cpu.ctx ≡ ctx.Hv → (lpid dest gpa flags order : ℕ) (b : Bool) → target_in plan ctx.Hv cpu.lpid (UPageout lpid dest gpa flags order) ≡ (if b then AtGuest lpid else Alone) →
+      Change plan past cpu (entry cpu ctx.Hv mark (UPageout lpid dest gpa flags order) (deed_after plan past (asked cpu ctx.Hv (UPageout lpid dest gpa flags order)) (UPageout lpid dest gpa flags order) (if b then AtGuest lpid else Alone)))
+  any_page_out h lpid dest gpa flags order true target = page_out h lpid dest gpa flags order target
+  any_page_out h lpid dest gpa flags order false target = refused plan past cpu mark ctx.Hv h (UPageout lpid dest gpa flags order) (record { ctx_is = refl; hand_is = refl; lpid_is = refl }) target
+
+  -- the next step of a page-out in progress
+  pub go : (move : Move) → cpu.ctx ≡ ctx.Uv (Outward move) → (b : Bool) → move.copied ≡ b →
+      Change plan past cpu (entry cpu (ctx.Uv (Outward move)) mark Go (deed_after plan past (asked cpu (ctx.Uv (Outward move)) Go) Go (if b then AtGuest move.lpid else AtFrame move.frame)))
+  go move h false t = Copies (record {
+    move = move;
+    before = h;
+    cpu_is = record { ctx_is = refl; hand_is = refl; lpid_is = refl };
+    parts = at_none plan past (entry cpu (ctx.Uv (Outward move)) mark Go (deed_after plan past (asked cpu (ctx.Uv (Outward move)) Go) Go (AtFrame move.frame)))
+        (λ lpid. ap (λ (b : Bool). is_guest lpid (if b then AtGuest move.lpid else AtFrame move.frame)) t);
+    pool = refl;
+  })
+  go move h true t = by_life (move.generation == g.generation) refl where
+    ask : Ask
+    ask = asked cpu (ctx.Uv (Outward move)) Go
+
+    g : GuestPart
+    g = part_after plan past move.lpid
+
+    deed : Bool → Deed
+    deed b = if b then giving (coming_back ask USuccess) 1 else coming_back ask UParameter
+
+    target : target_in plan (ctx.Uv (Outward move)) cpu.lpid Go ≡ AtGuest move.lpid
+    target = ap (λ (b : Bool). if b then AtGuest move.lpid else AtFrame move.frame) t
+
+    by_life : (b : Bool) → (move.generation == g.generation) ≡ b → Change plan past cpu (entry cpu (ctx.Uv (Outward move)) mark Go (deed b))
+    by_life true same = Ends (record {
+      move = move;
+      before = h;
+      generation = test_same move.generation g.generation same;
+      cpu_is = record { ctx_is = refl; hand_is = refl; lpid_is = refl };
+      parts = at_guest plan past (entry cpu (ctx.Uv (Outward move)) mark Go (deed true)) move.lpid (with_page_out g move.gfn) target refl;
+      pool = omega arith;
+    })
+    by_life false other = Drops (record {
+      move = move;
+      before = h;
+      generation = grind (arith, nat_tests);
+      cpu_is = record { ctx_is = refl; hand_is = refl; lpid_is = refl };
+      parts = at_guest_same plan past (entry cpu (ctx.Uv (Outward move)) mark Go (deed false)) move.lpid target refl;
+      pool = refl;
+    })

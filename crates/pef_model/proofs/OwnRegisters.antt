@@ -1,0 +1,76 @@
+-- The hypervisor has 32 registers on each CPU.
+use Rattle.std.proofs.Common.{◌≡◌, ℕ, List, [], ◌∷◌, length, Bool, true, false, arith, refl, ap, ◌∙◌, length-append, length-take, length-drop}
+use Rattle.std.specs.List.{AllByRecursion}
+use Rattle.std.proofs.Math.ListN.{length-set}
+use Rattle.pef_model.specs.declared.state.Ctx.{Ctx}
+use Rattle.pef_model.specs.declared.state.Ctx.TheVariants as ctx
+use Rattle.pef_model.specs.declared.command.Cmd.{Cmd}
+use Rattle.pef_model.specs.declared.command.Cmd.TheVariants.{HLd, HSt, UPageout, UReturn, GLi, GLd, GSt, GIrq, Go}
+use Rattle.pef_model.specs.declared.entry.Exit.TheVariants as exit
+use Rattle.pef_model.specs.declared.entry.Answer.{Answer}
+use Rattle.pef_model.specs.declared.entry.Answer.TheVariants.{Val, Ret, Step, Exit, Gone}
+use Rattle.pef_model.specs.Plan.{Plan}
+use Rattle.pef_model.specs.Event.{Event}
+use Rattle.pef_model.specs.Registers.{load_return, load_page_out}
+use Rattle.pef_model.specs.Target.{touches_cpu}
+use Rattle.pef_model.specs.Cpu.{CpuPart, start_cpu, next_cpu, own_after, own_after_return, own_after_load}
+use Rattle.pef_model.specs.History.{cpu_after}
+use Rattle.pef_model.specs.SearchLaw.{IsCommand}
+use Rattle.pef_model.proofs.Folds.{counts, skips}
+use Rattle.pef_model.proofs.NextValues.{cpu_by, cpu_by_is}
+
+-- what a call loads takes the room of what was there
+length-load_return : (own outs : List ℕ) (r0 r2 : ℕ) → length own ≡ 32 → length outs ≡ 9 → length (load_return own r0 r2 outs) ≡ 32
+length-load_return own outs r0 r2 h k = simp (length-set, length-append, length-take, length-drop) (omega arith)
+
+-- likewise of a page-out
+length-load_page_out : (own : List ℕ) (lpid dest gpa flags order : ℕ) → length own ≡ 32 → length (load_page_out own lpid dest gpa flags order) ≡ 32
+length-load_page_out own lpid dest gpa flags order h = simp (length-set, length-append, length-take, length-drop) (omega arith)
+
+-- and so does the code that comes back
+after_call : (loaded : List ℕ) (a : Answer) → length loaded ≡ 32 → length (own_after_return loaded a) ≡ 32
+after_call loaded (Ret code) h = simp length-set h
+after_call loaded a h = h
+
+-- and what was loaded
+after_load : (own : List ℕ) (a : Answer) → length own ≡ 32 → length (own_after_load own a) ≡ 32
+after_load own (Val value) h = simp length-set h
+after_load own a h = h
+
+-- a command of the hypervisor keeps that there are 32
+after_command : (own : List ℕ) (cmd : Cmd) (a : Answer) → IsCommand cmd → length own ≡ 32 → length (own_after own cmd a) ≡ 32
+after_command own (HLd ra) a k h = after_load own a h
+after_command own (HSt ra value) a k h = h
+after_command own (UPageout lpid dest gpa flags order) a k h = after_call (load_page_out own lpid dest gpa flags order) a (length-load_page_out own lpid dest gpa flags order h)
+after_command own (UReturn r0 r2 outs) a k h = after_call (load_return own r0 r2 outs) a (length-load_return own outs r0 r2 h k)
+after_command own (GLi rd value) a k h = h
+after_command own (GLd rd gpa) a k h = h
+after_command own (GSt rs gpa) a k h = h
+after_command own GIrq a k h = h
+after_command own Go a k h = h
+
+-- a step keeps it in each context
+after_step : (cpu : CpuPart) (c after : Ctx) (cmd : Cmd) (a : Answer) (bytes : List ℕ) → IsCommand cmd → length cpu.own ≡ 32 → length (cpu_by cpu c after cmd a bytes).own ≡ 32
+after_step cpu ctx.Hv after cmd a bytes k h = after_command cpu.own cmd a k h
+after_step cpu (ctx.Uv work) after cmd Step bytes k h = h
+after_step cpu (ctx.Uv work) after cmd (Ret code) bytes k h = simp length-set h
+after_step cpu (ctx.Uv work) after cmd a bytes k h = h
+after_step cpu (ctx.Guest run) after cmd (Exit exit.Irq) bytes k h = refl
+after_step cpu (ctx.Guest run) after cmd Gone bytes k h = refl
+after_step cpu (ctx.Guest run) after cmd a bytes k h = h
+
+-- by induction over the history
+pub own_registers : (plan : Plan) (past : List Event) (n : ℕ) → AllByRecursion (λ (e : Event). IsCommand e.trace.cmd) past → length (cpu_after plan n past).own ≡ 32
+own_registers plan [] n commands = refl
+own_registers plan (e ∷ past) n commands = by_test (own_registers plan past n commands.1) (touches_cpu n e) refl where
+  cpu : CpuPart
+  cpu = cpu_after plan n past
+
+  own : CpuPart → ℕ
+  own x = length x.own
+
+  by_test : length cpu.own ≡ 32 → (b : Bool) → touches_cpu n e ≡ b → length (cpu_after plan n (e ∷ past)).own ≡ 32
+  by_test ih true t =
+      ap own (counts (touches_cpu n) next_cpu (start_cpu plan) e past t ∙ cpu_by_is cpu e)
+      ∙ after_step cpu e.saw.before e.saw.after e.trace.cmd e.trace.answer e.bytes commands.0 ih
+  by_test ih false t = ap own (skips (touches_cpu n) next_cpu (start_cpu plan) e past t) ∙ ih

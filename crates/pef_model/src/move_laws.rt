@@ -1,0 +1,48 @@
+//! The laws of pages on the move: each is the contract of a function that does nothing.
+
+ghost use Rattle.pef_model.specs.MoveLaw.{EachCpuMovesItsPage, EachMoverHasItsCall, EachPageKeepsWhatIsSealed, LastSealedIsBegun, VersionsCountPageOuts, PageOutSealsLastStore, PageHasEachDoubleword, PageHasItsLength, SealedPagesFill};
+
+/// A CPU with a page-out in progress moves the page that its call names, and has in its hand what is pending of it.
+pub fn each_cpu_moves_its_page()
+    ensures { EachCpuMovesItsPage }
+{}
+
+/// A page that moves is named by the call in progress of the CPU that moves it.
+pub fn each_mover_has_its_call()
+    ensures { EachMoverHasItsCall }
+{}
+
+/// A page has last sealed bytes exactly where it is Out, and pending ones exactly where it moves.
+pub fn each_page_keeps_what_is_sealed()
+    ensures { EachPageKeepsWhatIsSealed }
+{}
+
+/// What was last sealed of a page that is Out is what the page-out sealed that made it Out, whatever happened between.
+pub fn last_sealed_is_begun()
+    ensures { LastSealedIsBegun }
+{}
+
+/// A page's version is how many page-outs of it began, so no tag comes twice.
+pub fn versions_count_page_outs()
+    ensures { VersionsCountPageOuts }
+{}
+
+/// A page-out seals the page of the last stores, under the tag of the page's next version.
+pub fn page_out_seals_last_store()
+    ensures { PageOutSealsLastStore }
+{}
+
+/// The bytes of a page have the doubleword of each address at its offset.
+pub fn page_has_each_doubleword()
+    ensures { PageHasEachDoubleword }
+{}
+
+/// The bytes of a page are as many as its size.
+pub fn page_has_its_length()
+    ensures { PageHasItsLength }
+{}
+
+/// A configuration's sealed pages have as many bytes as its pages.
+pub fn sealed_pages_fill()
+    ensures { SealedPagesFill }
+{}
