@@ -33,3 +33,15 @@ loads_call gpr outs r0 r2 size nine = record { first = grind (arith, common_step
       ∙ get_or-set_other second 3 r UV_RETURN 0 not_three
       ∙ get_or-set_other first 2 r r2 0 not_two
       ∙ get_or-set_other gpr 0 r r0 0 not_zero
+
+-- a call that loads five operands leaves R1 and the registers past R8
+pub loads_five : (gpr operands : List ℕ) (number : ℕ) → length gpr ≡ 32 → length operands ≡ 5 → LoadsCall gpr (take 4 (slice_set gpr 3 number) ++ (operands ++ drop 9 (slice_set gpr 3 number)))
+loads_five gpr operands number size five = record { first = grind (arith, common_steps); others = λ r above. past r above } where
+  past : (r : ℕ) → 12 < r → get_or (take 4 (slice_set gpr 3 number) ++ (operands ++ drop 9 (slice_set gpr 3 number))) r 0 ≡ get_or gpr r 0
+  past r above =
+      let loaded : List ℕ = slice_set gpr 3 number in
+      let length_loaded : length (slice_set gpr 3 number) ≡ 32 = length-set gpr 3 number ∙ size in
+      let front : length (take 4 loaded) ≡ 4 = omega (arith, length-take 4 loaded) in
+      let not_three : r ≢ 3 = omega arith in
+      beyond 4 5 loaded operands r front five (omega arith)
+      ∙ get_or-set_other gpr 3 r number 0 not_three

@@ -42,6 +42,7 @@ start_state false = vstate.Idle
 pub record IsStartGuest {S : Type 0} (config : Config) (lpid : ℕ) (sealer : S) (guest : Guest S) : Type 0 where
   pub lpid_is : guest.lpid ≡ lpid
   pub shift : guest.shift ≡ config.shift
+  pub normal : guest.normal ≡ config.normal
   pub secure : guest.secure ≡ config.secure
   pub phase : guest.phase ≡ start_phase ((plan_of config).is_born lpid)
   pub generation : guest.generation ≡ 1

@@ -1,11 +1,14 @@
 -- When a guest is whole.
-use Rattle.std.specs.Prelude.{◌≡◌, ℕ, ◌^◌, ◌<◌, ◌≤◌, length, Some, None}
+use Rattle.std.specs.Prelude.{◌≡◌, ◌↔◌, ℕ, ◌^◌, ◌<◌, ◌≤◌, length, Some, None, IsSome}
 use Rattle.pef_model.specs.declared.state.Phase.{Phase}
 use Rattle.pef_model.specs.declared.state.Phase.TheVariants as phase
 use Rattle.pef_model.specs.declared.state.Kind.TheVariants as kind
 use Rattle.pef_model.specs.Plan.{IsWithin}
 use Rattle.pef_frames.specs.Frame.{FrameState}
-use Rattle.pef_pages.specs.Pages.{kind_at, mover_at, version_at, frame_at}
+use Rattle.pef_model.specs.declared.state.Way.TheVariants.{Outward}
+use Rattle.pef_pages.specs.Cells.{way_of}
+use Rattle.pef_pages.specs.Pages.{cell_at, kind_at, mover_at, version_at, frame_at}
+use Rattle.pef_guest.specs.Shows.{kept_in}
 use Rattle.pef_guest.specs.declared.guest.Guest.{Guest}
 
 -- a secure frame has this many bytes, and a number below the number of secure frames
@@ -33,5 +36,7 @@ pub record IsWhole {S : Type 0} (takes : S → ℕ → ℕ → Type 0) (guest : 
   pub outside : IsOutside guest.phase → (gfn : ℕ) → (kind_at guest.pages gfn ≡ kind.Invalid) × (mover_at guest.pages gfn ≡ None)
   -- in Secure no Invalid page moves
   pub rests : guest.phase ≡ phase.Secure → (gfn : ℕ) → kind_at guest.pages gfn ≡ kind.Invalid → mover_at guest.pages gfn ≡ None
+  -- a page that moves outward keeps a digest exactly where the guest is Secure
+  pub digests : (gfn : ℕ) → way_of (mover_at guest.pages gfn) ≡ Some Outward → IsSome (kept_in (cell_at guest.pages gfn)) ↔ (guest.phase ≡ phase.Secure)
   -- no page was paged out more often than there were steps
   pub versions : (gfn : ℕ) → version_at guest.pages gfn ≤ guest.steps

@@ -6,7 +6,7 @@ ghost use Rattle.pef_model.specs.Cpu.{left_registers};
 
 use crate::hand::Hand;
 use crate::registers;
-use pef_model::{Answer, Code, Ctx, EXTERNAL_INTERRUPT, Exit, Run};
+use pef_model::{Answer, Code, Ctx, EXTERNAL_INTERRUPT, Exit, Run, Work};
 use std::alloc::{AllocError, Global};
 
 /// A CPU.
@@ -77,6 +77,33 @@ impl Cpu {
         registers::give_code(&mut self.gpr, code);
         self.last = Answer::Ret(code);
         self.last
+    }
+
+    /// A call of the hypervisor is in progress from now on.
+    pub fn begin(&mut self, work: Work) -> Answer
+        ensures answer { result ≡ Answer.Step }
+        ensures cpu { self.new ≡ record self.old { ctx = Ctx.Uv work; last = Answer.Step } }
+    {
+        self.ctx = Ctx::Uv(work);
+        self.answer(Answer::Step)
+    }
+
+    /// The call in progress goes on, with this left to do. It is no step of the hypervisor, whose last answer stays.
+    pub fn go_on(&mut self, work: Work) -> Answer
+        ensures answer { result ≡ Answer.Step }
+        ensures cpu { self.new ≡ record self.old { ctx = Ctx.Uv work } }
+    {
+        self.ctx = Ctx::Uv(work);
+        Answer::Step
+    }
+
+    /// The call in progress comes back with a code in R3, and the hypervisor runs from now on.
+    pub fn come_back(&mut self, code: Code) -> Answer
+        ensures answer { result ≡ Answer.Ret code }
+        ensures cpu { self.new ≡ record self.old { ctx = Ctx.Hv; gpr = with_code self.old.gpr code; last = Answer.Ret code } }
+    {
+        self.ctx = Ctx::Hv;
+        self.refuse(code)
     }
 
     /// A step of the hypervisor answers this, and changes nothing else of the CPU.

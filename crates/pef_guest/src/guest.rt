@@ -20,6 +20,8 @@ pub struct Guest<S: Seal> {
     pub lpid: u16,
     /// A page has 2^shift bytes; 8 to 16.
     pub shift: u8,
+    /// How many normal frames the machine has.
+    pub normal: u32,
     /// How many secure frames the machine has.
     pub secure: u32,
     /// Whether it runs in secure memory.
@@ -66,6 +68,7 @@ impl<S: Seal> Guest<S> {
         Ok(Guest {
             lpid,
             shift: config.shift,
+            normal: config.normal,
             secure: config.secure,
             phase,
             generation: 1,

@@ -1,7 +1,10 @@
 //! A CPU's hand holds one page of public bytes: sealed ones, or a copy of a normal frame.
 
-ghost use Rattle.std.specs.Prelude.{◌≡◌, replicate, IfOk};
+ghost use Rattle.std.specs.Prelude.{◌≡◌, ◌≢◌, ◌↔◌, ℕ, List, length, replicate, IfOk};
+ghost use Rattle.pef_model.specs.declared.state.Tag.{Tag};
 
+use pef_model::Tag;
+use pef_seal::Seal;
 use std::alloc::{AllocError, Global};
 use std::marker::Model;
 
@@ -33,5 +36,19 @@ impl Hand {
         ensures { result.now ≡ self.now }
     {
         &self.bytes
+    }
+
+    /// Takes the sealed page of a plain one, under a tag.
+    pub fn take_sealed<S: Seal>(&mut self, sealer: &mut S, tag: Tag, plain: &[u8])
+        requires lengths { length plain.now ≡ length self.old }
+        requires takes { S.takes sealer.old tag.gfn (length plain.now) }
+        ensures hand { self.new ≡ S.image sealer.old tag plain.now }
+        ensures stands { S.stands sealer.new tag plain.now self.new }
+        ensures others { (other : Tag) (page sealed : List ℕ) → other.gfn ≢ tag.gfn → S.stands sealer.new other page sealed ↔ S.stands sealer.old other page sealed }
+        ensures same_image { S.image sealer.new ≡ S.image sealer.old }
+        ensures same_takes { (gfn size : ℕ) → S.takes sealer.new gfn size ↔ S.takes sealer.old gfn size }
+        ensures length { length self.new ≡ length self.old }
+    {
+        sealer.seal(tag, plain, &mut self.bytes);
     }
 }

@@ -4,7 +4,6 @@
 mod cpu;
 mod guest;
 mod hand;
-mod inner;
 pub mod registers;
 #[cfg(test)]
 mod tests;
@@ -13,5 +12,4 @@ mod vcpu;
 pub use cpu::Cpu;
 pub use guest::Guest;
 pub use hand::Hand;
-pub use inner::Inner;
 pub use vcpu::Vcpu;

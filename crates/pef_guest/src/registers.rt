@@ -1,11 +1,11 @@
 //! A call loads its values into R0, R2, R3 and R4 to R12; a guest's command moves on to the next instruction.
 
 ghost use Rattle.std.specs.Prelude.{◌≡◌, ◌≢◌, ℕ, slice_index, slice_set};
-ghost use Rattle.pef_model.specs.Registers.{load_return, with_code, number_of};
+ghost use Rattle.pef_model.specs.Registers.{load_return, load_call, with_code, number_of};
 ghost use Rattle.pef_model.specs.Guest.{at_next_instruction, entered_at};
 ghost use Rattle.pef_guest.specs.Loads.{LoadsCall};
 
-use pef_model::{Code, Reg, Regs, UV_RETURN};
+use pef_model::{Code, Reg, Regs, UV_PAGE_OUT, UV_RETURN};
 
 /// Loads what a caller of UV_RETURN loads: the call's number into R3, its values into R0, R2 and R4 to R12.
 #[tactic(auto, using(crate::proofs::Loading::loads_call))]
@@ -17,6 +17,16 @@ pub fn load_return(gpr: &mut [u64; 32], r0: u64, r2: u64, outs: &[u64; 9])
     gpr[2] = r2;
     gpr[3] = UV_RETURN;
     gpr[4..13].copy_from_slice(outs);
+}
+
+/// Loads what a caller of UV_PAGE_OUT loads: the call's number into R3, its operands into R4 to R8.
+#[tactic(auto, using(crate::proofs::Loading::loads_five))]
+pub fn load_page_out(gpr: &mut [u64; 32], operands: [u64; 5])
+    ensures gpr { gpr.new ≡ load_call gpr.old UV_PAGE_OUT operands }
+    ensures rest { LoadsCall gpr.old gpr.new }
+{
+    gpr[3] = UV_PAGE_OUT;
+    gpr[4..9].copy_from_slice(&operands);
 }
 
 /// The value of a register.

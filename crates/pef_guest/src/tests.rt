@@ -4,8 +4,10 @@ ghost use Rattle.std.specs.Prelude.{◌≡◌, ◌<◌, IfOk};
 ghost use Rattle.pef_model.specs.Plan.{IsInRange};
 
 use super::*;
-use pef_model::{Answer, Code, Config, Ctx, Exit, Kind, Pending, Phase, Reg, Regs, Run, VState};
-use pef_seal::StreamSeal;
+use pef_model::{
+    Answer, Code, Config, Ctx, Exit, Kind, Move, Pending, Phase, Reg, Regs, Run, Tag, VState, Work,
+};
+use pef_seal::{Seal, StreamSeal};
 use std::alloc::{AllocError, Global};
 use std::test::Fail;
 
@@ -21,6 +23,15 @@ const RUN: Run = Run {
     lpid: 2,
     vid: 1,
     generation: 5,
+};
+
+// A page of guest 2 on its way out.
+const OUTWARD: Move = Move {
+    lpid: 2,
+    generation: 5,
+    gfn: 1,
+    frame: 3,
+    copied: false,
 };
 
 fn register(number: u8) -> Reg
@@ -137,6 +148,63 @@ fn the_hypervisor_gets_answers(rt: HostRuntime) -> Result<(), Fail> {
 }
 
 #[test]
+fn a_call_is_in_progress_until_it_comes_back(rt: HostRuntime) -> Result<(), Fail> {
+    let mut cpu = Cpu::build(rt.alloc(), 0, 256)?;
+    cpu.gpr = registers_from(40);
+    assert_eq!(rt; cpu.begin(Work::Outward(OUTWARD)), Answer::Step);
+    assert_eq!(rt; cpu.ctx, Ctx::Uv(Work::Outward(OUTWARD)));
+    assert_eq!(rt; cpu.last, Answer::Step);
+    cpu.last = Answer::Hole;
+    let copied = Move {
+        copied: true,
+        ..OUTWARD
+    };
+    assert_eq!(rt; cpu.go_on(Work::Outward(copied)), Answer::Step);
+    assert_eq!(rt; cpu.ctx, Ctx::Uv(Work::Outward(copied)));
+    assert_eq!(rt; cpu.last, Answer::Hole);
+    assert_eq!(rt; cpu.gpr, registers_from(40));
+    let answer = cpu.come_back(Code::UParameter);
+    assert_eq!(rt; answer, Answer::Ret(Code::UParameter));
+    assert_eq!(rt; cpu.ctx, Ctx::Hv);
+    assert_eq!(rt; cpu.last, answer);
+    let mut want = registers_from(40);
+    want[3] = 1;
+    assert_eq!(rt; cpu.gpr, want);
+    assert_eq!(rt; (cpu.lpid, cpu.vid), (1, 0));
+    Ok(())
+}
+
+#[test]
+fn a_hand_takes_a_sealed_page(rt: HostRuntime) -> Result<(), Fail> {
+    let mut hand = Hand::build(rt.alloc(), 256)?;
+    let mut sealer = StreamSeal::build([7; 32]);
+    let tag = Tag {
+        lpid: 2,
+        generation: 5,
+        gfn: 1,
+        version: 1,
+    };
+    let plain = [0x5a; 256];
+    hand.take_sealed(&mut sealer, tag, &plain);
+    let mut want = [0; 256];
+    StreamSeal::build([7; 32]).seal(tag, &plain, &mut want);
+    assert_eq!(rt; hand.bytes(), want.as_slice());
+    assert_ne!(rt; want, plain);
+    Ok(())
+}
+
+#[test]
+fn a_page_out_loads_its_operands(rt: HostRuntime) {
+    let mut gpr = registers_from(40);
+    registers::load_page_out(&mut gpr, [2, 0x300, 0x100, 1, 8]);
+    let want = [
+        40, 41, 42, 5, 2, 0x300, 0x100, 1, 8, 49, 50, 51, 52, 53, 54, 55, 56, 57, 58, 59, 60, 61,
+        62, 63, 64, 65, 66, 67, 68, 69, 70, 71,
+    ];
+    assert_eq!(rt; gpr, want);
+}
+
+#[test]
 fn a_vcpu_runs_and_waits_again(rt: HostRuntime) {
     let mut vcpu = Vcpu::new(VState::Fresh);
     assert!(rt; vcpu.is_waiting());
@@ -198,7 +266,8 @@ fn instructions_follow_one_another(rt: HostRuntime) {
 fn a_guest_begins_as_the_configuration_says(rt: HostRuntime) -> Result<(), Fail> {
     let config = config(rt.alloc())?;
     let guest = Guest::build(rt.alloc(), &config, 1, StreamSeal::build(config.key))?;
-    assert_eq!(rt; (guest.lpid, guest.shift, guest.secure), (1, 8, 4));
+    assert_eq!(rt; (guest.lpid, guest.shift), (1, 8));
+    assert_eq!(rt; (guest.normal, guest.secure), (16, 4));
     assert_eq!(rt; guest.phase, Phase::Absent);
     assert!(rt; !guest.may_return());
     assert_eq!(rt; (guest.generation, guest.steps), (1, 0));

@@ -1,0 +1,7 @@
+pub mod PageBytes
+pub mod OnePage
+pub mod Codes
+pub mod Wholes
+pub mod Begun
+pub mod BegunRows
+pub mod Ended

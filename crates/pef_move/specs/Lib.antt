@@ -1,0 +1,2 @@
+pub mod PageOut
+pub mod Route

@@ -1,0 +1,149 @@
+//! A page-out seals the page at its begin, so that what is written and what is kept are of one moment.
+
+ghost use Rattle.std.specs.Prelude.{◌≡◌, ◌^◌, ◌<◌, true, ℕ, length};
+ghost use Rattle.pef_model.specs.Registers.{load_page_out, with_code};
+ghost use Rattle.pef_num.specs.DoublewordLaw.{AreBytes};
+ghost use Rattle.pef_guest.specs.Whole.{IsWhole};
+ghost use Rattle.pef_guest.specs.Keeps.{IsPoolOf, KeepsGuest, KeepsFrames, KeepsMovers, times_held};
+ghost use Rattle.pef_guest.specs.Refused.{RefusesCpu};
+ghost use Rattle.pef_move.specs.PageOut.{Leaves, ComesBackWith, KeepsCpu, RefusesCall, BeginsPageOut, CopiesPageOut, IsReady, EndsOld, EndsPageOut};
+ghost use Rattle.pef_move.specs.Route.{CanBegin, HasBegun};
+
+use crate::page_call::PageCall;
+use crate::route::{Route, route_of};
+use pef_frames::{NormalFrame, Pool, SecFrame};
+use pef_guest::{Cpu, Guest, registers};
+use pef_model::{Answer, Code, Ctx, Move, Tag, Work};
+use pef_seal::{Seal, digest_of};
+
+/// UV_PAGE_OUT of the hypervisor, the begin: the page is sealed into the CPU's hand under its next version, and moves from
+/// now on. The call's registers are loaded before. The guest is the one that the call names.
+///
+/// The answer is Step, or the code of the first of these: U_PARAMETER where the guest is neither Starting nor Secure; U_P2
+/// where the real address is no multiple of a page's size, or past the last normal frame; U_P3 where the guest address is no
+/// multiple of a page's size, or past the guest's last page, or the page is Invalid or Out; U_FUNCTION at the flag
+/// UV_SNAPSHOT, and U_P4 at every other flag; U_P5 where the order is not that of a page, 8 to 16; U_SUCCESS where the page
+/// is Shared, since the hypervisor has it already; U_BUSY where the guest is Starting, or the page is on the move. A call
+/// that comes back at once changes nothing but the CPU's registers and last answer, and counts of steps.
+///
+/// That a Shared page gives U_SUCCESS is the manual's. The begin as a step of its own, the order of the tests and U_BUSY are
+/// this project's own.
+pub fn page_out_begin<S: Seal>(guest: &mut Guest<S>, cpu: &mut Cpu, call: &PageCall) -> Answer
+    requires hypervisor { cpu.old.ctx ≡ Ctx.Hv }
+    requires named { call.now.lpid ≡ guest.old.lpid }
+    requires whole { IsWhole S.takes guest.old }
+    requires hand { length cpu.old.hand ≡ 2 ^ guest.old.shift }
+    requires steps { guest.old.steps < 2 ^ 63 }
+    ensures whole { IsWhole S.takes guest.new }
+    ensures keeps { KeepsGuest guest.old guest.new }
+    ensures frames { (number : ℕ) → times_held guest.new number ≡ times_held guest.old number }
+    ensures movers { KeepsMovers cpu.old.number guest.old guest.new }
+    ensures cpu { KeepsCpu cpu.old cpu.new }
+    ensures leaves { Leaves guest.new cpu.new cpu.new.ctx }
+    ensures refused { RefusesCall call.now guest.old guest.new cpu.old cpu.new result }
+    ensures row { BeginsPageOut S.stands S.image call.now guest.old guest.new cpu.old cpu.new result }
+{
+    guest.steps += 1;
+    registers::load_page_out(&mut cpu.gpr, call.operands());
+    match route_of(guest, call) {
+        Ok(route) => begin(guest, cpu, route),
+        Err(code) => cpu.refuse(code),
+    }
+}
+
+/// UV_PAGE_OUT of the hypervisor where the first operand is the number of no guest: it comes back with U_PARAMETER.
+pub fn page_out_of_none(cpu: &mut Cpu, call: &PageCall) -> Answer
+    ensures answer { result ≡ Answer.Ret Code.UParameter }
+    ensures cpu { cpu.new ≡ record cpu.old { gpr = with_code (load_page_out cpu.old.gpr call.now.lpid call.now.ra call.now.gpa call.now.flags call.now.order) Code.UParameter; last = Answer.Ret Code.UParameter } }
+    ensures refused { RefusesCpu cpu.old cpu.new Code.UParameter }
+{
+    registers::load_page_out(&mut cpu.gpr, call.operands());
+    cpu.refuse(Code::UParameter)
+}
+
+/// The copy: all the bytes in the CPU's hand are written into the normal frame, whatever has become of the guest. It answers
+/// Step: the call is still in progress. A step of its own is this project's own.
+pub fn page_out_copy(cpu: &mut Cpu, outward: Move, frame: &mut NormalFrame) -> Answer
+    requires working { cpu.old.ctx ≡ Ctx.Uv (Work.Outward outward) }
+    requires size { length cpu.old.hand ≡ length frame.old }
+    ensures answer { result ≡ Answer.Step }
+    ensures cpu { cpu.new ≡ record cpu.old { ctx = Ctx.Uv (Work.Outward (record outward { copied = true })) } }
+    ensures frame { frame.new ≡ cpu.old.hand }
+    ensures row { CopiesPageOut outward cpu.old cpu.new frame.old frame.new result }
+{
+    frame.copy_from(cpu.hand());
+    cpu.go_on(Work::Outward(Move {
+        copied: true,
+        ..outward
+    }))
+}
+
+/// The end: the secure frame goes back zeroed, the page is Out with the digest of what the begin sealed, and the call comes
+/// back with U_SUCCESS. Where the guest has ended since, it comes back with U_PARAMETER, and nothing changes but the CPU and
+/// counts of steps: the frame may be another page's by now. A step of its own, and what it does after the guest's end, are
+/// this project's own.
+pub fn page_out_end<S: Seal>(
+    guest: &mut Guest<S>,
+    cpu: &mut Cpu,
+    outward: Move,
+    pool: &mut Pool,
+) -> Answer
+    requires working { cpu.old.ctx ≡ Ctx.Uv (Work.Outward outward) }
+    requires whole { IsWhole S.takes guest.old }
+    requires pool { IsPoolOf guest.old pool.old }
+    requires ready { IsReady guest.old cpu.old pool.old outward }
+    requires steps { guest.old.steps < 2 ^ 63 }
+    ensures whole { IsWhole S.takes guest.new }
+    ensures keeps { KeepsGuest guest.old guest.new }
+    ensures frames { KeepsFrames guest.old guest.new pool.old pool.new }
+    ensures movers { KeepsMovers cpu.old.number guest.old guest.new }
+    ensures back { ComesBackWith cpu.old cpu.new result }
+    ensures old { EndsOld guest.old guest.new pool.old pool.new result }
+    ensures row { EndsPageOut S.stands S.image outward guest.old guest.new cpu.old cpu.new pool.old pool.new result }
+{
+    guest.steps += 1;
+    if outward.generation != guest.generation {
+        return cpu.come_back(Code::UParameter);
+    }
+    let frame = guest.pages.end_out(outward.gfn);
+    pool.give(frame);
+    cpu.come_back(Code::USuccess)
+}
+
+/// The bytes of a secure frame, each below 256.
+fn bytes_of(frame: &SecFrame) -> &[u8]
+    ensures value { result.now ≡ frame.now.bytes }
+    ensures bytes { AreBytes result.now }
+{
+    let bytes = frame.bytes();
+    bytes
+}
+
+/// The page of a route is sealed into the CPU's hand under its next version, and moves from now on.
+fn begin<S: Seal>(guest: &mut Guest<S>, cpu: &mut Cpu, route: Route) -> Answer
+    requires { CanBegin S.takes guest.old cpu.old.hand route.gfn }
+    ensures answer { result ≡ Answer.Step }
+    ensures begun { HasBegun S.stands S.image S.takes route guest.old guest.new cpu.old cpu.new }
+{
+    let Some(frame) = guest.pages.frame(route.gfn) else {
+        unreachable!()
+    };
+    let tag = Tag {
+        lpid: guest.lpid,
+        generation: guest.generation,
+        gfn: route.gfn,
+        version: guest.pages.version(route.gfn) + 1,
+    };
+    cpu.hand
+        .take_sealed(&mut guest.sealer, tag, bytes_of(frame));
+    let hand = cpu.hand();
+    let digest = digest_of(hand);
+    guest.pages.begin_out(route.gfn, cpu.number, Some(digest));
+    cpu.begin(Work::Outward(Move {
+        lpid: guest.lpid,
+        generation: guest.generation,
+        gfn: route.gfn,
+        frame: route.frame,
+        copied: false,
+    }))
+}
