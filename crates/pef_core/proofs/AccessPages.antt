@@ -1,9 +1,10 @@
 -- What an access leaves of the pages: how many they are, what holds of each, and which frames are held.
-use Rattle.std.proofs.Common.{◌≡◌, ◌≢◌, ℕ, ◌+◌, ◌/◌, ◌%◌, ◌^◌, ◌<◌, ◌≤◌, ◌==◌, if◌then◌else◌, length, count_by, Some, None, ◌⊎◌, inl, inr, arith, refl, ap, sym, subst, ◌∙◌}
+use Rattle.std.proofs.Common.{◌≡◌, ◌≢◌, ℕ, ◌+◌, ◌/◌, ◌%◌, ◌^◌, ◌<◌, ◌≤◌, ◌==◌, if◌then◌else◌, length, count_by, Some, None, IsSome, ◌↔◌, ◌⊎◌, inl, inr, arith, refl, ap, sym, subst, ◌∙◌}
 use Rattle.std.proofs.lemmas.List.{length-replicate, length-set, get_or-set_same, get_or-set_other}
 use Rattle.std.proofs.lemmas.List.Sums.{sum_by-cons}
 use Rattle.std.proofs.lemmas.Bool.{cases_eq}
 use Rattle.pef_model.specs.declared.state.Kind.TheVariants as kind
+use Rattle.pef_model.specs.declared.state.Way.TheVariants.{Outward}
 use Rattle.pef_model.specs.Doubleword.{with_doubleword}
 use Rattle.pef_model.specs.Deed.{Reach, NoPage, InFrame, Backs, NoFrame, Moves}
 use Rattle.pef_model.proofs.Doublewords.{length-with_doubleword}
@@ -13,10 +14,11 @@ use Rattle.pef_frames.specs.PoolLaw.{times_free, once}
 use Rattle.pef_pages.specs.declared.cell.Cell.{Cell}
 use Rattle.pef_pages.specs.declared.cell.Cell.TheVariants as cell
 use Rattle.pef_pages.specs.declared.page.Page.{Page}
-use Rattle.pef_pages.specs.Cells.{kind_of, mover_of, frame_in, with_frame}
+use Rattle.pef_pages.specs.Cells.{kind_of, mover_of, way_of, frame_in, with_frame}
 use Rattle.pef_pages.specs.Pages.{PagesState, invalid_page, page_at, cell_at, with_page, with_cell, joins_order, held}
 use Rattle.pef_pages.specs.Laws.{count_in}
 use Rattle.pef_pages.proofs.Frames.{frames-set}
+use Rattle.pef_guest.specs.Shows.{kept_in}
 use Rattle.pef_guest.specs.Whole.{IsFrameOf}
 use Rattle.pef_core.specs.Access.{place_at, pages_after, pool_after, stored_at, stored_in}
 use Rattle.pef_core.proofs.Meets.{IsAt, IsHeld, IsToBack, Met, pool_of, room_in}
@@ -146,10 +148,61 @@ frames_stored shift pages gpa value number r h =
     times_with pages (gpa / 2 ^ shift) (frame_with i.frame (gpa % 2 ^ shift) value) (cell.Secure i.frame) number i.at.below i.at.cell_is in
     omega (arith, same))
 
+-- what an access keeps of each page: who moves it, how often it was paged out, and the digest that it keeps
+pub record IsLikePage (old new : Page FrameState) : Type 0 where
+  pub mover : mover_of new.cell ≡ mover_of old.cell
+  pub version : new.version ≡ old.version
+  pub kept : kept_in new.cell ≡ kept_in old.cell
+
+-- a page is like itself
+like_itself : (page : Page FrameState) → IsLikePage page page
+like_itself page = record { mover = refl; version = refl; kept = refl }
+
+-- and it is like what is like one that is like it
+like_both : (old page new : Page FrameState) → IsLikePage old page → IsLikePage page new → IsLikePage old new
+like_both old page new first second = record { mover = second.mover ∙ first.mover; version = second.version ∙ first.version; kept = second.kept ∙ first.kept }
+
+-- a page at rest that keeps no digest is like itself in a secure frame
+like_secure : (page : Page FrameState) (c : Cell FrameState) (frame : FrameState) → page.cell ≡ c → mover_of c ≡ None → kept_in c ≡ None → IsLikePage page (page_with page (cell.Secure frame))
+like_secure page c frame is rests none = record { mover = sym (ap mover_of is ∙ rests); version = refl; kept = sym (ap kept_in is ∙ none) }
+
+-- each page is like the one of its number
+pub record AreLikePages (old new : PagesState FrameState) : Type 0 where
+  pub each : (gfn : ℕ) → IsLikePage (page_at old gfn) (page_at new gfn)
+
+-- pages are like those which are like ones that are like them
+pub like_through : (old pages new : PagesState FrameState) → AreLikePages old pages → AreLikePages pages new → AreLikePages old new
+like_through old pages new first second = record { each = λ n. like_both (page_at old n) (page_at pages n) (page_at new n) (first.each n) (second.each n) }
+
+-- the others stay where one page is put into a secure frame
+pub like_with : (shift : ℕ) (pages : PagesState FrameState) (gpa : ℕ) (c : Cell FrameState) (frame : FrameState) → IsAt shift pages gpa c → mover_of c ≡ None → kept_in c ≡ None →
+    AreLikePages pages (with_secure pages (gpa / 2 ^ shift) frame)
+like_with shift pages gpa c frame at rests none = record {
+  each = each_with_page (λ (n : ℕ). IsLikePage (page_at pages n)) pages (gpa / 2 ^ shift) (page_with (page_at pages (gpa / 2 ^ shift)) (cell.Secure frame)) at.below
+      (like_secure (page_at pages (gpa / 2 ^ shift)) c frame at.cell_is rests none)
+      (λ n other. like_itself (page_at pages n));
+}
+
+-- a page that was backed is like the Invalid one
+pub like_backed : (shift : ℕ) (pages : PagesState FrameState) (gpa number : ℕ) → IsAt shift pages gpa cell.Invalid → AreLikePages pages (with_backed shift pages (gpa / 2 ^ shift) number)
+like_backed shift pages gpa number at = record { each = (like_with shift pages gpa cell.Invalid (zero_frame (2 ^ shift) number) at refl refl).each }
+
+-- an access leaves pages like those before, and so does a store
+pub like_after : (shift : ℕ) (pages : PagesState FrameState) (pool : PoolState) (gpa : ℕ) (r : Reach) → Met shift pages pool gpa r → AreLikePages pages (pages_after pages (gpa / 2 ^ shift) pool r)
+like_after shift pages pool gpa r m =
+    where_reached (λ (x : PagesState FrameState) (p : PoolState). AreLikePages pages x) shift pages pool gpa r m (record { each = λ n. like_itself (page_at pages n) })
+    (λ b. like_backed shift pages gpa b.number b.at)
+
+pub like_stored : (shift : ℕ) (pages : PagesState FrameState) (gpa value : ℕ) (r : Reach) → HeldAfter shift pages gpa r → AreLikePages pages (stored_at pages (place_at shift gpa) value r)
+like_stored shift pages gpa value r h =
+    where_stored (AreLikePages pages) shift pages gpa value r h (record { each = λ n. like_itself (page_at pages n) })
+    (λ i. like_with shift pages gpa (cell.Secure i.frame) (frame_with i.frame (gpa % 2 ^ shift) value) i.at refl refl)
+
 -- a page of a whole guest; inside: the guest is Secure
 pub record IsWholePage (size secure steps : ℕ) (inside : Type 0) (page : Page FrameState) : Type 0 where
   pub frames : (frame : FrameState) → frame_in page.cell ≡ Some frame → IsFrameOf size secure frame
   pub rests : inside → kind_of page.cell ≡ kind.Invalid → mover_of page.cell ≡ None
+  pub digests : way_of (mover_of page.cell) ≡ Some Outward → IsSome (kept_in page.cell) ↔ inside
   pub version : page.version ≤ steps
 
 -- a page that is put into a frame of the right size and number
@@ -158,6 +211,7 @@ whole_with : (size secure steps : ℕ) (inside : Type 0) (page : Page FrameState
 whole_with size secure steps inside page new whole is = record {
   frames = λ frame e. subst (IsFrameOf size secure) (let same : new ≡ frame = cc in same) is;
   rests = λ i e. refl;
+  digests = λ moves. cc;
   version = whole.version;
 }
 

@@ -1,17 +1,18 @@
 -- The pages after an access are those of the model's guest after it.
-use Rattle.std.proofs.Common.{◌≡◌, ◌≢◌, ℕ, ◌%◌, ◌^◌, ◌<◌, ◌≤◌, ◌==◌, Bool, true, false, ◌&&◌, if◌then◌else◌, List, [], ◌∷◌, ◌++◌, Option, Some, None, unwrap_or, ◌⊎◌, inl, inr, arith, refl, ap, sym, subst, ◌∙◌}
+use Rattle.std.proofs.Common.{◌≡◌, ◌≢◌, ℕ, ◌%◌, ◌^◌, ◌<◌, ◌≤◌, ◌==◌, Bool, true, false, ◌&&◌, if◌then◌else◌, List, [], ◌∷◌, ◌++◌, Option, Some, None, is_some, unwrap_or, ◌⊎◌, inl, inr, arith, refl, ap, sym, subst, ◌∙◌}
 use Rattle.std.proofs.lemmas.List.{length-set}
 use Rattle.std.proofs.lemmas.Bool.{cases_eq}
 use Rattle.std.proofs.lemmas.Bool.Decides.{nat_tests}
 use Rattle.pef_model.specs.declared.state.Kind.{Kind}
 use Rattle.pef_model.specs.declared.state.Kind.TheVariants as kind
+use Rattle.pef_model.specs.declared.state.Mover.{Mover}
 use Rattle.pef_model.specs.declared.state.Regs.{Regs}
 use Rattle.pef_model.specs.Plan.{Plan}
 use Rattle.pef_model.specs.Doubleword.{doubleword, with_doubleword}
-use Rattle.pef_model.specs.GuestPart.{Page as PagePart, page_of, is_invalid, put, secure_page, with_secure_page}
+use Rattle.pef_model.specs.GuestPart.{Page as PagePart, invalid_page, page_of, is_invalid, put, secured, with_secure_page}
 use Rattle.pef_model.specs.Guest.{Guest, private_doubleword}
 use Rattle.pef_model.specs.Memory.{offset_of}
-use Rattle.pef_model.specs.Deed.{NoPage, reach_of, reach}
+use Rattle.pef_model.specs.Deed.{NoPage, Moves, reach_kind, reach}
 use Rattle.pef_model.proofs.Folds.{same_test}
 use Rattle.pef_model.proofs.Doublewords.{doubleword-put, doubleword-other, doubleword-zeros}
 use Rattle.pef_model.proofs.Places.{apart_at}
@@ -21,9 +22,9 @@ use Rattle.pef_pages.specs.declared.cell.Cell.{Cell}
 use Rattle.pef_pages.specs.declared.cell.Cell.TheVariants as cell
 use Rattle.pef_pages.specs.declared.page.Page.{Page}
 use Rattle.pef_pages.specs.Cells.{kind_of, mover_of, frame_in}
-use Rattle.pef_pages.specs.Pages.{PagesState, page_at, frame_at}
+use Rattle.pef_pages.specs.Pages.{PagesState, page_at, kind_at, frame_at}
 use Rattle.pef_guest.specs.Shows.{HoldsPage, ShowsPages}
-use Rattle.pef_core.specs.Access.{has_place, is_any_free, shown_page, reach_at, doubleword_in}
+use Rattle.pef_core.specs.Access.{has_place, is_any_free, reach_page, reach_at, doubleword_in}
 use Rattle.pef_core.proofs.Meets.{IsAt, IsHeld, placed, room_in}
 use Rattle.pef_core.proofs.AccessPages.{page_with, with_secure, with_backed, frame_with, each_with_page, held_where_backed}
 
@@ -35,12 +36,11 @@ if_when false x y z e = refl
 -- an access meets in the machine what it meets in the model
 pub reach_is : (plan : Plan) (pages : PagesState FrameState) (g : Guest) (pool : PoolState) (gpa : ℕ) → ShowsPages plan pages g → reach_at plan.shift pages pool gpa ≡ reach plan g.part (is_any_free pool) gpa
 reach_is plan pages g pool gpa shows =
-    ap (λ (count : ℕ). if has_place plan.shift count gpa then reach_of (shown_page pages (page_of plan gpa)) (is_any_free pool) else NoPage) shows.count
+    ap (λ (count : ℕ). if has_place plan.shift count gpa then reach_page pages (page_of plan gpa) (is_any_free pool) else NoPage) shows.count
     ∙ if_when (has_place plan.shift plan.pages gpa) _ _ NoPage (λ e.
     let below : page_of plan gpa < plan.pages = (placed plan.shift plan.pages gpa e).1 in
-    let same : shown_page pages (page_of plan gpa) ≡ g.part.pages (page_of plan gpa) =
-    λ i. record { kind = shows.kinds (page_of plan gpa) below i; mover = shows.movers (page_of plan gpa) below i } in
-    ap (λ (page : PagePart). reach_of page (is_any_free pool)) same)
+    ap (λ (mover : Option Mover). if is_some mover then Moves else reach_kind (kind_at pages (page_of plan gpa)) (is_any_free pool)) (shows.movers (page_of plan gpa) below)
+    ∙ ap (λ (k : Kind). if is_some (g.part.pages (page_of plan gpa)).mover then Moves else reach_kind k (is_any_free pool)) (shows.kinds (page_of plan gpa) below))
 
 -- the model's guest after an access that was done, by whether it backs its page
 abbrev pub accessed : Plan → Guest → ℕ → Bool → (ℕ → Regs) → Guest
@@ -67,10 +67,10 @@ pub record IsDone (plan : Plan) (pages : PagesState FrameState) (g : Guest) (gpa
 
 -- the page of an address is Invalid in the model where it is so in the machine
 invalid_as : (plan : Plan) (pages : PagesState FrameState) (g : Guest) (gpa : ℕ) (c : Cell FrameState) → ShowsPages plan pages g → IsAt plan.shift pages gpa c →
-    is_invalid (g.part.pages (page_of plan gpa)) ≡ is_invalid (record { kind = kind_of c; mover = None })
+    is_invalid (g.part.pages (page_of plan gpa)) ≡ is_invalid (record invalid_page { kind = kind_of c })
 invalid_as plan pages g gpa c shows at =
     let below : page_of plan gpa < plan.pages = subst (λ (n : ℕ). page_of plan gpa < n) shows.count at.below in
-    ap (λ (k : Kind). is_invalid (record { kind = k; mover = None })) (sym (shows.kinds (page_of plan gpa) below) ∙ ap kind_of at.cell_is)
+    ap (λ (k : Kind). is_invalid (record invalid_page { kind = k })) (sym (shows.kinds (page_of plan gpa) below) ∙ ap kind_of at.cell_is)
 
 -- an access to a page in its frame leaves the pages
 pub done_in_frame : (plan : Plan) (pages : PagesState FrameState) (g : Guest) (gpa : ℕ) → ShowsPages plan pages g → IsHeld plan.shift pages gpa → IsDone plan pages g gpa
@@ -84,11 +84,14 @@ done_in_frame plan pages g gpa shows held = record {
 -- the pages after one of them was backed
 module _ (plan : Plan) (pages : PagesState FrameState) (g : Guest) (at number : ℕ) (shows : ShowsPages plan pages g) (is : IsAt plan.shift pages at cell.Invalid) where
   -- the model has a Secure page there, and the others as before
-  part_here : put g.part.pages (page_of plan at) secure_page (page_of plan at) ≡ secure_page
-  part_here = ap (λ (b : Bool). if b then secure_page else g.part.pages (page_of plan at)) (same_test (page_of plan at))
+  abbrev backed : PagePart
+  backed = secured (g.part.pages (page_of plan at))
 
-  part_there : (n : ℕ) → n ≢ page_of plan at → put g.part.pages (page_of plan at) secure_page n ≡ g.part.pages n
-  part_there n other = ap (λ (b : Bool). if b then secure_page else g.part.pages n) (let test : (n == page_of plan at) ≡ false = grind (arith, nat_tests) in test)
+  part_here : put g.part.pages (page_of plan at) backed (page_of plan at) ≡ backed
+  part_here = ap (λ (b : Bool). if b then backed else g.part.pages (page_of plan at)) (same_test (page_of plan at))
+
+  part_there : (n : ℕ) → n ≢ page_of plan at → put g.part.pages (page_of plan at) backed n ≡ g.part.pages n
+  part_there n other = ap (λ (b : Bool). if b then backed else g.part.pages n) (let test : (n == page_of plan at) ≡ false = grind (arith, nat_tests) in test)
 
   -- the doublewords of the page are 0, and the others stay
   abbrev content : ℕ → ℕ
@@ -102,8 +105,8 @@ module _ (plan : Plan) (pages : PagesState FrameState) (g : Guest) (at number : 
 
   -- what the model's guest after it says of a page
   record IsBackedPage (registers : ℕ → Regs) (n : ℕ) (page : Page FrameState) : Type 0 where
-    kind_is : n < plan.pages → kind_of page.cell ≡ (put g.part.pages (page_of plan at) secure_page n).kind
-    mover_is : n < plan.pages → mover_of page.cell ≡ (put g.part.pages (page_of plan at) secure_page n).mover
+    kind_is : n < plan.pages → kind_of page.cell ≡ (put g.part.pages (page_of plan at) backed n).kind
+    mover_is : n < plan.pages → mover_of page.cell ≡ (put g.part.pages (page_of plan at) backed n).mover
     holds : (frame : FrameState) → kind_of page.cell ≡ kind.Secure → frame_in page.cell ≡ Some frame → HoldsPage plan (accessed plan g at true registers) n frame
 
   here : (registers : ℕ → Regs) → IsBackedPage registers (page_of plan at) (page_with (page_at pages (page_of plan at)) (cell.Secure (zero_frame (2 ^ plan.shift) number)))

@@ -1,7 +1,8 @@
 -- What a guest's load and store leave, clause by clause.
-use Rattle.std.proofs.Common.{◌≡◌, ℕ, ◌+◌, ◌^◌, ◌<◌, length, slice_index, slice_set, arith, refl, ap, sym, subst, ◌∙◌}
+use Rattle.std.proofs.Common.{◌≡◌, ℕ, ◌+◌, ◌^◌, ◌<◌, List, length, slice_index, slice_set, arith, refl, ap, sym, subst, ◌∙◌}
 use Rattle.pef_model.specs.declared.state.Phase.TheVariants as phase
 use Rattle.pef_model.specs.declared.state.Run.{Run}
+use Rattle.pef_model.specs.declared.state.Tag.{Tag}
 use Rattle.pef_model.specs.declared.command.Cmd.{Cmd}
 use Rattle.pef_model.specs.declared.command.Cmd.TheVariants.{GLd, GSt}
 use Rattle.pef_model.specs.declared.entry.Answer.{Answer}
@@ -21,12 +22,14 @@ use Rattle.pef_guest.specs.declared.guest.Guest.{Guest}
 use Rattle.pef_guest.specs.Shows.{ShowsCpu, vcpu_at, Shows}
 use Rattle.pef_guest.specs.Whole.{IsWhole}
 use Rattle.pef_core.specs.Access.{is_any_free, place_at, reach_at, pages_after, pool_after, TakesBelow, doubleword_in, stored_at}
-use Rattle.pef_core.specs.Rows.{access_answer, vcpu_after, ask_running, entry_running, IsRunning, IsPoolOf, KeepsGuest, KeepsFrames, RowRunning}
+use Rattle.pef_core.specs.Rows.{access_answer, vcpu_after, ask_running, entry_running, IsRunning}
+use Rattle.pef_guest.specs.Keeps.{IsPoolOf, KeepsGuest, KeepsFrames, KeepsMovers}
+use Rattle.pef_guest.specs.Rows.{RowWithPool}
 use Rattle.pef_core.proofs.Meets.{Met, met}
-use Rattle.pef_core.proofs.AccessPages.{HeldAfter, held_after, length_after, length_stored, frames_after, frames_stored, AreWholePages, whole_after, whole_stored}
+use Rattle.pef_core.proofs.AccessPages.{HeldAfter, held_after, length_after, length_stored, frames_after, frames_stored, AreLikePages, like_through, like_after, like_stored, AreWholePages, whole_after, whole_stored}
 use Rattle.pef_core.proofs.AccessShows.{reach_is}
 use Rattle.pef_core.proofs.AccessRows.{load_row, store_row}
-use Rattle.pef_core.proofs.GuestAfter.{with_step, pages_of_whole, whole_of_pages, keeps_guest}
+use Rattle.pef_core.proofs.GuestAfter.{with_step, pages_of_whole, whole_of_pages, keeps_guest, keeps_movers}
 
 -- an access leaves the count and the size of the pool
 count_after : (pool : PoolState) (r : Reach) → (pool_after pool r).count ≡ pool.count
@@ -62,6 +65,9 @@ module _ {S : Type 0} {takes : S → ℕ → ℕ → Type 0} {old : Guest S} {cp
   as_many : length after.pages ≡ length old.pages.pages
   as_many = length_after old.shift old.pages pool gpa reached meets
 
+  like : AreLikePages old.pages after
+  like = like_after old.shift old.pages pool gpa reached meets
+
   -- the pages then are those of a whole guest
   whole_pages : AreWholePages (2 ^ old.shift) old.secure (old.steps + 1) (old.phase ≡ phase.Secure) after
   whole_pages =
@@ -76,6 +82,9 @@ module _ {S : Type 0} {takes : S → ℕ → ℕ → Type 0} {old : Guest S} {cp
 
     pub load_keeps : KeepsGuest old (with_step old after run.vid vcpu)
     load_keeps = keeps_guest old after run.vid vcpu as_many
+
+    pub load_movers : KeepsMovers cpu.number old (with_step old after run.vid vcpu)
+    load_movers = keeps_movers cpu.number old after run.vid vcpu like
 
     pub load_frames : KeepsFrames old (with_step old after run.vid vcpu) pool (pool_after pool reached)
     load_frames = record { count = count_after pool reached; size = size_after pool reached; frames = λ number. frames_after old.shift old.pages pool gpa number reached meets }
@@ -97,6 +106,9 @@ module _ {S : Type 0} {takes : S → ℕ → ℕ → Type 0} {old : Guest S} {cp
     pub store_keeps : KeepsGuest old (with_step old ends run.vid vcpu)
     store_keeps = keeps_guest old ends run.vid vcpu same_number
 
+    pub store_movers : KeepsMovers cpu.number old (with_step old ends run.vid vcpu)
+    store_movers = keeps_movers cpu.number old ends run.vid vcpu (like_through old.pages after ends like (like_stored old.shift after gpa value reached held))
+
     pub store_frames : KeepsFrames old (with_step old ends run.vid vcpu) pool (pool_after pool reached)
     store_frames = record {
       count = count_after pool reached;
@@ -105,7 +117,7 @@ module _ {S : Type 0} {takes : S → ℕ → ℕ → Type 0} {old : Guest S} {cp
     }
 
   -- the rows of a load and of a store
-  module _ (plan : Plan) (g : GuestWhole) (c : CpuPart) (mark : Mark) (shows : Shows plan old g) (shows_cpu : ShowsCpu cpu c) where
+  module _ (stands : S → Tag → List ℕ → List ℕ → Type 0) (image : S → Tag → List ℕ → List ℕ) (plan : Plan) (g : GuestWhole) (c : CpuPart) (mark : Mark) (shows : Shows stands image plan old g) (shows_cpu : ShowsCpu cpu c) where
     -- the plan, with the size of a page as the guest has it
     abbrev sized : Plan
     sized = record plan { shift = old.shift }
@@ -113,20 +125,20 @@ module _ {S : Type 0} {takes : S → ℕ → ℕ → Type 0} {old : Guest S} {cp
     plan_is : sized ≡ plan
     plan_is = ap (λ (n : ℕ). record plan { shift = n }) shows.shift
 
-    shows_sized : Shows sized old g
-    shows_sized = subst (λ (p : Plan). Shows p old g) (sym plan_is) shows
+    shows_sized : Shows stands image sized old g
+    shows_sized = subst (λ (p : Plan). Shows stands image p old g) (sym plan_is) shows
 
     met_is : reached ≡ reach sized g.part (is_any_free pool) gpa
     met_is = reach_is sized old.pages g pool gpa shows_sized.pages
 
     -- the guest, the CPU and the pool do what the entry of a command says
     abbrev Row : Plan → Cmd → PagesState FrameState → Vcpu → Answer → Type 0
-    Row p cmd pages vcpu answer = RowRunning p g c (entry_running p g c run (is_any_free pool) mark cmd) (with_step old pages run.vid vcpu) cpu (length pool.free) (length (pool_after pool reached).free) answer
+    Row p cmd pages vcpu answer = RowWithPool stands image p g c (entry_running p g c run (is_any_free pool) mark cmd) (with_step old pages run.vid vcpu) cpu (length pool.free) (length (pool_after pool reached).free) answer
 
     -- the same for an access that answers this where it is done, by what it meets in the model
     abbrev AccessRow : Cmd → Answer → PagesState FrameState → Vcpu → Answer → Reach → Type 0
     AccessRow cmd success pages vcpu answer r =
-        RowRunning sized g c (entry_of (ask_running run c) mark cmd (deed_access (ask_running run c) success r)) (with_step old pages run.vid vcpu) cpu (length pool.free) (length (pool_after pool reached).free) answer
+        RowWithPool stands image sized g c (entry_of (ask_running run c) mark cmd (deed_access (ask_running run c) success r)) (with_step old pages run.vid vcpu) cpu (length pool.free) (length (pool_after pool reached).free) answer
 
     -- the value that a load finds, and the vCPU after it
     abbrev found : ℕ
@@ -139,7 +151,7 @@ module _ {S : Type 0} {takes : S → ℕ → ℕ → Type 0} {old : Guest S} {cp
     row_of_load rd =
         subst (λ (p : Plan). Row p (GLd rd gpa) after (loaded rd) (access_answer (Val found) reached)) plan_is
         (subst (AccessRow (GLd rd gpa) (Val (private_doubleword sized g gpa)) after (loaded rd) (access_answer (Val found) reached)) met_is
-        (load_row sized old g c cpu run gpa mark shows_sized runs.vid shows_cpu rd pool reached meets))
+        (load_row stands image sized old g c cpu run gpa mark shows_sized runs.vid shows_cpu rd pool reached meets))
 
     -- the pages after a store, and the vCPU
     abbrev stored : ℕ → PagesState FrameState
@@ -152,4 +164,4 @@ module _ {S : Type 0} {takes : S → ℕ → ℕ → Type 0} {old : Guest S} {cp
     row_of_store rs narrow =
         subst (λ (p : Plan). Row p (GSt rs gpa) (stored rs) moved_on (access_answer Done reached)) plan_is
         (subst (AccessRow (GSt rs gpa) Done (stored rs) moved_on (access_answer Done reached)) met_is
-        (store_row sized old g c cpu run gpa mark shows_sized runs.vid shows_cpu rs whole.shift.0 narrow pool reached meets))
+        (store_row stands image sized old g c cpu run gpa mark shows_sized runs.vid shows_cpu rs whole.shift.0 narrow pool reached meets))

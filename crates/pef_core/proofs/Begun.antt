@@ -1,11 +1,12 @@
 -- The machine as it begins is whole, and has no history behind it.
 use Rattle.std.proofs.Common.{◌≡◌, ℕ, zero, suc, ◌+◌, ◌^◌, ◌<◌, ◌==◌, nat_lt, Bool, true, false, if◌then◌else◌, List, [], ◌∷◌, ◌++◌, length, replicate, Option, None, refl, ap, sym, subst, ◌∙◌, arith, append-nil}
-use Rattle.std.specs.Prelude.{slice_index_or}
+use Rattle.std.specs.Prelude.{slice_index_or, option_map}
 use Rattle.std.specs.List.{count_by, flat_map}
 use Rattle.std.proofs.lemmas.List.{length-replicate, get_or-replicate}
 use Rattle.pef_model.specs.declared.config.Config.{Config}
 use Rattle.pef_model.specs.declared.state.Kind.TheVariants as kind
 use Rattle.pef_model.specs.declared.state.Mover.{Mover}
+use Rattle.pef_model.specs.declared.state.Tag.{Tag}
 use Rattle.pef_model.specs.declared.state.VState.TheVariants.{Idle}
 use Rattle.pef_model.specs.Plan.{Plan, plan_of, IsInRange}
 use Rattle.pef_model.specs.Registers.{fresh_registers}
@@ -16,16 +17,16 @@ use Rattle.pef_frames.specs.Pool.{PoolState, full_pool}
 use Rattle.pef_frames.proofs.Counts.{starts_with_each_once}
 use Rattle.std.proofs.lemmas.List.FromFn.{length-range_with_len}
 use Rattle.pef_pages.specs.declared.page.Page.{Page}
-use Rattle.pef_pages.specs.Cells.{kind_of, mover_of}
+use Rattle.pef_pages.specs.Cells.{kind_of, mover_of, way_of}
 use Rattle.pef_pages.specs.Pages.{invalid_page, invalid_pages, page_at, held}
 use Rattle.pef_guest.specs.declared.cpu.Cpu.{Cpu}
 use Rattle.pef_guest.specs.declared.vcpu.Vcpu.{Vcpu}
 use Rattle.pef_guest.specs.declared.guest.Guest.{Guest}
 use Rattle.pef_guest.specs.Start.{IsStartCpu, IsStartGuest, start_vcpu, start_state, start_phase}
-use Rattle.pef_guest.specs.Shows.{ShowsPages, ShowsVcpu, Shows, vcpu_at}
+use Rattle.pef_guest.specs.Shows.{ShowsPages, ShowsVcpu, ShowsSealed, Shows, vcpu_at, kept_in, digest_by, sealed_of}
 use Rattle.pef_core.specs.Normal.{NormalState, ShowsNormal, zero_frames}
 use Rattle.pef_core.specs.Start.{AreStartCpus, AreStartGuests, Begins}
-use Rattle.pef_core.specs.State.{State, Each, IsCpuOf, IsGuestOf, IsVcpu, HasVcpu, RunsVcpu, FramesOnce, IsWholeMachine}
+use Rattle.pef_core.specs.State.{State, Each, IsCpuOf, IsGuestOf, IsVcpu, HasVcpu, Works, FramesOnce, IsWholeMachine}
 use Rattle.pef_core.specs.Steps.{Fits}
 use Rattle.pef_core.proofs.Lists.{each_map, element_at}
 
@@ -60,8 +61,18 @@ shows_pages plan b = record {
   order true = refl
   order false = refl
 
+-- each page has version 0, and nothing was sealed of it
+begun_version : (b : Bool) (gfn : ℕ) → 0 ≡ ((start_part_of b).pages gfn).version
+begun_version true gfn = refl
+begun_version false gfn = refl
+
+none_sealed : (b : Bool) (gfn : ℕ) → (let none : Option (List ℕ) = None in none) ≡ sealed_of ((start_part_of b).pages gfn)
+none_sealed true gfn = refl
+none_sealed false gfn = refl
+
 -- a guest as it begins shows the one of the model
-module _ {S : Type 0} (config : Config) (lpid : ℕ) (guest : Guest S) (start : IsStartGuest config lpid guest.sealer guest) where
+module _ {S : Type 0} (stands : S → Tag → List ℕ → List ℕ → Type 0) (image : S → Tag → List ℕ → List ℕ) (config : Config) (lpid : ℕ) (guest : Guest S) (start : IsStartGuest config lpid guest.sealer guest)
+    (images : image guest.sealer ≡ (plan_of config).image) where
   vcpu_begun : (vid : ℕ) → vid < config.vcpus → vcpu_at guest vid ≡ start_vcpu (start_state ((plan_of config).is_born lpid))
   vcpu_begun vid below =
       ap (λ (vcpus : List Vcpu). slice_index_or vcpus vid (start_vcpu Idle)) start.vcpus ∙ get_or-replicate config.vcpus vid (start_vcpu (start_state ((plan_of config).is_born lpid))) (start_vcpu Idle) below
@@ -78,48 +89,62 @@ module _ {S : Type 0} (config : Config) (lpid : ℕ) (guest : Guest S) (start : 
   shows_vcpu true vid = record { state = refl; generation = refl; registers = refl }
   shows_vcpu false vid = record { state = refl; generation = refl; registers = refl }
 
-  pub shows_guest : Shows (plan_of config) guest (start_guest (plan_of config) lpid)
+  page_is : (gfn : ℕ) → page_at guest.pages gfn ≡ invalid_page
+  page_is gfn = ap (λ pages. page_at pages gfn) start.pages ∙ page_begun config.pages gfn
+
+  shows_sealed : ShowsSealed stands image (plan_of config) guest (start_guest (plan_of config) lpid)
+  shows_sealed = record {
+    images = images;
+    versions = λ gfn below. ap (λ (page : Page FrameState). page.version) (page_is gfn) ∙ begun_version ((plan_of config).is_born lpid) gfn;
+    digests = λ gfn below. ap (λ (page : Page FrameState). kept_in page.cell) (page_is gfn) ∙ ap (option_map digest_by) (none_sealed ((plan_of config).is_born lpid) gfn);
+    stands_for = λ gfn sealed below is. (let none = none_sealed ((plan_of config).is_born lpid) gfn ∙ is in cc);
+    pendings = λ gfn below outward. absurd (let none = sym (ap (λ (page : Page FrameState). way_of (mover_of page.cell)) (page_is gfn)) ∙ outward in cc);
+  }
+
+  pub shows_guest : Shows stands image (plan_of config) guest (start_guest (plan_of config) lpid)
   shows_guest = record {
     shift = start.shift;
+    normal = start.normal;
     phase = start.phase ∙ phase ((plan_of config).is_born lpid);
     generation = start.generation ∙ generation ((plan_of config).is_born lpid);
     pages = subst (λ pages. ShowsPages (plan_of config) pages (start_guest (plan_of config) lpid)) (sym start.pages) (shows_pages (plan_of config) ((plan_of config).is_born lpid));
+    sealed = shows_sealed;
     count = ap length start.vcpus ∙ length-replicate config.vcpus (start_vcpu (start_state ((plan_of config).is_born lpid)));
     vcpus = λ vid below.
         subst (λ vcpu. ShowsVcpu vcpu ((start_part_of ((plan_of config).is_born lpid)).vcpus vid) fresh_registers) (sym (vcpu_begun vid below)) (shows_vcpu ((plan_of config).is_born lpid) vid);
   }
 
-module _ {S : Type 0} (takes : S → ℕ → ℕ → Type 0) (config : Config) (range : IsInRange config) (cpus : List Cpu) (guests : List (Guest S)) (pool : PoolState) (normal : NormalState)
-    (cpus_are : AreStartCpus config cpus) (guests_are : AreStartGuests takes config guests) (pool_is : pool ≡ full_pool config.secure (2 ^ config.shift))
+module _ {S : Type 0} (stands : S → Tag → List ℕ → List ℕ → Type 0) (image : S → Tag → List ℕ → List ℕ) (takes : S → ℕ → ℕ → Type 0) (config : Config) (range : IsInRange config) (cpus : List Cpu) (guests : List (Guest S)) (pool : PoolState) (normal : NormalState)
+    (cpus_are : AreStartCpus config cpus) (guests_are : AreStartGuests image takes config guests) (pool_is : pool ≡ full_pool config.secure (2 ^ config.shift))
     (normal_is : normal ≡ zero_frames config.shift config.normal) where
   -- there is a guest 1 with a vCPU 0
   first_vcpu : IsVcpu guests 1 0
   first_vcpu =
       let some : 0 < length guests = (let count = guests_are.count in let least = range.guests.0 in omega arith) in
       let one = element_at guests 0 some in
-      let begins : Begins takes config 1 one.0 = guests_are.each 0 one.0 one.1 in
+      let begins : Begins image takes config 1 one.0 = guests_are.each 0 one.0 one.1 in
       let vcpus : length one.0.vcpus.items ≡ config.vcpus = ap length begins.start.vcpus ∙ length-replicate config.vcpus _ in
       record { least = omega arith; has = subst (λ o. HasVcpu o 0) (sym one.1) (let least = range.vcpus.0 in omega arith) }
 
-  cpu_begun : (n : ℕ) (cpu : Cpu) → IsStartCpu n (2 ^ config.shift) cpu → IsCpuOf guests config.shift n cpu
+  cpu_begun : (n : ℕ) (cpu : Cpu) → IsStartCpu n (2 ^ config.shift) cpu → IsCpuOf guests normal n cpu
   cpu_begun n cpu start = record {
     number = start.number_is;
     selects = subst (λ l. IsVcpu guests l cpu.vid) (sym start.lpid) (subst (λ v. IsVcpu guests 1 v) (sym start.vid) first_vcpu);
-    runs = subst (λ c. RunsVcpu guests c) (sym start.ctx) tt;
-    hand = ap length start.hand ∙ length-replicate (2 ^ config.shift) 0;
+    works = subst (Works guests normal n) (sym start.ctx) tt;
+    hand = ap length start.hand ∙ length-replicate (2 ^ config.shift) 0 ∙ ap (λ (x : NormalState). 2 ^ x.shift) (sym normal_is);
   }
 
-  no_numbers : (gs : List (Guest S)) (lpid : ℕ) → Each (λ i guest. Begins takes config (lpid + i) guest) gs → flat_map (λ guest. numbers_of (held guest.pages)) gs ≡ []
+  no_numbers : (gs : List (Guest S)) (lpid : ℕ) → Each (λ i guest. Begins image takes config (lpid + i) guest) gs → flat_map (λ guest. numbers_of (held guest.pages)) gs ≡ []
   no_numbers [] lpid each = refl
   no_numbers (guest ∷ gs) lpid each =
       let none : numbers_of (held guest.pages) ≡ [] = ap (λ pages. numbers_of (held pages)) (each 0 guest refl).start.pages ∙ ap numbers_of (none_held config.pages) in
       ap (λ (ns : List ℕ). ns ++ flat_map (λ x. numbers_of (held x.pages)) gs) none
-      ∙ no_numbers gs (lpid + 1) (λ i x there. subst (λ l. Begins takes config l x) (let same : lpid + suc i ≡ lpid + 1 + i = omega arith in same) (each (suc i) x there))
+      ∙ no_numbers gs (lpid + 1) (λ i x there. subst (λ l. Begins image takes config l x) (let same : lpid + suc i ≡ lpid + 1 + i = omega arith in same) (each (suc i) x there))
 
   once_begun : FramesOnce (let m : State S = record { cpus = cpus; guests = guests; pool = pool; normal = normal; steps = 0 } in m)
   once_begun number =
       let none : flat_map (λ guest. numbers_of (held guest.pages)) guests ≡ [] =
-      no_numbers guests 1 (λ i x there. subst (λ l. Begins takes config l x) (let same : i + 1 ≡ 1 + i = omega arith in same) (guests_are.each i x there)) in
+      no_numbers guests 1 (λ i x there. subst (λ l. Begins image takes config l x) (let same : i + 1 ≡ 1 + i = omega arith in same) (guests_are.each i x there)) in
       ap (λ (ns : List ℕ). count_by (λ n. n == number) (pool.free ++ ns)) none
       ∙ ap (count_by (λ n. n == number)) (append-nil pool.free)
       ∙ ap (λ (p : PoolState). count_by (λ n. n == number) p.free) pool_is
@@ -128,13 +153,13 @@ module _ {S : Type 0} (takes : S → ℕ → ℕ → Type 0) (config : Config) (
 
   pub whole_begun : IsWholeMachine takes (record { cpus = cpus; guests = guests; pool = pool; normal = normal; steps = 0 })
   whole_begun = record {
-    cpus = each_map (λ n cpu. IsStartCpu n (2 ^ config.shift) cpu) (IsCpuOf guests normal.shift) cpus cpus_are.each
-        (λ n cpu start. subst (λ shift. IsCpuOf guests shift n cpu) (ap (λ (x : NormalState). x.shift) (sym normal_is)) (cpu_begun n cpu start));
-    guests = each_map (λ i guest. Begins takes config (i + 1) guest) (IsGuestOf takes (record { cpus = cpus; guests = guests; pool = pool; normal = normal; steps = 0 })) guests guests_are.each
+    cpus = each_map (λ n cpu. IsStartCpu n (2 ^ config.shift) cpu) (IsCpuOf guests normal) cpus cpus_are.each cpu_begun;
+    guests = each_map (λ i guest. Begins image takes config (i + 1) guest) (IsGuestOf takes (record { cpus = cpus; guests = guests; pool = pool; normal = normal; steps = 0 })) guests guests_are.each
         (λ i guest begins. record {
           whole = begins.whole;
           lpid = begins.start.lpid_is;
           shift = begins.start.shift ∙ ap (λ (x : NormalState). x.shift) (sym normal_is);
+          normal = begins.start.normal ∙ sym (length-replicate config.normal (replicate (2 ^ config.shift) 0)) ∙ ap (λ (x : NormalState). length x.frames) (sym normal_is);
           secure = begins.start.secure ∙ ap (λ (x : PoolState). x.count) (sym pool_is);
           steps = (let none = begins.start.steps in omega arith);
         });
@@ -142,14 +167,16 @@ module _ {S : Type 0} (takes : S → ℕ → ℕ → Type 0) (config : Config) (
     frames_once = once_begun;
   }
 
-  pub fits_begun : Fits (plan_of config) (let m : State S = record { cpus = cpus; guests = guests; pool = pool; normal = normal; steps = 0 } in m) []
+  pub fits_begun : Fits stands image (plan_of config) (let m : State S = record { cpus = cpus; guests = guests; pool = pool; normal = normal; steps = 0 } in m) []
   fits_begun = record {
     cpu_count = cpus_are.count;
     guest_count = guests_are.count;
     cpus = λ n cpu there.
         let start = cpus_are.each n cpu there in
         record { ctx = start.ctx; own = start.gpr; lpid = start.lpid; vid = start.vid; last = start.last; hand = start.hand };
-    guests = λ i guest there. shows_guest config (i + 1) guest (guests_are.each i guest there).start;
+    guests = λ i guest there.
+        let begins = guests_are.each i guest there in
+        shows_guest stands image config (i + 1) guest begins.start begins.images;
     normal_is = subst (λ x. ShowsNormal (plan_of config) x (λ n. replicate (2 ^ config.shift) 0)) (sym normal_is) (record {
       shift = refl;
       count = length-replicate config.normal (replicate (2 ^ config.shift) 0);

@@ -1,122 +1,124 @@
 -- The entry that the model gives for a step of the machine's CPU, by what the CPU and the guest show.
-use Rattle.std.proofs.Common.{◌≡◌, ℕ, ◌==◌, nat_lt, Bool, true, false, if◌then◌else◌, List, None, refl, ap, ◌∙◌, ◌&&◌}
+use Rattle.std.proofs.Common.{◌≡◌, ℕ, ◌==◌, nat_lt, Bool, true, false, if◌then◌else◌, List, [], Option, Some, None, refl, ap, ◌∙◌, ◌&&◌}
 use Rattle.pef_model.specs.declared.state.Run.{Run}
+use Rattle.pef_model.specs.declared.state.Move.{Move}
+use Rattle.pef_model.specs.declared.state.Work.{Work}
+use Rattle.pef_model.specs.declared.state.Work.TheVariants.{Outward}
 use Rattle.pef_model.specs.declared.state.Ctx.TheVariants as ctx
-use Rattle.pef_model.specs.declared.command.Code.TheVariants.{UInvalid}
+use Rattle.pef_model.specs.declared.command.Code.{Code}
+use Rattle.pef_model.specs.declared.command.Code.TheVariants.{USuccess, UParameter, UInvalid}
 use Rattle.pef_model.specs.declared.command.Cmd.{Cmd}
-use Rattle.pef_model.specs.declared.command.Cmd.TheVariants.{HLd, HSt, UReturn, GLi, GLd, GSt, GIrq}
+use Rattle.pef_model.specs.declared.command.Cmd.TheVariants.{HLd, HSt, UPageout, UReturn, GLi, GLd, GSt, GIrq, Go}
 use Rattle.pef_model.specs.declared.entry.Answer.{Answer}
 use Rattle.pef_model.specs.declared.entry.Answer.TheVariants as answer
 use Rattle.pef_model.specs.Plan.{Plan}
 use Rattle.pef_model.specs.Event.{Event, Mark}
-use Rattle.pef_model.specs.Target.{Ask, Target, Alone, AtFrame, frame_of, has_real_place, target_in}
+use Rattle.pef_model.specs.Target.{Ask, Target, Alone, AtFrame, frame_of, has_real_place, uses_hand, target_in}
 use Rattle.pef_model.specs.Cpu.{CpuPart}
 use Rattle.pef_model.specs.GuestPart.{GuestPart}
 use Rattle.pef_model.specs.Guest.{Guest as GuestWhole, private_doubleword}
-use Rattle.pef_model.specs.Deed.{Deed, Reach, NoPage, InFrame, Backs, NoFrame, Moves, answering, deed_access, deed_alone, deed_frame, deed_running, deed_gone, deed_return, may_return_in, is_waiting, reach}
+use Rattle.pef_model.specs.PageOut.{page_out_code}
+use Rattle.pef_model.specs.Deed.{Deed, Reach, NoPage, InFrame, Backs, NoFrame, Moves, answering, returning, giving, coming_back, deed_access, deed_alone, deed_frame, deed_running, deed_gone, deed_return, deed_page_out, deed_page_out_begin, deed_page_out_end, may_return_in, is_waiting, reach}
 use Rattle.pef_model.specs.History.{ask_of, cpu_after, guest_after, pool_after, frame_after, deed_after, entry_of, next_entry, next_entry_by}
-use Rattle.pef_core.specs.Rows.{ask_running, ask_hypervisor, deed_address, has_real_address}
+use Rattle.pef_guest.specs.Rows.{ask_hypervisor, ask_outward}
+use Rattle.pef_core.specs.Rows.{ask_running, deed_at_address, is_no_guests}
 
 -- what a step learns of a CPU on which the hypervisor runs
-pub ask_in_hypervisor : (c : CpuPart) → c.ctx ≡ ctx.Hv → ask_of c ≡ ask_hypervisor c
-ask_in_hypervisor c is = λ i. record { before = is i; lpid = c.lpid; vid = c.vid; last = c.last }
+pub ask_in_hypervisor : (c : CpuPart) (cmd : Cmd) → c.ctx ≡ ctx.Hv → ask_of c cmd ≡ ask_hypervisor c
+ask_in_hypervisor c cmd is = λ i. record { before = is i; lpid = c.lpid; vid = c.vid; last = c.last; hand = if uses_hand (is i) cmd then c.hand else [] }
 
 -- what it learns of one on which a vCPU runs
-pub ask_in_guest : (c : CpuPart) (run : Run) → c.ctx ≡ ctx.Guest run → ask_of c ≡ ask_running run c
-ask_in_guest c run is = λ i. record { before = is i; lpid = c.lpid; vid = c.vid; last = c.last }
+pub ask_in_guest : (c : CpuPart) (run : Run) (cmd : Cmd) → c.ctx ≡ ctx.Guest run → ask_of c cmd ≡ ask_running run c
+ask_in_guest c run cmd is = λ i. record { before = is i; lpid = c.lpid; vid = c.vid; last = c.last; hand = if uses_hand (is i) cmd then c.hand else [] }
+
+-- what the next step of a page-out learns of its CPU
+pub ask_in_outward : (c : CpuPart) (move : Move) → c.ctx ≡ ctx.Uv (Outward move) → ask_of c Go ≡ ask_outward move c
+ask_in_outward c move is = λ i. record { before = is i; lpid = c.lpid; vid = c.vid; last = c.last; hand = if uses_hand (is i) Go then c.hand else [] }
+
+-- what a command of another context learns of a CPU with a call in progress
+abbrev pub ask_aside : Work → CpuPart → Ask
+ask_aside work c = record { before = ctx.Uv work; lpid = c.lpid; vid = c.vid; last = c.last; hand = [] }
+
+-- whether a command is the next step of a call
+abbrev pub is_go : Cmd → Bool
+is_go (HLd ra) = false
+is_go (HSt ra value) = false
+is_go (UPageout lpid dest gpa flags order) = false
+is_go (UReturn r0 r2 outs) = false
+is_go (GLi rd value) = false
+is_go (GLd rd gpa) = false
+is_go (GSt rs gpa) = false
+is_go GIrq = false
+is_go Go = true
+
+pub not_go : (cmd : Cmd) → (cmd ≡ Go → ⊥) → is_go cmd ≡ false
+not_go (HLd ra) other = refl
+not_go (HSt ra value) other = refl
+not_go (UPageout lpid dest gpa flags order) other = refl
+not_go (UReturn r0 r2 outs) other = refl
+not_go (GLi rd value) other = refl
+not_go (GLd rd gpa) other = refl
+not_go (GSt rs gpa) other = refl
+not_go GIrq other = refl
+not_go Go other = absurd (other refl)
+
+handless : (work : Work) (cmd : Cmd) → is_go cmd ≡ false → uses_hand (ctx.Uv work) cmd ≡ false
+handless work (HLd ra) h = refl
+handless work (HSt ra value) h = refl
+handless work (UPageout lpid dest gpa flags order) h = refl
+handless work (UReturn r0 r2 outs) h = refl
+handless work (GLi rd value) h = refl
+handless work (GLd rd gpa) h = refl
+handless work (GSt rs gpa) h = refl
+handless work GIrq h = refl
+handless work Go h = cc
+
+pub ask_in_work : (c : CpuPart) (work : Work) (cmd : Cmd) → c.ctx ≡ ctx.Uv work → is_go cmd ≡ false → ask_of c cmd ≡ ask_aside work c
+ask_in_work c work cmd is other =
+    (λ i. record { before = is i; lpid = c.lpid; vid = c.vid; last = c.last; hand = if uses_hand (is i) cmd then c.hand else [] })
+    ∙ (λ i. record { before = ctx.Uv work; lpid = c.lpid; vid = c.vid; last = c.last; hand = if handless work cmd other i then c.hand else [] })
 
 module _ (plan : Plan) (past : List Event) where
-  bytes : ℕ → List ℕ
-  bytes n = frame_after plan n past
+  -- the entry of a step, once it is known what the step learns of its CPU and at what it aims
+  pub entry_at : (mark : Mark) (cmd : Cmd) (ask : Ask) (t : Target) → ask_of (cpu_after plan mark.cpu past) cmd ≡ ask → target_in plan ask.before ask.lpid cmd ≡ t →
+      next_entry plan past mark cmd ≡ entry_of ask mark cmd (deed_after plan past ask cmd t)
+  entry_at mark cmd ask t learns aims = ap (λ (a : Ask). next_entry_by plan past a mark cmd) learns ∙ ap (λ (x : Target). entry_of ask mark cmd (deed_after plan past ask cmd x)) aims
 
-  by_place : (ask : Ask) (ra : ℕ) (cmd : Cmd) (b : Bool) →
+  -- what a load or store of the hypervisor does
+  pub deed_placed : (ask : Ask) (ra : ℕ) (cmd : Cmd) (b : Bool) →
       deed_after plan past ask cmd (if b then AtFrame (frame_of plan ra) else Alone)
       ≡ (if b then deed_frame plan (frame_of plan ra) (frame_after plan (frame_of plan ra) past) ask cmd else deed_alone ask cmd)
-  by_place ask ra cmd true = refl
-  by_place ask ra cmd false = refl
-
-  -- a load of the hypervisor
-  pub load_entry : (mark : Mark) (ra : ℕ) → (cpu_after plan mark.cpu past).ctx ≡ ctx.Hv →
-      next_entry plan past mark (HLd ra)
-      ≡ entry_of (ask_hypervisor (cpu_after plan mark.cpu past)) mark (HLd ra) (deed_address plan (λ n. frame_after plan n past) (ask_hypervisor (cpu_after plan mark.cpu past)) ra (HLd ra))
-  load_entry mark ra is =
-      let c : CpuPart = cpu_after plan mark.cpu past in
-      ap (λ (ask : Ask). next_entry_by plan past ask mark (HLd ra)) (ask_in_hypervisor c is)
-      ∙ ap (entry_of (ask_hypervisor c) mark (HLd ra)) (by_place (ask_hypervisor c) ra (HLd ra) (has_real_place plan ra))
-
-  -- a store of the hypervisor
-  pub store_entry : (mark : Mark) (ra value : ℕ) → (cpu_after plan mark.cpu past).ctx ≡ ctx.Hv →
-      next_entry plan past mark (HSt ra value)
-      ≡ entry_of (ask_hypervisor (cpu_after plan mark.cpu past)) mark (HSt ra value) (deed_address plan (λ n. frame_after plan n past) (ask_hypervisor (cpu_after plan mark.cpu past)) ra (HSt ra value))
-  store_entry mark ra value is =
-      let c : CpuPart = cpu_after plan mark.cpu past in
-      ap (λ (ask : Ask). next_entry_by plan past ask mark (HSt ra value)) (ask_in_hypervisor c is)
-      ∙ ap (entry_of (ask_hypervisor c) mark (HSt ra value)) (by_place (ask_hypervisor c) ra (HSt ra value) (has_real_place plan ra))
-
-  -- UV_RETURN of the hypervisor
-  pub return_entry : (mark : Mark) (r0 r2 : ℕ) (outs : List ℕ) (lpid : ℕ) → (cpu_after plan mark.cpu past).ctx ≡ ctx.Hv → (cpu_after plan mark.cpu past).lpid ≡ lpid →
-      next_entry plan past mark (UReturn r0 r2 outs)
-      ≡ entry_of (ask_hypervisor (cpu_after plan mark.cpu past)) mark (UReturn r0 r2 outs) (deed_return (guest_after plan lpid past).part (ask_hypervisor (cpu_after plan mark.cpu past)))
-  return_entry mark r0 r2 outs lpid is selected =
-      let c : CpuPart = cpu_after plan mark.cpu past in
-      ap (λ (ask : Ask). next_entry_by plan past ask mark (UReturn r0 r2 outs)) (ask_in_hypervisor c is)
-      ∙ ap (λ (l : ℕ). entry_of (ask_hypervisor c) mark (UReturn r0 r2 outs) (deed_return (guest_after plan l past).part (ask_hypervisor c))) selected
-
-  -- a command of a guest on a CPU on which the hypervisor runs
-  pub idle_entry : (mark : Mark) (cmd : Cmd) → (cpu_after plan mark.cpu past).ctx ≡ ctx.Hv → target_in plan ctx.Hv (cpu_after plan mark.cpu past).lpid cmd ≡ Alone →
-      next_entry plan past mark cmd ≡ entry_of (ask_hypervisor (cpu_after plan mark.cpu past)) mark cmd (deed_alone (ask_hypervisor (cpu_after plan mark.cpu past)) cmd)
-  idle_entry mark cmd is alone =
-      let c : CpuPart = cpu_after plan mark.cpu past in
-      ap (λ (ask : Ask). next_entry_by plan past ask mark cmd) (ask_in_hypervisor c is)
-      ∙ ap (λ (t : Target). entry_of (ask_hypervisor c) mark cmd (deed_after plan past (ask_hypervisor c) cmd t)) alone
-
-  -- a command of the hypervisor on a CPU on which a vCPU runs
-  pub busy_entry : (mark : Mark) (run : Run) (cmd : Cmd) → (cpu_after plan mark.cpu past).ctx ≡ ctx.Guest run → has_real_address cmd ≡ true →
-      next_entry plan past mark cmd ≡ entry_of (ask_running run (cpu_after plan mark.cpu past)) mark cmd (deed_alone (ask_running run (cpu_after plan mark.cpu past)) cmd)
-  busy_entry mark run cmd is address =
-      let c : CpuPart = cpu_after plan mark.cpu past in
-      ap (λ (ask : Ask). next_entry_by plan past ask mark cmd) (ask_in_guest c run is) ∙ by_command cmd address where
-        c : CpuPart
-        c = cpu_after plan mark.cpu past
-
-        by_command : (cmd : Cmd) → has_real_address cmd ≡ true → next_entry_by plan past (ask_running run (cpu_after plan mark.cpu past)) mark cmd ≡ entry_of (ask_running run (cpu_after plan mark.cpu past)) mark cmd (deed_alone (ask_running run (cpu_after plan mark.cpu past)) cmd)
-        by_command (HLd ra) h = refl
-        by_command (HSt ra value) h = refl
-        by_command (UReturn r0 r2 outs) h = cc
-        by_command (GLi rd value) h = cc
-        by_command (GLd rd gpa) h = cc
-        by_command (GSt rs gpa) h = cc
-        by_command GIrq h = cc
+  deed_placed ask ra cmd true = refl
+  deed_placed ask ra cmd false = refl
 
   -- a command of a guest that runs, in its generation or in an older one
-  deed_by : Bool → GuestWhole → Bool → Ask → Cmd → Deed
-  deed_by b g any ask cmd = if b then deed_running plan g any ask cmd else deed_gone ask
-
-  pub guest_entry : (mark : Mark) (run : Run) (cmd : Cmd) (lpid : ℕ) (b any : Bool) → (cpu_after plan mark.cpu past).ctx ≡ ctx.Guest run → has_real_address cmd ≡ false → run.lpid ≡ lpid →
+  pub guest_entry : (mark : Mark) (run : Run) (cmd : Cmd) (lpid : ℕ) (b any : Bool) → (cpu_after plan mark.cpu past).ctx ≡ ctx.Guest run → is_no_guests cmd ≡ false → run.lpid ≡ lpid →
       (run.generation == (guest_after plan lpid past).part.generation) ≡ b → nat_lt 0 (pool_after plan past) ≡ any →
       next_entry plan past mark cmd
       ≡ entry_of (ask_running run (cpu_after plan mark.cpu past)) mark cmd
       (if b then deed_running plan (guest_after plan lpid past) any (ask_running run (cpu_after plan mark.cpu past)) cmd else deed_gone (ask_running run (cpu_after plan mark.cpu past)))
-  guest_entry mark run cmd lpid b any is address here test free =
-      ap (λ (ask : Ask). next_entry_by plan past ask mark cmd) (ask_in_guest (cpu_after plan mark.cpu past) run is) ∙ by_command cmd address
+  guest_entry mark run cmd lpid b any is own here test free =
+      ap (λ (ask : Ask). next_entry_by plan past ask mark cmd) (ask_in_guest (cpu_after plan mark.cpu past) run cmd is) ∙ by_command cmd own
       ∙ ap (λ (l : ℕ). entry_of ask mark cmd (if run.generation == (guest_after plan l past).part.generation then deed_running plan (guest_after plan l past) (nat_lt 0 (pool_after plan past)) ask cmd else deed_gone ask)) here
       ∙ ap (λ (x : Bool). entry_of ask mark cmd (if x then deed_running plan (guest_after plan lpid past) (nat_lt 0 (pool_after plan past)) ask cmd else deed_gone ask)) test
       ∙ ap (λ (x : Bool). entry_of ask mark cmd (if b then deed_running plan (guest_after plan lpid past) x ask cmd else deed_gone ask)) free where
         ask : Ask
         ask = ask_running run (cpu_after plan mark.cpu past)
 
-        by_command : (cmd : Cmd) → has_real_address cmd ≡ false →
+        by_command : (cmd : Cmd) → is_no_guests cmd ≡ false →
             next_entry_by plan past ask mark cmd
             ≡ entry_of ask mark cmd (if run.generation == (guest_after plan run.lpid past).part.generation then deed_running plan (guest_after plan run.lpid past) (nat_lt 0 (pool_after plan past)) ask cmd else deed_gone ask)
         by_command (HLd ra) h = cc
         by_command (HSt ra value) h = cc
+        by_command (UPageout lpid dest gpa flags order) h = refl
         by_command (UReturn r0 r2 outs) h = refl
         by_command (GLi rd value) h = refl
         by_command (GLd rd gpa) h = refl
         by_command (GSt rs gpa) h = refl
         by_command GIrq h = refl
+        by_command Go h = cc
 
--- what UV_RETURN touches beside the guest: nothing
+-- what a step touches beside the guest: neither the pool nor a normal frame
 pub record IsApart (deed : Deed) : Type 0 where
   pub pool : deed.pool ≡ None
   pub frame : deed.frame ≡ None
@@ -127,10 +129,24 @@ return_apart g ask = by_test (may_return_in g.phase && is_waiting (g.vcpus ask.v
   by_test true = record { pool = refl; frame = refl }
   by_test false = record { pool = refl; frame = refl }
 
+-- nor does the begin of a page-out
+pub page_out_apart : (plan : Plan) (g : GuestWhole) (ask : Ask) (lpid dest gpa flags order : ℕ) → IsApart (deed_page_out plan g ask lpid dest gpa flags order)
+page_out_apart plan g ask lpid dest gpa flags order = by_code (page_out_code plan g.part dest gpa flags order) where
+  by_code : (code : Option Code) → IsApart (returning ask code (deed_page_out_begin plan g ask lpid dest gpa))
+  by_code None = record { pool = refl; frame = refl }
+  by_code (Some code) = record { pool = refl; frame = refl }
+
+-- the end of a page-out touches no normal frame
+pub end_unframed : (g : GuestPart) (ask : Ask) (move : Move) → (deed_page_out_end g ask move).frame ≡ None
+end_unframed g ask move = by_test (move.generation == g.generation) where
+  by_test : (b : Bool) → (if b then giving (coming_back ask USuccess) 1 else coming_back ask UParameter).frame ≡ None
+  by_test true = refl
+  by_test false = refl
+
 -- a load or store of the hypervisor touches no pool
-pub address_unpooled : (plan : Plan) (bytes : ℕ → List ℕ) (ask : Ask) (ra : ℕ) (cmd : Cmd) → (deed_address plan bytes ask ra cmd).pool ≡ None
-address_unpooled plan bytes ask ra cmd = by_test (has_real_place plan ra) where
-  by_test : (b : Bool) → (if b then deed_frame plan (frame_of plan ra) (bytes (frame_of plan ra)) ask cmd else deed_alone ask cmd).pool ≡ None
+pub address_unpooled : (plan : Plan) (bytes : ℕ → List ℕ) (c : CpuPart) (ra : ℕ) (cmd : Cmd) → (deed_at_address plan bytes (ask_hypervisor c) ra cmd).pool ≡ None
+address_unpooled plan bytes c ra cmd = by_test (has_real_place plan ra) where
+  by_test : (b : Bool) → (if b then deed_frame plan (frame_of plan ra) (bytes (frame_of plan ra)) (ask_hypervisor c) cmd else deed_alone (ask_hypervisor c) cmd).pool ≡ None
   by_test true = refl
   by_test false = refl
 
@@ -145,8 +161,10 @@ access_unframed ask success Moves = refl
 pub running_unframed : (plan : Plan) (g : GuestWhole) (any : Bool) (ask : Ask) (cmd : Cmd) → (deed_running plan g any ask cmd).frame ≡ None
 running_unframed plan g any ask (HLd ra) = refl
 running_unframed plan g any ask (HSt ra value) = refl
+running_unframed plan g any ask (UPageout lpid dest gpa flags order) = refl
 running_unframed plan g any ask (UReturn r0 r2 outs) = refl
 running_unframed plan g any ask (GLi rd value) = refl
 running_unframed plan g any ask (GLd rd gpa) = access_unframed ask (answer.Val (private_doubleword plan g gpa)) (reach plan g.part any gpa)
 running_unframed plan g any ask (GSt rs gpa) = access_unframed ask answer.Done (reach plan g.part any gpa)
 running_unframed plan g any ask GIrq = refl
+running_unframed plan g any ask Go = refl

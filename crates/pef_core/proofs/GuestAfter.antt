@@ -1,5 +1,5 @@
 -- A guest after an access: it is whole, and keeps its sizes.
-use Rattle.std.proofs.Common.{◌≡◌, ℕ, ◌+◌, ◌^◌, ◌<◌, true, length, arith, refl, subst}
+use Rattle.std.proofs.Common.{◌≡◌, ℕ, ◌+◌, ◌^◌, ◌<◌, true, length, arith, refl, subst, ◌∙◌}
 use Rattle.std.proofs.lemmas.List.{length-set}
 use Rattle.std.specs.Vec.{with_item}
 use Rattle.pef_model.specs.declared.state.Phase.{Phase}
@@ -14,14 +14,16 @@ use Rattle.pef_model.specs.declared.state.Run.{Run}
 use Rattle.pef_model.specs.declared.entry.Answer.TheVariants.{Val, Done}
 use Rattle.pef_model.specs.Deed.{Reach, NoPage, InFrame, Backs, NoFrame, Moves}
 use Rattle.pef_guest.specs.declared.cpu.Cpu.{Cpu}
-use Rattle.pef_core.specs.Rows.{KeepsGuest, StaysOrLeaves, access_answer}
-use Rattle.pef_core.proofs.AccessPages.{AreWholePages}
+use Rattle.pef_guest.specs.Keeps.{KeepsGuest, KeepsMovers}
+use Rattle.pef_core.specs.Rows.{StaysOrLeaves, access_answer}
+use Rattle.pef_core.proofs.AccessPages.{AreLikePages, AreWholePages}
 
 -- a guest a step later, with other pages and another vCPU of a number
 abbrev pub with_step : {S : Type 0} → Guest S → PagesState FrameState → ℕ → Vcpu → Guest S
 with_step old pages vid vcpu = record {
   lpid = old.lpid;
   shift = old.shift;
+  normal = old.normal;
   secure = old.secure;
   phase = old.phase;
   generation = old.generation;
@@ -43,7 +45,7 @@ module _ {S : Type 0} (takes : S → ℕ → ℕ → Type 0) (old : Guest S) whe
   -- the pages of a whole guest, a step later
   pub pages_of_whole : IsWhole takes old → AreWholePages (2 ^ old.shift) old.secure (old.steps + 1) (old.phase ≡ phase.Secure) old.pages
   pages_of_whole whole = record {
-    each = λ gfn. record { frames = whole.frames gfn; rests = λ inside. whole.rests inside gfn; version = (let few = whole.versions gfn in omega arith) };
+    each = λ gfn. record { frames = whole.frames gfn; rests = λ inside. whole.rests inside gfn; digests = whole.digests gfn; version = (let few = whole.versions gfn in omega arith) };
   }
 
   -- a guest whose pages are those of a whole one is whole
@@ -55,6 +57,7 @@ module _ {S : Type 0} (takes : S → ℕ → ℕ → Type 0) (old : Guest S) whe
     frames = λ gfn. (are.each gfn).frames;
     outside = λ outside. absurd (runs_inside old.phase may outside);
     rests = λ inside gfn. (are.each gfn).rests inside;
+    digests = λ gfn. (are.each gfn).digests;
     versions = λ gfn. (are.each gfn).version;
   }
 
@@ -63,6 +66,7 @@ pub keeps_guest : {S : Type 0} (old : Guest S) (pages : PagesState FrameState) (
 keeps_guest old pages vid vcpu as_many = record {
   lpid = refl;
   shift = refl;
+  normal = refl;
   secure = refl;
   phase = refl;
   generation = refl;
@@ -70,6 +74,10 @@ keeps_guest old pages vid vcpu as_many = record {
   vcpus = length-set old.vcpus.items vid vcpu;
   steps = refl;
 }
+
+-- it changes no mover
+pub keeps_movers : {S : Type 0} (number : ℕ) (old : Guest S) (pages : PagesState FrameState) (vid : ℕ) (vcpu : Vcpu) → AreLikePages old.pages pages → KeepsMovers number old (with_step old pages vid vcpu)
+keeps_movers number old pages vid vcpu like gfn mover other moves = (like.each gfn).mover ∙ moves
 
 -- a load or store leaves its CPU, whatever it meets
 pub load_stays : (run : Run) (cpu : Cpu) (value : ℕ) (r : Reach) → StaysOrLeaves run cpu cpu (access_answer (Val value) r)

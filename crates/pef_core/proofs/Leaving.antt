@@ -5,6 +5,9 @@ use Rattle.std.proofs.lemmas.Bool.{cases_eq}
 use Rattle.pef_model.specs.declared.state.Run.{Run}
 use Rattle.pef_model.specs.declared.state.Ctx.{Ctx}
 use Rattle.pef_model.specs.declared.state.Ctx.TheVariants as ctx
+use Rattle.pef_model.specs.declared.state.Work.{Work}
+use Rattle.pef_model.specs.declared.command.Code.{Code}
+use Rattle.pef_model.specs.declared.command.Code.TheVariants.{UParameter}
 use Rattle.pef_model.specs.declared.entry.Answer.{Answer}
 use Rattle.pef_model.specs.declared.entry.Answer.TheVariants as answer
 use Rattle.pef_frames.specs.Pool.{PoolState}
@@ -12,7 +15,10 @@ use Rattle.pef_guest.specs.declared.cpu.Cpu.{Cpu}
 use Rattle.pef_guest.specs.declared.guest.Guest.{Guest}
 use Rattle.pef_core.specs.Normal.{NormalState}
 use Rattle.pef_core.specs.Rows.{StaysOrLeaves}
-use Rattle.pef_core.specs.Refused.{RefusesCpu, RefusesGuest, SameGuest, LeavesNormal, LeavesReturn, LeavesCommand, OnCpu, OnGuest, LeavesRest}
+use Rattle.pef_guest.specs.Refused.{RefusesCpu, SameGuest}
+use Rattle.pef_move.specs.declared.page_call.PageCall.{PageCall}
+use Rattle.pef_move.specs.PageOut.{RefusesCall, EndsOld, ComesBackWith}
+use Rattle.pef_core.specs.Refused.{RefusesGuest, LeavesNormal, LeavesReturn, LeavesCommand, OnCpu, OnGuest, ComesBackLate, LeavesRest}
 use Rattle.pef_core.specs.State.{State}
 use Rattle.pef_core.proofs.Lists.{set_same}
 use Rattle.pef_core.proofs.Places.{get_set}
@@ -32,7 +38,7 @@ at_place P xs i x y is h a b before after =
     subst (λ z. P z b) first (subst (P x) second h)
 
 same_guest : {S : Type 0} (g : Guest S) → SameGuest g g
-same_guest g = record { rest = record { lpid = refl; shift = refl; secure = refl; phase = refl; generation = refl; pages = refl; sealer = refl }; vcpus = refl }
+same_guest g = record { rest = record { lpid = refl; shift = refl; normal = refl; secure = refl; phase = refl; generation = refl; pages = refl; sealer = refl }; vcpus = refl }
 
 some_same : {S : Type 0} (g h : Guest S) → Some g ≡ Some h → SameGuest g h
 some_same g h same = subst (SameGuest g) (let one : g ≡ h = cc in one) (same_guest g)
@@ -55,6 +61,10 @@ module _ {S : Type 0} (old : State S) (n : ℕ) (cpu : Cpu) (there : slice_get o
   normal_leaves new_cpu normal answer.Done h = tt
   normal_leaves new_cpu normal (answer.Val value) h = tt
   normal_leaves new_cpu normal a h = absurd h
+
+  -- a call of the hypervisor that names no guest
+  pub none_leaves : (new_cpu : Cpu) (code : Code) → RefusesCpu cpu new_cpu code → LeavesRest n ctx.Hv old (record old { cpus = slice_set old.cpus n new_cpu }) (answer.Ret code)
+  none_leaves new_cpu code h = on_cpu (λ c d. RefusesCpu c d code) new_cpu h
 
   -- a command of another context
   pub context_leaves : OnCpu n (λ c d. d ≡ c) old.cpus old.cpus old.guests old.guests old.pool old.pool old.normal old.normal
@@ -85,6 +95,26 @@ module _ {S : Type 0} (old : State S) (n : ℕ) (cpu : Cpu) (there : slice_get o
     }
     return_leaves new_cpu answer.Enter h = tt
     return_leaves new_cpu a h = absurd h
+
+    -- a page-out that comes back at once
+    pub page_out_leaves : (call : PageCall) (new_cpu : Cpu) (a : Answer) → RefusesCall call guest new_guest cpu new_cpu a →
+        LeavesRest n ctx.Hv old (record old { cpus = slice_set old.cpus n new_cpu; guests = slice_set old.guests i new_guest }) a
+    page_out_leaves call new_cpu (answer.Ret code) h = return_leaves new_cpu (answer.Ret code) (h.1, h.2)
+    page_out_leaves call new_cpu answer.Step h = tt
+    page_out_leaves call new_cpu a h = absurd h
+
+    -- a page-out that comes back after its guest has ended
+    pub end_leaves : (work : Work) (new_cpu : Cpu) (pool : PoolState) (a : Answer) → ComesBackWith cpu new_cpu a → EndsOld guest new_guest old.pool pool a →
+        LeavesRest n (ctx.Uv work) old (record old { cpus = slice_set old.cpus n new_cpu; guests = slice_set old.guests i new_guest; pool = pool }) a
+    end_leaves work new_cpu pool (answer.Ret UParameter) back h = record {
+      cpu = at_place ComesBackLate old.cpus n cpu new_cpu there back;
+      others = λ k other. get_other old.cpus n k new_cpu other;
+      guests_stay = guests_stay h.0;
+      pool_stays = h.1;
+      normal_stays = refl;
+    }
+    end_leaves work new_cpu pool (answer.Ret code) back h = tt
+    end_leaves work new_cpu pool a back h = absurd back
 
     -- a guest that changes so, on a CPU that doesn't
     on_guest : (P : Guest S → Guest S → Type 0) (new_cpu : Cpu) (pool : PoolState) → new_cpu ≡ cpu → P guest new_guest → pool ≡ old.pool →
@@ -124,5 +154,7 @@ module _ {S : Type 0} (old : State S) (n : ℕ) (cpu : Cpu) (there : slice_get o
 pub steps_aside : {S : Type 0} (n : ℕ) (c : Ctx) (m new : State S) (k : ℕ) (a : Answer) → LeavesRest n c (record m { steps = k }) new a → LeavesRest n c m new a
 steps_aside n ctx.Hv m new k (answer.Ret code) h = h
 steps_aside n ctx.Hv m new k a h = h
+steps_aside n (ctx.Uv work) m new k (answer.Ret UParameter) h = h
+steps_aside n (ctx.Uv work) m new k a h = h
 steps_aside n (ctx.Guest run) m new k (answer.Ret code) h = h
 steps_aside n (ctx.Guest run) m new k a h = h

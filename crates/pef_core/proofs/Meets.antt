@@ -1,7 +1,7 @@
 -- What is known of the pages and the pool, by what an access met.
-use Rattle.std.proofs.Common.{◌≡◌, ℕ, ◌+◌, ◌/◌, ◌%◌, ◌^◌, ◌<◌, ◌≤◌, nat_lt, Bool, true, false, if◌then◌else◌, List, [], ◌∷◌, length, arith, refl, ap, subst}
+use Rattle.std.proofs.Common.{◌≡◌, ℕ, ◌+◌, ◌/◌, ◌%◌, ◌^◌, ◌<◌, ◌≤◌, nat_lt, Bool, true, false, if◌then◌else◌, List, [], ◌∷◌, length, is_some, arith, refl, ap, subst}
 use Rattle.std.proofs.lemmas.Bool.Decides.{nat_tests}
-use Rattle.pef_model.specs.Deed.{Reach, NoPage, InFrame, Backs, NoFrame, Moves, reach_of, reach_invalid}
+use Rattle.pef_model.specs.Deed.{Reach, NoPage, InFrame, Backs, NoFrame, Moves, reach_kind, reach_invalid}
 use Rattle.pef_model.proofs.Places.{room_at}
 use Rattle.pef_frames.specs.Frame.{FrameState}
 use Rattle.pef_frames.specs.Pool.{PoolState}
@@ -9,7 +9,7 @@ use Rattle.pef_pages.specs.declared.cell.Cell.{Cell}
 use Rattle.pef_pages.specs.declared.cell.Cell.TheVariants as cell
 use Rattle.pef_pages.specs.Cells.{kind_of, mover_of, frame_in}
 use Rattle.pef_pages.specs.Pages.{PagesState, cell_at}
-use Rattle.pef_core.specs.Access.{has_place, is_any_free, reach_at, TakesBelow, HaveFrames}
+use Rattle.pef_core.specs.Access.{has_place, is_any_free, reach_page, reach_at, TakesBelow, HaveFrames}
 
 -- an address is that of a doubleword in one of the pages, and its page has this cell
 pub record IsAt (shift : ℕ) (pages : PagesState FrameState) (gpa : ℕ) (c : Cell FrameState) : Type 0 where
@@ -70,7 +70,7 @@ module _ (shift : ℕ) (pages : PagesState FrameState) (pool : PoolState) (gpa :
         small = subst (λ (p : PoolState). TakesBelow p Backs) pool_is small;
       })
 
-  by_cell : (gpa % 8 ≡ 0) × (gpa / 2 ^ shift < length pages.pages) → (c : Cell FrameState) → cell_at pages (gpa / 2 ^ shift) ≡ c → IsMet (reach_of (record { kind = kind_of c; mover = mover_of c }) (is_any_free pool))
+  by_cell : (gpa % 8 ≡ 0) × (gpa / 2 ^ shift < length pages.pages) → (c : Cell FrameState) → cell_at pages (gpa / 2 ^ shift) ≡ c → IsMet (if is_some (mover_of c) then Moves else reach_kind (kind_of c) (is_any_free pool))
   by_cell place (cell.Secure frame) is = λ small. record {
     frame = frame;
     at = record { aligned = place.0; below = place.1; cell_is = is };
@@ -84,7 +84,7 @@ module _ (shift : ℕ) (pages : PagesState FrameState) (pool : PoolState) (gpa :
   by_cell place (cell.MovesIn frame cpu digest) is = λ small. tt
 
   by_place : (b : Bool) → has_place shift (length pages.pages) gpa ≡ b →
-      IsMet (if b then reach_of (record { kind = kind_of (cell_at pages (gpa / 2 ^ shift)); mover = mover_of (cell_at pages (gpa / 2 ^ shift)) }) (is_any_free pool) else NoPage)
+      IsMet (if b then reach_page pages (gpa / 2 ^ shift) (is_any_free pool) else NoPage)
   by_place true test = by_cell (placed shift (length pages.pages) gpa test) (cell_at pages (gpa / 2 ^ shift)) refl
   by_place false test = λ small. tt
 

@@ -15,7 +15,8 @@ use Rattle.pef_guest.specs.Start.{start_vcpu}
 use Rattle.pef_guest.specs.Shows.{vcpu_at}
 use Rattle.pef_core.specs.Access.{pages_after, pool_after, stored_at}
 use Rattle.pef_core.specs.Rows.{access_answer, vcpu_after}
-use Rattle.pef_core.specs.Refused.{RefusesVcpu, RefusesGuest, SameGuest, LeavesCommand}
+use Rattle.pef_guest.specs.Refused.{SameGuest}
+use Rattle.pef_core.specs.Refused.{RefusesVcpu, RefusesGuest, LeavesCommand}
 use Rattle.pef_core.proofs.GuestAfter.{with_step}
 
 module _ {S : Type 0} (old : Guest S) (vid : ℕ) (vcpu : Vcpu) (below : vid < length old.vcpus.items) (there : vcpu ≡ get_or old.vcpus.items vid vcpu) where
@@ -26,7 +27,7 @@ module _ {S : Type 0} (old : Guest S) (vid : ℕ) (vcpu : Vcpu) (below : vid < l
   -- a vCPU whose call was refused
   pub refused_guest : (new : Vcpu) (code : Code) → RefusesVcpu vcpu new code → RefusesGuest vid old (with_step old old.pages vid new) code
   refused_guest new code refuses = record {
-    rest = record { lpid = refl; shift = refl; secure = refl; phase = refl; generation = refl; pages = refl; sealer = refl };
+    rest = record { lpid = refl; shift = refl; normal = refl; secure = refl; phase = refl; generation = refl; pages = refl; sealer = refl };
     vcpu = subst (λ v. RefusesVcpu v (slice_index_or (slice_set old.vcpus.items vid new) vid (start_vcpu Idle)) code) is_at
         (subst (λ v. RefusesVcpu vcpu v code) (sym (get_or-set_same old.vcpus.items vid new (start_vcpu Idle) below)) refuses);
     others = λ k other. get_or-set_other old.vcpus.items vid k new (start_vcpu Idle) other;
@@ -35,7 +36,7 @@ module _ {S : Type 0} (old : Guest S) (vid : ℕ) (vcpu : Vcpu) (below : vid < l
   -- nothing but a step more
   same_guest : SameGuest old (with_step old old.pages vid vcpu)
   same_guest = record {
-    rest = record { lpid = refl; shift = refl; secure = refl; phase = refl; generation = refl; pages = refl; sealer = refl };
+    rest = record { lpid = refl; shift = refl; normal = refl; secure = refl; phase = refl; generation = refl; pages = refl; sealer = refl };
     vcpus = ap (slice_set old.vcpus.items vid) there ∙ set-get_or old.vcpus.items vid vcpu;
   }
 

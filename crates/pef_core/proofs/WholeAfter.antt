@@ -1,9 +1,12 @@
 -- A machine stays whole where a CPU, a guest, the pool or the normal frames change as a step changes them.
-use Rattle.std.proofs.Common.{◌≡◌, ℕ, zero, suc, ◌+◌, ◌-◌, ◌^◌, ◌<◌, ◌==◌, nat_lt, cond, if◌then◌else◌, List, [], ◌∷◌, ◌++◌, Option, Some, refl, ap, sym, subst, ◌∙◌, arith}
+use Rattle.std.proofs.Common.{◌≡◌, ◌≢◌, ℕ, zero, suc, ◌+◌, ◌-◌, ◌^◌, ◌<◌, ◌==◌, nat_lt, cond, if◌then◌else◌, List, [], ◌∷◌, ◌++◌, length, Option, Some, refl, ap, sym, subst, ◌∙◌, arith}
 use Rattle.std.specs.Prelude.{slice_get, slice_set}
 use Rattle.std.specs.List.{count_by, flat_map}
 use Rattle.std.proofs.lemmas.List.Sums.{sum_by-append}
 use Rattle.std.proofs.lemmas.List.Recursion.{is_sum_by}
+use Rattle.pef_model.specs.declared.state.Way.TheVariants.{Outward as IsOutward}
+use Rattle.pef_model.specs.declared.state.Run.{Run}
+use Rattle.pef_model.specs.declared.state.Work.TheVariants.{Outward}
 use Rattle.pef_model.specs.declared.state.Ctx.{Ctx}
 use Rattle.pef_model.specs.declared.state.Ctx.TheVariants as ctx
 use Rattle.pef_model.specs.Deed.{may_return_in}
@@ -14,9 +17,9 @@ use Rattle.pef_pages.specs.Pages.{held}
 use Rattle.pef_guest.specs.declared.cpu.Cpu.{Cpu}
 use Rattle.pef_guest.specs.declared.guest.Guest.{Guest}
 use Rattle.pef_guest.specs.Whole.{IsWhole}
+use Rattle.pef_guest.specs.Keeps.{KeepsGuest, KeepsFrames, KeepsMovers, times_held}
 use Rattle.pef_core.specs.Normal.{NormalState}
-use Rattle.pef_core.specs.Rows.{KeepsGuest, KeepsFrames, times_held}
-use Rattle.pef_core.specs.State.{State, IsCpuOf, IsGuestOf, IsVcpu, HasVcpu, MayRun, RunsVcpu, FramesOnce, IsWholeMachine}
+use Rattle.pef_core.specs.State.{State, IsCpuOf, IsGuestOf, IsVcpu, HasVcpu, MayRun, MovesOutward, Works, FramesOnce, IsWholeMachine, guest_at}
 use Rattle.pef_core.proofs.Lists.{each_set, each_map}
 
 -- what holds of the element at a place, after another was put in
@@ -28,26 +31,56 @@ at_set Q (a ∷ xs) (suc i) zero x y is put h = h
 at_set Q (a ∷ xs) (suc i) (suc k) x y is put h = at_set Q xs i k x y is put h
 
 module _ {S : Type 0} (guests : List (Guest S)) (i : ℕ) (g g' : Guest S) (is : slice_get guests i ≡ Some g) (keeps : KeepsGuest g g') where
-  vcpu_stays : (lpid vid : ℕ) → IsVcpu guests lpid vid → IsVcpu (slice_set guests i g') lpid vid
+  -- a vCPU of the machine still is one
+  pub vcpu_stays : (lpid vid : ℕ) → IsVcpu guests lpid vid → IsVcpu (slice_set guests i g') lpid vid
   vcpu_stays lpid vid h = record {
     least = h.least;
     has = at_set (λ x. HasVcpu x vid) guests i (lpid - 1) g g' is (λ below. subst (λ n. vid < n) (sym keeps.vcpus) below) h.has;
   }
 
-  may_run_stays : (lpid generation : ℕ) → MayRun (slice_get guests (lpid - 1)) generation → MayRun (slice_get (slice_set guests i g') (lpid - 1)) generation
+  may_run_stays : (lpid generation : ℕ) → MayRun (guest_at guests lpid) generation → MayRun (guest_at (slice_set guests i g') lpid) generation
   may_run_stays lpid generation h =
       at_set (λ x. MayRun x generation) guests i (lpid - 1) g g' is (λ may same. ap may_return_in keeps.phase ∙ may (same ∙ keeps.generation)) h
 
-  runs_stays : (c : Ctx) → RunsVcpu guests c → RunsVcpu (slice_set guests i g') c
-  runs_stays ctx.Hv h = tt
-  runs_stays (ctx.Guest run) h = (vcpu_stays run.lpid run.vid h.0, may_run_stays run.lpid run.generation h.1)
+  -- a page that this CPU moves is moved by it still, where the step is another CPU's
+  moves_stay : (n k lpid generation gfn : ℕ) → k ≢ n → KeepsMovers n g g' → MovesOutward (guest_at guests lpid) generation gfn k → MovesOutward (guest_at (slice_set guests i g') lpid) generation gfn k
+  moves_stay n k lpid generation gfn other movers h =
+      at_set (λ x. MovesOutward x generation gfn k) guests i (lpid - 1) g g' is (λ moves same. movers gfn (record { cpu = k; way = IsOutward }) other (moves (same ∙ keeps.generation))) h
 
-  -- a CPU of the machine still is one
-  pub cpu_stays : (shift n : ℕ) (cpu : Cpu) → IsCpuOf guests shift n cpu → IsCpuOf (slice_set guests i g') shift n cpu
-  cpu_stays shift n cpu h = record { number = h.number; selects = vcpu_stays cpu.lpid cpu.vid h.selects; runs = runs_stays cpu.ctx h.runs; hand = h.hand }
+  -- a vCPU that a CPU runs still may run
+  pub runs_stay : (normal : NormalState) (n : ℕ) (run : Run) → Works guests normal n (ctx.Guest run) → Works (slice_set guests i g') normal n (ctx.Guest run)
+  runs_stay normal n run h = (vcpu_stays run.lpid run.vid h.0, may_run_stays run.lpid run.generation h.1)
+
+  works_stay : (normal : NormalState) (n k : ℕ) (c : Ctx) → k ≢ n → KeepsMovers n g g' → Works guests normal k c → Works (slice_set guests i g') normal k c
+  works_stay normal n k ctx.Hv other movers h = tt
+  works_stay normal n k (ctx.Uv (Outward move)) other movers h = record { least = h.least; moves = moves_stay n k move.lpid move.generation move.gfn other movers h.moves; frame = h.frame }
+  works_stay normal n k (ctx.Guest run) other movers h = runs_stay normal k run h
+
+  -- a CPU of the machine still is one, after a step of another
+  pub cpu_stays : (normal : NormalState) (n k : ℕ) (cpu : Cpu) → k ≢ n → KeepsMovers n g g' → IsCpuOf guests normal k cpu → IsCpuOf (slice_set guests i g') normal k cpu
+  cpu_stays normal n k cpu other movers h = record {
+    number = h.number;
+    selects = vcpu_stays cpu.lpid cpu.vid h.selects;
+    works = works_stay normal n k cpu.ctx other movers h.works;
+    hand = h.hand;
+  }
+
+-- a CPU of the machine is one with other normal frames, where they are of the same size and as many
+works_with : {S : Type 0} (guests : List (Guest S)) (old new : NormalState) (n : ℕ) (c : Ctx) → length new.frames ≡ length old.frames → Works guests old n c → Works guests new n c
+works_with guests old new n ctx.Hv count h = tt
+works_with guests old new n (ctx.Uv (Outward move)) count h = record { least = h.least; moves = h.moves; frame = subst (λ (k : ℕ). move.frame < k) (sym count) h.frame }
+works_with guests old new n (ctx.Guest run) count h = h
+
+pub cpu_with : {S : Type 0} (guests : List (Guest S)) (old new : NormalState) (n : ℕ) (cpu : Cpu) → new.shift ≡ old.shift → length new.frames ≡ length old.frames → IsCpuOf guests old n cpu → IsCpuOf guests new n cpu
+cpu_with guests old new n cpu shift count h = record {
+  number = h.number;
+  selects = h.selects;
+  works = works_with guests old new n cpu.ctx count h.works;
+  hand = h.hand ∙ ap (λ (k : ℕ). 2 ^ k) (sym shift);
+}
 
 -- how often a number is one of frames
-count_numbers : (number : ℕ) (frames : List FrameState) → count_by (λ n. n == number) (numbers_of frames) ≡ count_by (λ (frame : FrameState). frame.number == number) frames
+pub count_numbers : (number : ℕ) (frames : List FrameState) → count_by (λ n. n == number) (numbers_of frames) ≡ count_by (λ (frame : FrameState). frame.number == number) frames
 count_numbers number frames =
     is_sum_by (λ (frames : List FrameState). count_by (λ n. n == number) (numbers_of frames)) (λ (frame : FrameState). cond (frame.number == number) 1 0) refl
     (λ frame frames. let h = sum_by-append (λ (n : ℕ). cond (n == number) 1 0) (frame.number ∷ []) (numbers_of frames) in omega arith) frames
@@ -93,34 +126,35 @@ once_stays m i g g' pool is keeps once cpus number =
     same ∙ once number ∙ ap (λ (count : ℕ). if nat_lt number count then 1 else 0) (sym keeps.count)
 
 module _ {S : Type 0} (takes : S → ℕ → ℕ → Type 0) (m : State S) (n : ℕ) (cpu : Cpu) (whole : IsWholeMachine takes m) where
-  -- another CPU at one place, and other normal frames of the same size
-  pub whole_cpu : (normal : NormalState) → normal.shift ≡ m.normal.shift → IsCpuOf m.guests m.normal.shift n cpu → IsWholeMachine takes (record m { cpus = slice_set m.cpus n cpu; normal = normal })
-  whole_cpu normal same is = record {
-    cpus = each_set (IsCpuOf m.guests m.normal.shift) (IsCpuOf m.guests normal.shift) m.cpus n cpu whole.cpus
-        (subst (λ shift. IsCpuOf m.guests shift n cpu) (sym same) is) (λ k x other h. subst (λ shift. IsCpuOf m.guests shift k x) (sym same) h);
+  -- another CPU at one place, and other normal frames of the same size and number
+  pub whole_cpu : (normal : NormalState) → normal.shift ≡ m.normal.shift → length normal.frames ≡ length m.normal.frames → IsCpuOf m.guests m.normal n cpu → IsWholeMachine takes (record m { cpus = slice_set m.cpus n cpu; normal = normal })
+  whole_cpu normal same count is = record {
+    cpus = each_set (IsCpuOf m.guests m.normal) (IsCpuOf m.guests normal) m.cpus n cpu whole.cpus
+        (cpu_with m.guests m.normal normal n cpu same count is) (λ k x other h. cpu_with m.guests m.normal normal k x same count h);
     guests = each_map (IsGuestOf takes m) (IsGuestOf takes (record m { cpus = slice_set m.cpus n cpu; normal = normal })) m.guests whole.guests
-        (λ i g h. record { whole = h.whole; lpid = h.lpid; shift = h.shift ∙ sym same; secure = h.secure; steps = h.steps });
+        (λ i g h. record { whole = h.whole; lpid = h.lpid; shift = h.shift ∙ sym same; normal = h.normal ∙ sym count; secure = h.secure; steps = h.steps });
     size = whole.size ∙ ap (λ (shift : ℕ). 2 ^ shift) (sym same);
     frames_once = whole.frames_once;
   }
 
   -- another CPU at one place and another guest at another, and the pool
-  pub whole_guest : (i : ℕ) (g g' : Guest S) (pool : PoolState) → slice_get m.guests i ≡ Some g → IsWhole takes g' → KeepsGuest g g' → KeepsFrames g g' m.pool pool → g.steps < m.steps →
-      IsCpuOf (slice_set m.guests i g') m.normal.shift n cpu → IsWholeMachine takes (record m { cpus = slice_set m.cpus n cpu; guests = slice_set m.guests i g'; pool = pool })
-  whole_guest i g g' pool is whole' keeps frames fewer cpu_is =
+  pub whole_guest : (i : ℕ) (g g' : Guest S) (pool : PoolState) → slice_get m.guests i ≡ Some g → IsWhole takes g' → KeepsGuest g g' → KeepsMovers n g g' → KeepsFrames g g' m.pool pool → g.steps < m.steps →
+      IsCpuOf (slice_set m.guests i g') m.normal n cpu → IsWholeMachine takes (record m { cpus = slice_set m.cpus n cpu; guests = slice_set m.guests i g'; pool = pool })
+  whole_guest i g g' pool is whole' keeps movers frames fewer cpu_is =
       let there : IsGuestOf takes m i g = whole.guests i g is in
       record {
-        cpus = each_set (IsCpuOf m.guests m.normal.shift) (IsCpuOf (slice_set m.guests i g') m.normal.shift) m.cpus n cpu whole.cpus cpu_is
-            (λ k x other h. cpu_stays m.guests i g g' is keeps m.normal.shift k x h);
+        cpus = each_set (IsCpuOf m.guests m.normal) (IsCpuOf (slice_set m.guests i g') m.normal) m.cpus n cpu whole.cpus cpu_is
+            (λ k x other h. cpu_stays m.guests i g g' is keeps m.normal n k x other movers h);
         guests = each_set (IsGuestOf takes m) (IsGuestOf takes (record m { cpus = slice_set m.cpus n cpu; guests = slice_set m.guests i g'; pool = pool })) m.guests i g' whole.guests
             (record {
               whole = whole';
               lpid = keeps.lpid ∙ there.lpid;
               shift = keeps.shift ∙ there.shift;
+              normal = keeps.normal ∙ there.normal;
               secure = keeps.secure ∙ there.secure ∙ sym frames.count;
               steps = (let more = keeps.steps in omega arith);
             })
-            (λ k x other h. record { whole = h.whole; lpid = h.lpid; shift = h.shift; secure = h.secure ∙ sym frames.count; steps = h.steps });
+            (λ k x other h. record { whole = h.whole; lpid = h.lpid; shift = h.shift; normal = h.normal; secure = h.secure ∙ sym frames.count; steps = h.steps });
         size = frames.size ∙ whole.size;
         frames_once = once_stays m i g g' pool is frames whole.frames_once (slice_set m.cpus n cpu);
       }
@@ -130,7 +164,7 @@ pub one_step_more : {S : Type 0} (takes : S → ℕ → ℕ → Type 0) (m : Sta
 one_step_more takes m whole = record {
   cpus = whole.cpus;
   guests = each_map (IsGuestOf takes m) (IsGuestOf takes (record m { steps = m.steps + 1 })) m.guests whole.guests
-      (λ i g h. record { whole = h.whole; lpid = h.lpid; shift = h.shift; secure = h.secure; steps = (let few = h.steps in omega arith) });
+      (λ i g h. record { whole = h.whole; lpid = h.lpid; shift = h.shift; normal = h.normal; secure = h.secure; steps = (let few = h.steps in omega arith) });
   size = whole.size;
   frames_once = whole.frames_once;
 }

@@ -1,19 +1,18 @@
 -- What an access of a guest meets in the machine, and what it leaves.
-use Rattle.std.specs.Prelude.{◌≡◌, ℕ, ◌+◌, ◌/◌, ◌%◌, ◌^◌, ◌==◌, ◌<◌, ◌≤◌, nat_lt, Bool, ◌&&◌, if◌then◌else◌, length, Option, Some, None, IfSome, Result, Ok, Err}
+use Rattle.std.specs.Prelude.{◌≡◌, ℕ, ◌+◌, ◌/◌, ◌%◌, ◌^◌, ◌==◌, ◌<◌, ◌≤◌, nat_lt, Bool, ◌&&◌, if◌then◌else◌, length, Option, Some, None, is_some, IfSome, Result, Ok, Err}
 use Rattle.pef_model.specs.declared.entry.Answer.{Answer}
 use Rattle.pef_model.specs.declared.entry.Answer.TheVariants.{Hole, Again}
-use Rattle.pef_model.specs.GuestPart.{Page}
 use Rattle.pef_model.specs.Doubleword.{doubleword, with_doubleword}
-use Rattle.pef_model.specs.Deed.{Reach, NoPage, InFrame, Backs, NoFrame, Moves, reach_of}
+use Rattle.pef_model.specs.Deed.{Reach, NoPage, InFrame, Backs, NoFrame, Moves, reach_kind}
 use Rattle.pef_num.specs.declared.place.Place.{Place}
 use Rattle.pef_frames.specs.Frame.{FrameState}
 use Rattle.pef_frames.specs.Pool.{PoolState, first_free, without_first}
 use Rattle.pef_pages.specs.declared.cell.Cell.TheVariants as cell
 use Rattle.pef_pages.specs.Pages.{PagesState, kind_at, mover_at, frame_at, with_cell, with_frame_at, joins_order}
 
--- a page as far as it is public
-abbrev pub shown_page : PagesState FrameState → ℕ → Page
-shown_page pages gfn = record { kind = kind_at pages gfn; mover = mover_at pages gfn }
+-- what an access to a page meets; any: a secure frame is free
+abbrev pub reach_page : PagesState FrameState → ℕ → Bool → Reach
+reach_page pages gfn any = if is_some (mover_at pages gfn) then Moves else reach_kind (kind_at pages gfn) any
 
 -- whether a secure frame is free
 abbrev pub is_any_free : PoolState → Bool
@@ -29,7 +28,7 @@ has_place shift count gpa = (gpa % 8 == 0) && nat_lt (gpa / 2 ^ shift) count
 
 -- what an access to a guest address meets
 abbrev pub reach_at : ℕ → PagesState FrameState → PoolState → ℕ → Reach
-reach_at shift pages pool gpa = if has_place shift (length pages.pages) gpa then reach_of (shown_page pages (gpa / 2 ^ shift)) (is_any_free pool) else NoPage
+reach_at shift pages pool gpa = if has_place shift (length pages.pages) gpa then reach_page pages (gpa / 2 ^ shift) (is_any_free pool) else NoPage
 
 -- where an access finds its doubleword, or what it answers
 abbrev pub found_at : Place → Reach → Result Place Answer

@@ -5,3 +5,4 @@ pub mod State
 pub mod Start
 pub mod Steps
 pub mod Refused
+pub mod Places

@@ -1,34 +1,20 @@
 -- What a refused command leaves as it is.
-use Rattle.std.specs.Prelude.{◌≡◌, ◌≢◌, ℕ, ◌+◌, ◌-◌, ◌%◌, ◌^◌, List, Some, slice_get, slice_index}
+use Rattle.std.specs.Prelude.{◌≡◌, ◌≢◌, ℕ, ◌+◌, ◌-◌, ◌%◌, ◌^◌, List, Some, slice_get}
 use Rattle.pef_model.specs.declared.state.Ctx.{Ctx}
 use Rattle.pef_model.specs.declared.state.Ctx.TheVariants as ctx
 use Rattle.pef_model.specs.declared.command.Code.{Code}
+use Rattle.pef_model.specs.declared.command.Code.TheVariants.{UParameter}
 use Rattle.pef_model.specs.declared.entry.Answer.{Answer}
 use Rattle.pef_model.specs.declared.entry.Answer.TheVariants as answer
-use Rattle.pef_model.specs.Registers.{number_of}
+use Rattle.pef_model.specs.Registers.{with_code}
 use Rattle.pef_frames.specs.Pool.{PoolState}
-use Rattle.pef_guest.specs.Loads.{LoadsCall}
+use Rattle.pef_guest.specs.Refused.{ComesBack, RefusesCpu, SameButVcpus, SameGuest}
 use Rattle.pef_guest.specs.declared.cpu.Cpu.{Cpu}
 use Rattle.pef_guest.specs.declared.vcpu.Vcpu.{Vcpu}
 use Rattle.pef_guest.specs.declared.guest.Guest.{Guest}
 use Rattle.pef_guest.specs.Shows.{vcpu_at}
 use Rattle.pef_core.specs.Normal.{NormalState}
 use Rattle.pef_core.specs.State.{State}
-
--- a call came back with a code in R3, and changed no register but those that it loads
-pub record ComesBack (old new : List ℕ) (code : Code) : Type 0 where
-  pub given : slice_index new 3 ≡ number_of code
-  pub rest : LoadsCall old new
-
--- a refused call of the hypervisor changes of its CPU what the call loads, and the last answer
-pub record RefusesCpu (old new : Cpu) (code : Code) : Type 0 where
-  pub number : new.number ≡ old.number
-  pub ctx : new.ctx ≡ old.ctx
-  pub lpid : new.lpid ≡ old.lpid
-  pub vid : new.vid ≡ old.vid
-  pub hand : new.hand ≡ old.hand
-  pub gpr : ComesBack old.gpr new.gpr code
-  pub last : new.last ≡ answer.Ret code
 
 -- a refused call of a guest changes of its vCPU what the call loads, and goes on to the next instruction
 pub record RefusesVcpu (old new : Vcpu) (code : Code) : Type 0 where
@@ -37,21 +23,6 @@ pub record RefusesVcpu (old new : Vcpu) (code : Code) : Type 0 where
   pub gpr : ComesBack old.regs.gpr new.regs.gpr code
   pub nip : new.regs.nip ≡ (old.regs.nip + 4) % 2 ^ 64
   pub srr0 : new.regs.srr0 ≡ old.regs.srr0
-
--- a guest is as it was, but for its vCPUs and its count of steps
-pub record SameButVcpus {S : Type 0} (old new : Guest S) : Type 0 where
-  pub lpid : new.lpid ≡ old.lpid
-  pub shift : new.shift ≡ old.shift
-  pub secure : new.secure ≡ old.secure
-  pub phase : new.phase ≡ old.phase
-  pub generation : new.generation ≡ old.generation
-  pub pages : new.pages ≡ old.pages
-  pub sealer : new.sealer ≡ old.sealer
-
--- a guest is as it was, but for its count of steps
-pub record SameGuest {S : Type 0} (old new : Guest S) : Type 0 where
-  pub rest : SameButVcpus old new
-  pub vcpus : new.vcpus.items ≡ old.vcpus.items
 
 -- a guest whose call was refused: of one vCPU what the call loads changes
 pub record RefusesGuest {S : Type 0} (vid : ℕ) (old new : Guest S) (code : Code) : Type 0 where
@@ -99,13 +70,18 @@ pub record OnGuest {S : Type 0} (i : ℕ) (P : Guest S → Guest S → Type 0) (
   pub pool_stays : pool_new ≡ pool
   pub normal_stays : normal_new ≡ normal
 
+-- a call in progress that comes back after its guest has ended changes of its CPU R3, the last answer and the context
+abbrev pub ComesBackLate : Cpu → Cpu → Type 0
+ComesBackLate old new = new ≡ record old { ctx = ctx.Hv; gpr = with_code old.gpr UParameter; last = answer.Ret UParameter }
+
 -- a command that comes back with a code changes its caller's registers alone; one that met a hole, a page on the move or another context changes nothing but
--- the hypervisor's last answer
+-- the hypervisor's last answer; a call in progress that comes back after its guest has ended changes its CPU alone
 abbrev pub LeavesRest : {S : Type 0} → ℕ → Ctx → State S → State S → Answer → Type 0
 LeavesRest n ctx.Hv old new (answer.Ret code) = OnCpu n (λ c d. RefusesCpu c d code) old.cpus new.cpus old.guests new.guests old.pool new.pool old.normal new.normal
 LeavesRest n ctx.Hv old new answer.Hole = OnCpu n (λ c d. d ≡ record c { last = answer.Hole }) old.cpus new.cpus old.guests new.guests old.pool new.pool old.normal new.normal
 LeavesRest n (ctx.Guest run) old new (answer.Ret code) = OnGuest (run.lpid - 1) (λ g h. RefusesGuest run.vid g h code) old.cpus new.cpus old.guests new.guests old.pool new.pool old.normal new.normal
 LeavesRest n (ctx.Guest run) old new answer.Hole = OnGuest (run.lpid - 1) SameGuest old.cpus new.cpus old.guests new.guests old.pool new.pool old.normal new.normal
 LeavesRest n (ctx.Guest run) old new answer.Again = OnGuest (run.lpid - 1) SameGuest old.cpus new.cpus old.guests new.guests old.pool new.pool old.normal new.normal
+LeavesRest n (ctx.Uv work) old new (answer.Ret UParameter) = OnCpu n ComesBackLate old.cpus new.cpus old.guests new.guests old.pool new.pool old.normal new.normal
 LeavesRest n before old new answer.Context = OnCpu n (λ c d. d ≡ c) old.cpus new.cpus old.guests new.guests old.pool new.pool old.normal new.normal
 LeavesRest n before old new other = Unit {0}

@@ -1,12 +1,12 @@
 -- A step on a guest does what its row of the model says, whatever the guest was before.
-use Rattle.std.specs.Prelude.{◌≡◌, ℕ, ◌+◌, ◌^◌, ◌<◌, ◌==◌, Bool, true, false, if◌then◌else◌, List, length}
-use Rattle.std.specs.List.{count_by}
+use Rattle.std.specs.Prelude.{◌≡◌, ℕ, ◌<◌, Bool, true, false, if◌then◌else◌, List, [], length}
 use Rattle.pef_model.specs.declared.state.Run.{Run}
 use Rattle.pef_model.specs.declared.state.Ctx.{Ctx}
 use Rattle.pef_model.specs.declared.state.Ctx.TheVariants as ctx
 use Rattle.pef_model.specs.declared.state.Regs.{Regs}
+use Rattle.pef_model.specs.declared.state.Tag.{Tag}
 use Rattle.pef_model.specs.declared.command.Cmd.{Cmd}
-use Rattle.pef_model.specs.declared.command.Cmd.TheVariants.{HLd, HSt, UReturn, GLi, GLd, GSt, GIrq}
+use Rattle.pef_model.specs.declared.command.Cmd.TheVariants.{HLd, HSt, UPageout, UReturn, GLi, GLd, GSt, GIrq, Go}
 use Rattle.pef_model.specs.declared.entry.Answer.{Answer}
 use Rattle.pef_model.specs.declared.entry.Answer.TheVariants.{Hole, Again}
 use Rattle.pef_model.specs.declared.entry.Answer.TheVariants.{Exit as Exited}
@@ -15,18 +15,16 @@ use Rattle.pef_model.specs.Plan.{Plan}
 use Rattle.pef_model.specs.Event.{Event, Mark}
 use Rattle.pef_model.specs.Target.{Ask, frame_of, has_real_place, touches_frame}
 use Rattle.pef_model.specs.Cpu.{CpuPart, next_cpu, left_registers}
-use Rattle.pef_model.specs.Guest.{Guest as GuestWhole, next_guest}
-use Rattle.pef_model.specs.Memory.{pool_with, next_frame}
+use Rattle.pef_model.specs.Guest.{Guest as GuestWhole}
+use Rattle.pef_model.specs.Memory.{next_frame}
 use Rattle.pef_model.specs.Deed.{Deed, Reach, NoPage, InFrame, Backs, NoFrame, Moves, deed_running, deed_return, deed_frame, deed_alone, may_return_in}
 use Rattle.pef_model.specs.History.{entry_of}
-use Rattle.pef_frames.specs.Frame.{FrameState}
 use Rattle.pef_frames.specs.Pool.{PoolState}
-use Rattle.pef_frames.specs.PoolLaw.{times_free}
-use Rattle.pef_pages.specs.Pages.{held}
 use Rattle.pef_guest.specs.declared.cpu.Cpu.{Cpu}
 use Rattle.pef_guest.specs.declared.vcpu.Vcpu.{Vcpu}
 use Rattle.pef_guest.specs.declared.guest.Guest.{Guest}
 use Rattle.pef_guest.specs.Shows.{ShowsCpu, Shows}
+use Rattle.pef_guest.specs.Rows.{Row, RowWithPool, ask_hypervisor}
 use Rattle.pef_core.specs.Access.{is_any_free}
 use Rattle.pef_core.specs.Normal.{NormalState, ShowsNormal}
 
@@ -54,37 +52,11 @@ vcpu_after vcpu regs Moves = vcpu
 abbrev pub left_by : Cpu → Run → Exit → Cpu
 left_by cpu run exit = record cpu { ctx = ctx.Hv; gpr = left_registers exit; lpid = run.lpid; vid = run.vid; last = Exited exit }
 
--- how often a number is that of a frame which a guest holds
-abbrev pub times_held : {S : Type 0} → Guest S → ℕ → ℕ
-times_held guest number = count_by (λ (frame : FrameState). frame.number == number) (held guest.pages)
-
 -- a CPU runs a vCPU of a guest, whose phase lets it run
 pub record IsRunning {S : Type 0} (cpu : Cpu) (guest : Guest S) (run : Run) : Type 0 where
   pub ctx : cpu.ctx ≡ ctx.Guest run
   pub vid : run.vid < length guest.vcpus.items
   pub phase : may_return_in guest.phase ≡ true
-
--- a pool is the one of a guest's machine
-pub record IsPoolOf {S : Type 0} (guest : Guest S) (pool : PoolState) : Type 0 where
-  pub count : pool.count ≡ guest.secure
-  pub size : pool.size ≡ 2 ^ guest.shift
-
--- what no step changes of a guest
-pub record KeepsGuest {S : Type 0} (old new : Guest S) : Type 0 where
-  pub lpid : new.lpid ≡ old.lpid
-  pub shift : new.shift ≡ old.shift
-  pub secure : new.secure ≡ old.secure
-  pub phase : new.phase ≡ old.phase
-  pub generation : new.generation ≡ old.generation
-  pub pages : length new.pages.pages ≡ length old.pages.pages
-  pub vcpus : length new.vcpus.items ≡ length old.vcpus.items
-  pub steps : new.steps ≡ old.steps + 1
-
--- a pool keeps its sizes, and each frame stays free or held as often as it was
-pub record KeepsFrames {S : Type 0} (old new : Guest S) (pool pool_new : PoolState) : Type 0 where
-  pub count : pool_new.count ≡ pool.count
-  pub size : pool_new.size ≡ pool.size
-  pub frames : (number : ℕ) → times_held new number + times_free pool_new number ≡ times_held old number + times_free pool number
 
 -- what a command of the vCPU that a CPU runs changes of the CPU: nothing, unless the vCPU leaves
 abbrev pub StaysOrLeaves : Run → Cpu → Cpu → Answer → Type 0
@@ -93,32 +65,21 @@ StaysOrLeaves run old new other = new ≡ old
 
 -- what a step learns of a CPU of the model that runs a vCPU
 abbrev pub ask_running : Run → CpuPart → Ask
-ask_running run c = record { before = ctx.Guest run; lpid = c.lpid; vid = c.vid; last = c.last }
+ask_running run c = record { before = ctx.Guest run; lpid = c.lpid; vid = c.vid; last = c.last; hand = [] }
 
 -- the entry of a step of a guest that runs; any: a secure frame is free
 abbrev pub entry_running : Plan → GuestWhole → CpuPart → Run → Bool → Mark → Cmd → Event
 entry_running plan g c run any mark cmd = entry_of (ask_running run c) mark cmd (deed_running plan g any (ask_running run c) cmd)
 
--- a step of a guest that runs answers what its entry does, and leaves the guest, the CPU and the number of free frames as the entry does
-pub record RowRunning {S : Type 0} (plan : Plan) (g : GuestWhole) (c : CpuPart) (e : Event) (new : Guest S) (cpu : Cpu) (free free_new : ℕ) (answer : Answer) : Type 0 where
-  pub answered : answer ≡ e.trace.answer
-  pub guest : Shows plan new (next_guest plan g e)
-  pub cpu_is : ShowsCpu cpu (next_cpu c e)
-  pub pool : free_new ≡ pool_with free e.saw.pool
-
 -- a guest does a command of its own, whatever guest and CPU of the model are shown
-abbrev pub DoesCommand : {S : Type 0} → Run → Cmd → Guest S → Guest S → Cpu → Cpu → PoolState → PoolState → Answer → Type 0
-DoesCommand run cmd old new cpu cpu_new pool pool_new answer =
-    (plan : Plan) (g : GuestWhole) (c : CpuPart) (mark : Mark) → Shows plan old g → ShowsCpu cpu c →
-    RowRunning plan g c (entry_running plan g c run (is_any_free pool) mark cmd) new cpu_new (length pool.free) (length pool_new.free) answer
-
--- what a step learns of a CPU of the model on which the hypervisor runs
-abbrev pub ask_hypervisor : CpuPart → Ask
-ask_hypervisor c = record { before = ctx.Hv; lpid = c.lpid; vid = c.vid; last = c.last }
+abbrev pub DoesCommand : {S : Type 0} → (S → Tag → List ℕ → List ℕ → Type 0) → (S → Tag → List ℕ → List ℕ) → Run → Cmd → Guest S → Guest S → Cpu → Cpu → PoolState → PoolState → Answer → Type 0
+DoesCommand stands image run cmd old new cpu cpu_new pool pool_new answer =
+    (plan : Plan) (g : GuestWhole) (c : CpuPart) (mark : Mark) → Shows stands image plan old g → ShowsCpu cpu c →
+    RowWithPool stands image plan g c (entry_running plan g c run (is_any_free pool) mark cmd) new cpu_new (length pool.free) (length pool_new.free) answer
 
 -- what the hypervisor's load or store does at its real address, with these bytes of each normal frame
-abbrev pub deed_address : Plan → (ℕ → List ℕ) → Ask → ℕ → Cmd → Deed
-deed_address plan bytes ask ra cmd = if has_real_place plan ra then deed_frame plan (frame_of plan ra) (bytes (frame_of plan ra)) ask cmd else deed_alone ask cmd
+abbrev pub deed_at_address : Plan → (ℕ → List ℕ) → Ask → ℕ → Cmd → Deed
+deed_at_address plan bytes ask ra cmd = if has_real_place plan ra then deed_frame plan (frame_of plan ra) (bytes (frame_of plan ra)) ask cmd else deed_alone ask cmd
 
 -- a normal frame after an entry that may touch it
 abbrev pub frame_after_entry : Plan → (ℕ → List ℕ) → Event → ℕ → List ℕ
@@ -134,19 +95,13 @@ pub record RowNormal (plan : Plan) (bytes : ℕ → List ℕ) (c : CpuPart) (e :
 abbrev pub DoesNormal : ℕ → Cmd → Cpu → Cpu → NormalState → NormalState → Answer → Type 0
 DoesNormal ra cmd cpu cpu_new normal normal_new answer =
     (plan : Plan) (bytes : ℕ → List ℕ) (c : CpuPart) (mark : Mark) → ShowsCpu cpu c → ShowsNormal plan normal bytes →
-    RowNormal plan bytes c (entry_of (ask_hypervisor c) mark cmd (deed_address plan bytes (ask_hypervisor c) ra cmd)) cpu_new normal_new answer
-
--- UV_RETURN of the hypervisor answers what its entry does, and leaves the guest and the CPU as the entry does
-pub record RowReturn {S : Type 0} (plan : Plan) (g : GuestWhole) (c : CpuPart) (e : Event) (new : Guest S) (cpu : Cpu) (answer : Answer) : Type 0 where
-  pub answered : answer ≡ e.trace.answer
-  pub guest : Shows plan new (next_guest plan g e)
-  pub cpu_is : ShowsCpu cpu (next_cpu c e)
+    RowNormal plan bytes c (entry_of (ask_hypervisor c) mark cmd (deed_at_address plan bytes (ask_hypervisor c) ra cmd)) cpu_new normal_new answer
 
 -- UV_RETURN of the hypervisor, whatever guest and CPU of the model are shown
-abbrev pub DoesReturn : {S : Type 0} → ℕ → ℕ → List ℕ → Guest S → Guest S → Cpu → Cpu → Answer → Type 0
-DoesReturn r0 r2 outs old new cpu cpu_new answer =
-    (plan : Plan) (g : GuestWhole) (c : CpuPart) (mark : Mark) → mark.cpu ≡ cpu.number → Shows plan old g → ShowsCpu cpu c →
-    RowReturn plan g c (entry_of (ask_hypervisor c) mark (UReturn r0 r2 outs) (deed_return g.part (ask_hypervisor c))) new cpu_new answer
+abbrev pub DoesReturn : {S : Type 0} → (S → Tag → List ℕ → List ℕ → Type 0) → (S → Tag → List ℕ → List ℕ) → ℕ → ℕ → List ℕ → Guest S → Guest S → Cpu → Cpu → Answer → Type 0
+DoesReturn stands image r0 r2 outs old new cpu cpu_new answer =
+    (plan : Plan) (g : GuestWhole) (c : CpuPart) (mark : Mark) → mark.cpu ≡ cpu.number → Shows stands image plan old g → ShowsCpu cpu c →
+    Row stands image plan g c (entry_of (ask_hypervisor c) mark (UReturn r0 r2 outs) (deed_return g.part (ask_hypervisor c))) new cpu_new answer
 
 -- the hypervisor runs on a CPU
 abbrev pub IsInHypervisor : Cpu → Type 0
@@ -163,6 +118,7 @@ pub record KeepsSelection (old new : Cpu) : Type 0 where
 -- a context after UV_RETURN: the hypervisor runs, or the selected vCPU does, in its guest's generation, in a phase that lets it run
 abbrev pub Enters : {S : Type 0} → Guest S → Cpu → Ctx → Type 0
 Enters guest cpu ctx.Hv = Unit {0}
+Enters guest cpu (ctx.Uv work) = ⊥
 Enters guest cpu (ctx.Guest run) = (run ≡ record { lpid = cpu.lpid; vid = cpu.vid; generation = guest.generation }) × (may_return_in guest.phase ≡ true)
 
 -- what UV_RETURN changes of a CPU
@@ -173,12 +129,14 @@ pub record ReturnsOn {S : Type 0} (guest : Guest S) (old new : Cpu) : Type 0 whe
   pub hand : new.hand ≡ old.hand
   pub ctx : Enters guest old new.ctx
 
--- whether a command is a load or store of the hypervisor, which names a real address
-abbrev pub has_real_address : Cmd → Bool
-has_real_address (HLd ra) = true
-has_real_address (HSt ra value) = true
-has_real_address (UReturn r0 r2 outs) = false
-has_real_address (GLi rd value) = false
-has_real_address (GLd rd gpa) = false
-has_real_address (GSt rs gpa) = false
-has_real_address GIrq = false
+-- whether a command is one that no guest gives: a load or store of the hypervisor, or the next step of a call
+abbrev pub is_no_guests : Cmd → Bool
+is_no_guests (HLd ra) = true
+is_no_guests (HSt ra value) = true
+is_no_guests (UPageout lpid dest gpa flags order) = false
+is_no_guests (UReturn r0 r2 outs) = false
+is_no_guests (GLi rd value) = false
+is_no_guests (GLd rd gpa) = false
+is_no_guests (GSt rs gpa) = false
+is_no_guests GIrq = false
+is_no_guests Go = true

@@ -2,6 +2,7 @@
 use Rattle.std.specs.Prelude.{◌≡◌, ℕ, ◌+◌, ◌^◌, List, length}
 use Rattle.pef_model.specs.declared.config.Config.{Config}
 use Rattle.pef_model.specs.declared.state.Tag.{Tag}
+use Rattle.pef_model.specs.Seal as seal
 use Rattle.pef_seal.specs.Serves.{Serves}
 use Rattle.pef_guest.specs.declared.cpu.Cpu.{Cpu}
 use Rattle.pef_guest.specs.declared.guest.Guest.{Guest}
@@ -19,12 +20,13 @@ pub record AreStartCpus (config : Config) (cpus : List Cpu) : Type 0 where
   pub count : length cpus ≡ config.cpus
   pub each : Each (λ n cpu. IsStartCpu n (2 ^ config.shift) cpu) cpus
 
--- a guest as it begins, whole, whatever its sealer is
-pub record Begins {S : Type 0} (takes : S → ℕ → ℕ → Type 0) (config : Config) (lpid : ℕ) (guest : Guest S) : Type 0 where
+-- a guest as it begins, whole, whatever its sealer is, which writes the configuration's sealed pages
+pub record Begins {S : Type 0} (image : S → Tag → List ℕ → List ℕ) (takes : S → ℕ → ℕ → Type 0) (config : Config) (lpid : ℕ) (guest : Guest S) : Type 0 where
   pub start : IsStartGuest config lpid guest.sealer guest
   pub whole : IsWhole takes guest
+  pub images : image guest.sealer ≡ seal.image config
 
 -- these are the guests of a configuration as they begin
-pub record AreStartGuests {S : Type 0} (takes : S → ℕ → ℕ → Type 0) (config : Config) (guests : List (Guest S)) : Type 0 where
+pub record AreStartGuests {S : Type 0} (image : S → Tag → List ℕ → List ℕ) (takes : S → ℕ → ℕ → Type 0) (config : Config) (guests : List (Guest S)) : Type 0 where
   pub count : length guests ≡ config.guests
-  pub each : Each (λ i guest. Begins takes config (i + 1) guest) guests
+  pub each : Each (λ i guest. Begins image takes config (i + 1) guest) guests

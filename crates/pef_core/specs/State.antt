@@ -1,12 +1,15 @@
 -- The machine as its clauses see it, and what its type keeps.
 use Rattle.std.specs.Prelude.{◌≡◌, ℕ, ◌+◌, ◌-◌, ◌^◌, ◌==◌, ◌<◌, ◌≤◌, nat_lt, true, if◌then◌else◌, List, ◌++◌, length, Option, Some, None, slice_get}
 use Rattle.std.specs.List.{count_by, flat_map}
+use Rattle.pef_model.specs.declared.state.Way.TheVariants as way
+use Rattle.pef_model.specs.declared.state.Move.{Move}
+use Rattle.pef_model.specs.declared.state.Work.TheVariants.{Outward}
 use Rattle.pef_model.specs.declared.state.Ctx.{Ctx}
 use Rattle.pef_model.specs.declared.state.Ctx.TheVariants as ctx
 use Rattle.pef_model.specs.Deed.{may_return_in}
 use Rattle.pef_frames.specs.Frame.{numbers_of}
 use Rattle.pef_frames.specs.Pool.{PoolState}
-use Rattle.pef_pages.specs.Pages.{held}
+use Rattle.pef_pages.specs.Pages.{mover_at, held}
 use Rattle.pef_guest.specs.declared.cpu.Cpu.{Cpu}
 use Rattle.pef_guest.specs.declared.guest.Guest.{Guest}
 use Rattle.pef_guest.specs.Whole.{IsWhole}
@@ -39,23 +42,36 @@ abbrev pub MayRun : {S : Type 0} → Option (Guest S) → ℕ → Type 0
 MayRun None generation = ⊥
 MayRun (Some guest) generation = generation ≡ guest.generation → may_return_in guest.phase ≡ true
 
--- what a CPU runs is a vCPU of the machine
-abbrev pub RunsVcpu : {S : Type 0} → List (Guest S) → Ctx → Type 0
-RunsVcpu guests ctx.Hv = Unit {0}
-RunsVcpu guests (ctx.Guest run) = IsVcpu guests run.lpid run.vid × MayRun (guest_at guests run.lpid) run.generation
+-- where a guest is still in a generation, this CPU moves its page of this number outward
+abbrev pub MovesOutward : {S : Type 0} → Option (Guest S) → ℕ → ℕ → ℕ → Type 0
+MovesOutward None generation gfn n = ⊥
+MovesOutward (Some guest) generation gfn n = generation ≡ guest.generation → mover_at guest.pages gfn ≡ Some (record { cpu = n; way = way.Outward })
 
--- a CPU has its number and a hand of one page, and selects and runs vCPUs of the machine
-pub record IsCpuOf {S : Type 0} (guests : List (Guest S)) (shift n : ℕ) (cpu : Cpu) : Type 0 where
+-- a page-out of a CPU is one of a page of the machine, into one of its normal frames
+pub record IsMoveOf {S : Type 0} (guests : List (Guest S)) (normal : NormalState) (n : ℕ) (move : Move) : Type 0 where
+  pub least : 1 ≤ move.lpid
+  pub moves : MovesOutward (guest_at guests move.lpid) move.generation move.gfn n
+  pub frame : move.frame < length normal.frames
+
+-- what a CPU runs is a vCPU of the machine, and what it moves is a page
+abbrev pub Works : {S : Type 0} → List (Guest S) → NormalState → ℕ → Ctx → Type 0
+Works guests normal n ctx.Hv = Unit {0}
+Works guests normal n (ctx.Uv (Outward move)) = IsMoveOf guests normal n move
+Works guests normal n (ctx.Guest run) = IsVcpu guests run.lpid run.vid × MayRun (guest_at guests run.lpid) run.generation
+
+-- a CPU has its number and a hand of one page, selects and runs vCPUs of the machine, and moves its pages
+pub record IsCpuOf {S : Type 0} (guests : List (Guest S)) (normal : NormalState) (n : ℕ) (cpu : Cpu) : Type 0 where
   pub number : cpu.number ≡ n
   pub selects : IsVcpu guests cpu.lpid cpu.vid
-  pub runs : RunsVcpu guests cpu.ctx
-  pub hand : length cpu.hand ≡ 2 ^ shift
+  pub works : Works guests normal n cpu.ctx
+  pub hand : length cpu.hand ≡ 2 ^ normal.shift
 
 -- a guest is whole, has its number and the machine's sizes, and no more steps than the machine
 pub record IsGuestOf {S : Type 0} (takes : S → ℕ → ℕ → Type 0) (m : State S) (i : ℕ) (guest : Guest S) : Type 0 where
   pub whole : IsWhole takes guest
   pub lpid : guest.lpid ≡ i + 1
   pub shift : guest.shift ≡ m.normal.shift
+  pub normal : guest.normal ≡ length m.normal.frames
   pub secure : guest.secure ≡ m.pool.count
   pub steps : guest.steps ≤ m.steps
 
@@ -73,7 +89,7 @@ Each {X = X} P xs = (n : ℕ) (x : X) → slice_get xs n ≡ Some x → P n x
 
 -- a machine is whole
 pub record IsWholeMachine {S : Type 0} (takes : S → ℕ → ℕ → Type 0) (m : State S) : Type 0 where
-  pub cpus : Each (IsCpuOf m.guests m.normal.shift) m.cpus
+  pub cpus : Each (IsCpuOf m.guests m.normal) m.cpus
   pub guests : Each (IsGuestOf takes m) m.guests
   pub size : m.pool.size ≡ 2 ^ m.normal.shift
   pub frames_once : FramesOnce m

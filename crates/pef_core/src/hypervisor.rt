@@ -4,7 +4,8 @@ ghost use Rattle.std.specs.Prelude.{◌≡◌, ◌^◌, ◌<◌, length};
 ghost use Rattle.pef_guest.specs.Whole.{IsWhole};
 ghost use Rattle.pef_model.specs.declared.command.Cmd.TheVariants.{HLd, HSt};
 ghost use Rattle.pef_core.specs.Refused.{LeavesNormal, LeavesReturn};
-ghost use Rattle.pef_core.specs.Rows.{DoesNormal, DoesReturn, IsInHypervisor, KeepsSelection, ReturnsOn, KeepsGuest};
+ghost use Rattle.pef_core.specs.Rows.{DoesNormal, DoesReturn, IsInHypervisor, KeepsSelection, ReturnsOn};
+ghost use Rattle.pef_guest.specs.Keeps.{KeepsGuest, KeepsMovers};
 
 use crate::normal::Normal;
 use pef_guest::{Cpu, Guest, registers};
@@ -30,6 +31,7 @@ pub fn store(cpu: &mut Cpu, normal: &mut Normal, ra: u64, value: u64) -> Answer
     requires { IsInHypervisor cpu.old }
     ensures keeps { KeepsSelection cpu.old cpu.new }
     ensures shift { normal.new.shift ≡ normal.old.shift }
+    ensures count { length normal.new.frames ≡ length normal.old.frames }
     ensures refused { LeavesNormal cpu.old cpu.new normal.old normal.new result }
     ensures row { DoesNormal ra (HSt ra value) cpu.old cpu.new normal.old normal.new result }
 {
@@ -55,10 +57,11 @@ pub fn uv_return<S: Seal>(
     requires steps { guest.old.steps < 2 ^ 63 }
     ensures whole { IsWhole S.takes guest.new }
     ensures keeps { KeepsGuest guest.old guest.new }
+    ensures movers { KeepsMovers cpu.old.number guest.old guest.new }
     ensures pages { guest.new.pages ≡ guest.old.pages }
     ensures returns { ReturnsOn guest.new cpu.old cpu.new }
     ensures refused { LeavesReturn guest.old guest.new cpu.old cpu.new result }
-    ensures row { DoesReturn r0 r2 outs.now guest.old guest.new cpu.old cpu.new result }
+    ensures row { DoesReturn S.stands S.image r0 r2 outs.now guest.old guest.new cpu.old cpu.new result }
 {
     guest.steps += 1;
     registers::load_return(&mut cpu.gpr, r0, r2, outs);

@@ -1,7 +1,8 @@
 //! The steps of the machine, one after another, are the history that the model gives.
 
-ghost use Rattle.std.specs.Prelude.{◌≡◌, ◌+◌, ◌^◌, ◌<◌, ◌≤◌, [], ℕ, length, IfOk, Some, slice_get};
+ghost use Rattle.std.specs.Prelude.{◌≡◌, ◌+◌, ◌^◌, ◌<◌, ◌≤◌, ◌&&◌, nat_le, [], ℕ, false, length, IfOk, IfSome, Some, slice_get, true};
 ghost use Rattle.pef_model.specs.Plan.{IsInRange, plan_of};
+ghost use Rattle.pef_model.specs.Run.{is_in_progress};
 ghost use Rattle.pef_seal.specs.Serves.{Serves};
 ghost use Rattle.pef_guest.specs.Start.{IsStartCpu};
 ghost use Rattle.pef_core.specs.Normal.{frame_at};
@@ -10,13 +11,15 @@ ghost use Rattle.pef_core.specs.Start.{IsServed, AreStartCpus, AreStartGuests};
 ghost use Rattle.pef_core.specs.Steps.{Fits, Continues};
 ghost use Rattle.pef_core.specs.Refused.{LeavesRest};
 ghost use Rattle.pef_guest.specs.declared.cpu.Cpu.{Cpu};
-ghost use Rattle.pef_core.specs.Rows.{has_real_address};
+ghost use Rattle.pef_core.specs.Places.{EachPageIsPlaced};
+ghost use Rattle.pef_core.specs.Rows.{is_no_guests};
 
 use crate::normal::Normal;
 use crate::{hypervisor, running};
 use pef_frames::{NormalFrame, Pool};
 use pef_guest::{Cpu, Guest};
-use pef_model::{Answer, Cmd, Config, Ctx, Run};
+use pef_model::{Answer, Cmd, Config, Ctx, Move, Run, Work};
+use pef_move::PageCall;
 use pef_seal::Seal;
 use std::alloc::{AllocError, Global};
 use std::marker::Model;
@@ -64,7 +67,7 @@ fn build_guests<S: Seal>(
 ) -> Result<Vec<Guest<S>>, AllocError>
     requires range { IsInRange config.now }
     requires sealers { IsServed config.now S.image S.takes sealers.items }
-    ensures { IfOk result (λ guests. AreStartGuests S.takes config.now guests.items) }
+    ensures { IfOk result (λ guests. AreStartGuests S.image S.takes config.now guests.items) }
 {
     let mut guests = Vec::new(alloc);
     for sealer in sealers {
@@ -74,14 +77,18 @@ fn build_guests<S: Seal>(
     Ok(guests)
 }
 
-/// Whether a command is a load or store of the hypervisor, which names a real address.
-fn has_real_address(cmd: &Cmd) -> bool
-    ensures { result ≡ has_real_address cmd.now }
+/// Whether a command is one that no guest gives: a load or store of the hypervisor, or the next step of a call.
+fn is_no_guests(cmd: &Cmd) -> bool
+    ensures { result ≡ is_no_guests cmd.now }
 {
     match cmd {
-        Cmd::HLd { .. } | Cmd::HSt { .. } => true,
-        Cmd::UReturn { .. } | Cmd::GLi { .. } | Cmd::GLd { .. } | Cmd::GSt { .. } | Cmd::GIrq =>
-            false,
+        Cmd::HLd { .. } | Cmd::HSt { .. } | Cmd::Go => true,
+        Cmd::UPageout { .. }
+        | Cmd::UReturn { .. }
+        | Cmd::GLi { .. }
+        | Cmd::GLd { .. }
+        | Cmd::GSt { .. }
+        | Cmd::GIrq => false,
     }
 }
 
@@ -91,7 +98,7 @@ impl<S: Seal> Machine<S> {
     pub fn build(alloc: Global, config: &Config, sealers: Vec<S>) -> Result<Machine<S>, AllocError>
         requires range { IsInRange config.now }
         requires sealers { IsServed config.now S.image S.takes sealers.items }
-        ensures fits { IfOk result (λ machine. Fits (plan_of config.now) machine []) }
+        ensures fits { IfOk result (λ machine. Fits S.stands S.image (plan_of config.now) machine []) }
         ensures frames_once { IfOk result FramesOnce }
         ensures steps { IfOk result (λ machine. machine.steps ≡ 0) }
     {
@@ -112,7 +119,7 @@ impl<S: Seal> Machine<S> {
     pub fn step(&mut self, cpu: u8, cmd: &Cmd) -> Answer
         requires cpu { cpu < length self.old.cpus }
         requires count { self.old.steps < 2 ^ 63 }
-        ensures step { Continues self.old self.new cpu cmd.now result }
+        ensures step { Continues S.stands S.image self.old self.new cpu cmd.now result }
         ensures frames_once { FramesOnce self.new }
         ensures refused { (own : Cpu) → slice_get self.old.cpus cpu ≡ Some own → LeavesRest cpu own.ctx self.old self.new result }
         ensures count { self.new.steps ≡ self.old.steps + 1 }
@@ -121,6 +128,7 @@ impl<S: Seal> Machine<S> {
         self.steps += 1;
         match self.cpus[cpu as usize].ctx {
             Ctx::Hv => self.step_hypervisor(cpu, cmd),
+            Ctx::Uv(work) => self.step_working(cpu, work, cmd),
             Ctx::Guest(run) => self.step_running(cpu, run, cmd),
         }
     }
@@ -132,7 +140,7 @@ impl<S: Seal> Machine<S> {
         requires frames_once { FramesOnce self.old }
         ensures frames_once { FramesOnce self.new }
         ensures refused { LeavesRest cpu Ctx.Hv self.old self.new result }
-        ensures step { Continues self.old self.new cpu cmd.now result }
+        ensures step { Continues S.stands S.image self.old self.new cpu cmd.now result }
         ensures count { self.new.steps ≡ self.old.steps }
         ensures cpus { length self.new.cpus ≡ length self.old.cpus }
     {
@@ -142,12 +150,106 @@ impl<S: Seal> Machine<S> {
                 let own = &mut self.cpus[cpu as usize];
                 hypervisor::store(own, &mut self.normal, *ra, *value)
             }
+            Cmd::UPageout {
+                lpid,
+                dest,
+                gpa,
+                flags,
+                order,
+            } => self.step_page_out(
+                cpu,
+                PageCall {
+                    lpid: *lpid,
+                    ra: *dest,
+                    gpa: *gpa,
+                    flags: *flags,
+                    order: *order,
+                },
+            ),
             Cmd::UReturn { r0, r2, outs } => self.step_return(cpu, *r0, *r2, outs),
             Cmd::GLi { .. } => Answer::Context,
             Cmd::GLd { .. } => Answer::Context,
             Cmd::GSt { .. } => Answer::Context,
             Cmd::GIrq => Answer::Context,
+            Cmd::Go => Answer::Context,
         }
+    }
+
+    /// UV_PAGE_OUT on a CPU on which the hypervisor runs. U_PARAMETER where it names no guest.
+    fn step_page_out(&mut self, cpu: u8, call: PageCall) -> Answer
+        requires hypervisor { HasContext self.old.cpus cpu Ctx.Hv }
+        requires steps { HasSteps self.old }
+        requires frames_once { FramesOnce self.old }
+        ensures frames_once { FramesOnce self.new }
+        ensures refused { LeavesRest cpu Ctx.Hv self.old self.new result }
+        ensures step { Continues S.stands S.image self.old self.new cpu (Cmd.UPageout call.lpid call.ra call.gpa call.flags call.order) result }
+        ensures count { self.new.steps ≡ self.old.steps }
+        ensures cpus { length self.new.cpus ≡ length self.old.cpus }
+    {
+        if !self.has_guest(call.lpid) {
+            return pef_move::page_out_of_none(&mut self.cpus[cpu as usize], &call);
+        }
+        let own = &mut self.cpus[cpu as usize];
+        let guest = &mut self.guests[call.lpid as usize - 1];
+        pef_move::page_out_begin(guest, own, &call)
+    }
+
+    /// Whether a number is that of a guest, from 1.
+    fn has_guest(&self, lpid: u64) -> bool
+        ensures { result ≡ (nat_le 1 lpid && nat_le lpid (length self.now.guests)) }
+    {
+        1 <= lpid && lpid <= self.guests.len() as u64
+    }
+
+    /// A command on a CPU with a call in progress: its next step, and no other.
+    fn step_working(&mut self, cpu: u8, work: Work, cmd: &Cmd) -> Answer
+        requires working { HasContext self.old.cpus cpu (Ctx.Uv work) }
+        requires steps { HasSteps self.old }
+        requires frames_once { FramesOnce self.old }
+        ensures frames_once { FramesOnce self.new }
+        ensures refused { LeavesRest cpu (Ctx.Uv work) self.old self.new result }
+        ensures step { Continues S.stands S.image self.old self.new cpu cmd.now result }
+        ensures count { self.new.steps ≡ self.old.steps }
+        ensures cpus { length self.new.cpus ≡ length self.old.cpus }
+    {
+        match (cmd, work) {
+            (Cmd::Go, Work::Outward(outward)) if outward.copied => self.step_page_out_end(
+                cpu, outward,
+            ),
+            (Cmd::Go, Work::Outward(outward)) => self.step_page_out_copy(cpu, outward),
+            _ => Answer::Context,
+        }
+    }
+
+    /// The copy of a page-out: what the CPU has in its hand goes into the normal frame that the call names.
+    fn step_page_out_copy(&mut self, cpu: u8, outward: Move) -> Answer
+        requires working { HasContext self.old.cpus cpu (Ctx.Uv (Work.Outward outward)) }
+        requires copied { outward.copied ≡ false }
+        requires frames_once { FramesOnce self.old }
+        ensures frames_once { FramesOnce self.new }
+        ensures refused { LeavesRest cpu (Ctx.Uv (Work.Outward outward)) self.old self.new result }
+        ensures step { Continues S.stands S.image self.old self.new cpu Cmd.Go result }
+        ensures count { self.new.steps ≡ self.old.steps }
+        ensures cpus { length self.new.cpus ≡ length self.old.cpus }
+    {
+        self.normal.copy_out(&mut self.cpus[cpu as usize], outward)
+    }
+
+    /// The end of a page-out, at the guest whose page it is.
+    fn step_page_out_end(&mut self, cpu: u8, outward: Move) -> Answer
+        requires working { HasContext self.old.cpus cpu (Ctx.Uv (Work.Outward outward)) }
+        requires copied { outward.copied ≡ true }
+        requires steps { HasSteps self.old }
+        requires frames_once { FramesOnce self.old }
+        ensures frames_once { FramesOnce self.new }
+        ensures refused { LeavesRest cpu (Ctx.Uv (Work.Outward outward)) self.old self.new result }
+        ensures step { Continues S.stands S.image self.old self.new cpu Cmd.Go result }
+        ensures count { self.new.steps ≡ self.old.steps }
+        ensures cpus { length self.new.cpus ≡ length self.old.cpus }
+    {
+        let own = &mut self.cpus[cpu as usize];
+        let guest = &mut self.guests[outward.lpid as usize - 1];
+        pef_move::page_out_end(guest, own, outward, &mut self.pool)
     }
 
     /// UV_RETURN on a CPU on which the hypervisor runs.
@@ -157,7 +259,7 @@ impl<S: Seal> Machine<S> {
         requires frames_once { FramesOnce self.old }
         ensures frames_once { FramesOnce self.new }
         ensures refused { LeavesRest cpu Ctx.Hv self.old self.new result }
-        ensures step { Continues self.old self.new cpu (Cmd.UReturn r0 r2 outs.now) result }
+        ensures step { Continues S.stands S.image self.old self.new cpu (Cmd.UReturn r0 r2 outs.now) result }
         ensures count { self.new.steps ≡ self.old.steps }
         ensures cpus { length self.new.cpus ≡ length self.old.cpus }
     {
@@ -173,11 +275,11 @@ impl<S: Seal> Machine<S> {
         requires frames_once { FramesOnce self.old }
         ensures frames_once { FramesOnce self.new }
         ensures refused { LeavesRest cpu (Ctx.Guest run) self.old self.new result }
-        ensures step { Continues self.old self.new cpu cmd.now result }
+        ensures step { Continues S.stands S.image self.old self.new cpu cmd.now result }
         ensures count { self.new.steps ≡ self.old.steps }
         ensures cpus { length self.new.cpus ≡ length self.old.cpus }
     {
-        if has_real_address(cmd) {
+        if is_no_guests(cmd) {
             return Answer::Context;
         }
         if run.generation != self.guests[run.lpid as usize - 1].generation {
@@ -186,6 +288,22 @@ impl<S: Seal> Machine<S> {
         let own = &mut self.cpus[cpu as usize];
         let guest = &mut self.guests[run.lpid as usize - 1];
         running::command(guest, own, &mut self.pool, run, cmd)
+    }
+
+    /// Whether a CPU, which is below the number of CPUs, has a call in progress.
+    pub fn is_in_progress(&self, cpu: u8) -> bool
+        requires { cpu < length self.now.cpus }
+        ensures { IfSome (slice_get self.now.cpus cpu) (λ (own : Cpu). result ≡ is_in_progress own.ctx) }
+    {
+        matches!(self.cpus[cpu as usize].ctx, Ctx::Uv(_))
+    }
+
+    /// Each page of the machine has the one copy that counts in the place that the model names, whatever history fits the
+    /// machine. It does nothing.
+    pub fn each_page_is_placed(&self)
+        ensures { EachPageIsPlaced S.stands S.image self.now }
+    {
+        let _ = &self.cpus;
     }
 
     /// How many steps were done.

@@ -1,13 +1,16 @@
 //! The normal frames are all of one size, and a store changes one doubleword of one of them.
 
-ghost use Rattle.std.specs.Prelude.{◌≡◌, ◌+◌, ◌^◌, ◌<◌, ◌≤◌, length, IfOk, IfSome, if◌then◌else◌};
+ghost use Rattle.std.specs.Prelude.{◌≡◌, ◌+◌, ◌^◌, ◌<◌, ◌≤◌, length, slice_set, true, IfOk, IfSome, if◌then◌else◌};
 ghost use Rattle.pef_model.specs.Plan.{IsWithin};
 ghost use Rattle.pef_model.specs.Doubleword.{doubleword};
+ghost use Rattle.pef_move.specs.PageOut.{CopiesPageOut};
 ghost use Rattle.pef_core.specs.Access.{has_place, place_at};
 ghost use Rattle.pef_core.specs.Normal.{zero_frames, frame_at, with_value, IsPlaceIn};
 
 use crate::place::place_below;
 use pef_frames::NormalFrame;
+use pef_guest::Cpu;
+use pef_model::{Answer, Ctx, Move, Work};
 use pef_num::Place;
 use std::alloc::{AllocError, Global};
 use std::marker::Model;
@@ -79,5 +82,18 @@ impl Normal {
         ensures { self.new ≡ with_value self.old place.page place.off value }
     {
         self.frames[place.page as usize].store(place.off, value);
+    }
+
+    /// The copy of a page-out: the CPU's hand is written into the normal frame that the call in progress names.
+    pub fn copy_out(&mut self, cpu: &mut Cpu, outward: Move) -> Answer
+        requires working { cpu.old.ctx ≡ Ctx.Uv (Work.Outward outward) }
+        requires frame { outward.frame < length self.old.frames }
+        requires hand { length cpu.old.hand ≡ 2 ^ self.old.shift }
+        ensures answer { result ≡ Answer.Step }
+        ensures cpu { cpu.new ≡ record cpu.old { ctx = Ctx.Uv (Work.Outward (record outward { copied = true })) } }
+        ensures normal { self.new ≡ record self.old { frames = slice_set self.old.frames outward.frame cpu.old.hand } }
+        ensures row { CopiesPageOut outward cpu.old cpu.new (frame_at self.old.frames outward.frame) cpu.old.hand result }
+    {
+        pef_move::page_out_copy(cpu, outward, &mut self.frames[outward.frame as usize])
     }
 }

@@ -1,7 +1,7 @@
 //! What a running guest's own commands do is what the model says, whatever the guest has kept so far.
 
 ghost use Rattle.std.specs.Prelude.{◌≡◌, ◌^◌, ◌<◌, ◌≤◌, length, slice_index, slice_set};
-ghost use Rattle.pef_model.specs.Registers.{load_return, with_code};
+ghost use Rattle.pef_model.specs.Registers.{load_return, load_call, with_code};
 ghost use Rattle.pef_model.specs.Guest.{at_next_instruction};
 ghost use Rattle.pef_model.specs.Plan.{IsWithin};
 ghost use Rattle.pef_frames.specs.Frame.{FrameState};
@@ -9,12 +9,13 @@ ghost use Rattle.pef_pages.specs.Pages.{PagesState, frame_at};
 ghost use Rattle.pef_guest.specs.Whole.{IsWhole};
 ghost use Rattle.pef_core.specs.Access.{place_at, reach_at, pages_after, pool_after, TakesBelow, HaveFrames, doubleword_in, stored_at};
 ghost use Rattle.pef_core.specs.Refused.{LeavesCommand, RefusesVcpu};
-ghost use Rattle.pef_core.specs.Rows.{access_answer, with_registers, vcpu_after, DoesCommand, IsRunning, IsPoolOf, KeepsGuest, KeepsFrames, StaysOrLeaves, left_by};
+ghost use Rattle.pef_core.specs.Rows.{access_answer, with_registers, vcpu_after, DoesCommand, IsRunning, StaysOrLeaves, left_by};
+ghost use Rattle.pef_guest.specs.Keeps.{IsPoolOf, KeepsGuest, KeepsFrames, KeepsMovers};
 
 use crate::access;
 use pef_frames::{Pool, SecFrame};
 use pef_guest::{Cpu, Guest, Vcpu, registers};
-use pef_model::{Answer, Cmd, Code, Exit, Pending, Reg, Run, VState};
+use pef_model::{Answer, Cmd, Code, Exit, Pending, Reg, Run, UV_PAGE_OUT, VState};
 use pef_pages::Pages;
 use pef_seal::Seal;
 
@@ -28,6 +29,18 @@ fn refuse_return(vcpu: &mut Vcpu, r0: u64, r2: u64, outs: &[u64; 9]) -> Answer
     registers::give_code(&mut vcpu.regs.gpr, Code::UInvalid);
     registers::move_on(&mut vcpu.regs);
     Answer::Ret(Code::UInvalid)
+}
+
+/// UV_PAGE_OUT of a guest: it always comes back with U_PERMISSION, since only the hypervisor pages out.
+fn refuse_page_out(vcpu: &mut Vcpu, operands: [u64; 5]) -> Answer
+    ensures answer { result ≡ Answer.Ret Code.UPermission }
+    ensures refused { RefusesVcpu vcpu.old vcpu.new Code.UPermission }
+    ensures vcpu { vcpu.new ≡ with_registers vcpu.old (at_next_instruction vcpu.old.regs (with_code (load_call vcpu.old.regs.gpr UV_PAGE_OUT operands) Code.UPermission)) }
+{
+    registers::load_page_out(&mut vcpu.regs.gpr, operands);
+    registers::give_code(&mut vcpu.regs.gpr, Code::UPermission);
+    registers::move_on(&mut vcpu.regs);
+    Answer::Ret(Code::UPermission)
 }
 
 /// The guest puts a value into a register.
@@ -121,15 +134,23 @@ pub fn command<S: Seal>(
     requires steps { guest.old.steps < 2 ^ 63 }
     ensures whole { IsWhole S.takes guest.new }
     ensures keeps { KeepsGuest guest.old guest.new }
+    ensures movers { KeepsMovers cpu.old.number guest.old guest.new }
     ensures frames { KeepsFrames guest.old guest.new pool.old pool.new }
     ensures cpu { StaysOrLeaves run cpu.old cpu.new result }
     ensures refused { LeavesCommand run.vid guest.old guest.new pool.old pool.new result }
-    ensures row { DoesCommand run cmd.now guest.old guest.new cpu.old cpu.new pool.old pool.new result }
+    ensures row { DoesCommand S.stands S.image run cmd.now guest.old guest.new cpu.old cpu.new pool.old pool.new result }
 {
     guest.steps += 1;
     let vcpu = &mut guest.vcpus[run.vid as usize];
     match cmd {
-        Cmd::HLd { .. } | Cmd::HSt { .. } => Answer::Context,
+        Cmd::HLd { .. } | Cmd::HSt { .. } | Cmd::Go => Answer::Context,
+        Cmd::UPageout {
+            lpid,
+            dest,
+            gpa,
+            flags,
+            order,
+        } => refuse_page_out(vcpu, [*lpid, *dest, *gpa, *flags, *order]),
         Cmd::UReturn { r0, r2, outs } => refuse_return(vcpu, *r0, *r2, outs),
         Cmd::GLi { rd, value } => load_immediate(vcpu, *rd, *value),
         Cmd::GLd { rd, gpa } => load(&mut guest.pages, pool, vcpu, guest.shift, *rd, *gpa),

@@ -55,7 +55,7 @@ fn fails(alloc: Global, number: Option<u64>) -> Result<Vec<u64>, AllocError> {
 }
 
 /// A top call with the words that a space separates.
-fn call<S: Source, K: Sink>(
+pub fn call<S: Source, K: Sink>(
     alloc: Global,
     words: &str,
     source: &mut S,

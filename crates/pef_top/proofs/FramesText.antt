@@ -1,6 +1,7 @@
 -- The text of the normal frames, one frame after another.
 use Rattle.std.proofs.Common.{◌≡◌, ℕ, zero, suc, ◌<◌, List, [], ◌++◌, length, refl, ap, sym, ◌∙◌, arith, append_assoc, append-nil, inl, inr}
 use Rattle.std.proofs.lemmas.Bool.{cases_lt}
+use Rattle.pef_model.specs.declared.state.Tag.{Tag}
 use Rattle.pef_model.specs.Event.{Event}
 use Rattle.pef_model.specs.History.{frame_after}
 use Rattle.pef_model.specs.Plan.{Plan}
@@ -42,8 +43,8 @@ abbrev pub frames_after : Plan → List Event → List ℕ
 frames_after plan past = frames_below plan.normal (λ n. frame_after plan n past)
 
 -- the normal frames of a machine that fits a history have the text of those after it
-pub frames_text-fits : {S : Type 0} (plan : Plan) (machine : State S) (past : List Event) → Fits plan machine past → frames_text machine.normal.frames ≡ frames_after plan past
-frames_text-fits plan machine past fits =
+pub frames_text-fits : {S : Type 0} (stands : S → Tag → List ℕ → List ℕ → Type 0) (image : S → Tag → List ℕ → List ℕ) (plan : Plan) (machine : State S) (past : List Event) → Fits stands image plan machine past → frames_text machine.normal.frames ≡ frames_after plan past
+frames_text-fits stands image plan machine past fits =
     let frames : List (List ℕ) = machine.normal.frames in
     let shown = fits.normal_is in
     frames_below-alike (length frames) (frame_at frames) (λ n. frame_after plan n past) (λ i below. shown.bytes i (omega (arith, shown.count)))

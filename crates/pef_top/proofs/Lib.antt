@@ -6,4 +6,5 @@ pub mod OneWord
 pub mod LineText
 pub mod FramesText
 pub mod RunText
+pub mod GoSteps
 pub mod Pairs

@@ -4,7 +4,7 @@ use Rattle.std.specs.Prelude.{Option, Some, None, IfSome, option_map, option_and
 use Rattle.std.specs.List.{slice_split}
 use Rattle.std.proofs.lemmas.List.Splits.{length-slice_split}
 use Rattle.pef_model.specs.Header.{word_after}
-use Rattle.pef_model.specs.Script.{Line, command_in, command_lines, before_lines, line_in}
+use Rattle.pef_model.specs.Script.{Line, directive_in, command_lines, before_lines, line_in}
 use Rattle.pef_model.specs.Words.{words_of, lines_of}
 use Rattle.pef_model.proofs.ScriptLines.{onto_lines, lines_first}
 
@@ -38,14 +38,14 @@ pub commands_first : (cpus number : ℕ) (text line rest : List ℕ) → slice_s
     option_and_then (command_lines cpus number) (lines_of text) ≡ before_lines (line_in cpus number (words_of line)) (option_and_then (command_lines cpus (number + 1)) (lines_of rest))
 commands_first cpus number text line rest e = ap (option_and_then (command_lines cpus number)) (lines_first text line rest e) ∙ commands_onto cpus number line (lines_of rest)
 
--- words of a name and three or more operands are no command
-pub more_words : (name first second rest : List ℕ) → command_in (name ∷ first ∷ second ∷ words_of rest) ≡ None
-more_words name first second rest =
-    elim_words name first second (words_of rest) (omega (arith, length-slice_split (λ b. b == 32) rest))
+-- words of a name and six or more operands are no directive
+pub more_words : (name first second third fourth fifth rest : List ℕ) → directive_in (name ∷ first ∷ second ∷ third ∷ fourth ∷ fifth ∷ words_of rest) ≡ None
+more_words name first second third fourth fifth rest =
+    elim_words (words_of rest) (omega (arith, length-slice_split (λ b. b == 32) rest))
   where
-    elim_words : (name first second : List ℕ) (words : List (List ℕ)) → 0 < length words → command_in (name ∷ first ∷ second ∷ words) ≡ None
-    elim_words name first second [] h = absurd (omega arith)
-    elim_words name first second (third ∷ more) h = refl
+    elim_words : (words : List (List ℕ)) → 0 < length words → directive_in (name ∷ first ∷ second ∷ third ∷ fourth ∷ fifth ∷ words) ≡ None
+    elim_words [] h = absurd (omega arith)
+    elim_words (sixth ∷ more) h = refl
 
 at_onto : (P : List (List ℕ) → Type 0) (line : List ℕ) (lines : Option (List (List ℕ))) → ((rest : List (List ℕ)) → P (line ∷ rest)) → IfSome (onto_lines line lines) P
 at_onto P line None holds = tt

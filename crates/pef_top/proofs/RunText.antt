@@ -1,45 +1,64 @@
 -- The text of a run, one line of the script after another.
-use Rattle.std.proofs.Common.{◌≡◌, ℕ, List, [], ◌∷◌, ◌++◌, reverse, ap, sym, ◌∙◌, append_assoc, append-nil}
+use Rattle.std.proofs.Common.{◌≡◌, ℕ, List, [], ◌∷◌, ◌++◌, reverse, ap, sym, subst, ◌∙◌, append_assoc, append-nil, Option}
 use Rattle.std.proofs.lemmas.List.{reverse-append}
 use Rattle.std.specs.List.{flat_map}
 use Rattle.std.proofs.lemmas.Grind.{flat_map-append}
+use Rattle.pef_model.specs.declared.command.Cmd.{Cmd}
+use Rattle.pef_model.specs.declared.entry.Answer.{Answer}
 use Rattle.pef_model.specs.Event.{Event}
 use Rattle.pef_model.specs.Plan.{Plan}
 use Rattle.pef_model.specs.Report.{entry_line}
-use Rattle.pef_model.specs.Run.{entry_after, run_after}
+use Rattle.pef_model.specs.Run.{entry_after, with_directive, run_after}
 use Rattle.pef_model.specs.Script.{Line}
+use Rattle.pef_model.proofs.Runs.{done}
+use Rattle.pef_io.specs.Sink.{appended, AppendsPrefix}
+use Rattle.pef_io.proofs.SinkLemmas.{appended-appended, AppendsPrefix-append, AppendsPrefix-after}
+use Rattle.pef_top.specs.Text.{line_text, text_of}
+
+-- the line of an entry that a line makes
+pub line_text-entry : (plan : Plan) (past : List Event) (line same : Line) (cmd : Cmd) (answer : Answer) → line ≡ same → answer ≡ (entry_after plan past same cmd).trace.answer →
+    line_text line.number line.cpu cmd answer ≡ entry_line (entry_after plan past same cmd)
+line_text-entry plan past line same cmd answer view answered = ap (λ (l : Line). line_text l.number l.cpu cmd answer) view ∙ ap (line_text same.number same.cpu cmd) answered
+
+-- what follows a history adds to its text
+pub text-append : (block past : List Event) → text_of (block ++ past) ≡ text_of past ++ text_of block
+text-append block past = ap (flat_map entry_line) (reverse-append block past) ∙ flat_map-append entry_line (reverse past) (reverse block)
+
+-- one more entry adds its line
+text-more : (e : Event) (past : List Event) → text_of (e ∷ past) ≡ text_of past ++ entry_line e
+text-more e past = text-append (e ∷ []) past ∙ ap (λ (text : List ℕ). text_of past ++ text) (append-nil (entry_line e))
+
+-- after a history's text the line of one more entry makes its text with it
+pub written_more : (start old new : Option (List ℕ)) (e : Event) (past : List Event) → old ≡ appended start (text_of past) → new ≡ appended old (entry_line e) → new ≡ appended start (text_of (e ∷ past))
+written_more start old new e past so_far more =
+    more ∙ ap (λ (o : Option (List ℕ)). appended o (entry_line e)) so_far ∙ appended-appended start (text_of past) (entry_line e) ∙ ap (appended start) (sym (text-more e past))
+
+-- and a first part of the line makes a first part of that text
+pub part_more : (start old new : Option (List ℕ)) (e : Event) (past : List Event) → old ≡ appended start (text_of past) → AppendsPrefix old new (entry_line e) → AppendsPrefix start new (text_of (e ∷ past))
+part_more start old new e past so_far part =
+    subst (λ (text : List ℕ). AppendsPrefix start new text) (sym (text-more e past)) (AppendsPrefix-after start old new (text_of past) (entry_line e) so_far part)
+
+-- a first part of a history's text is one of that of a history that goes on
+pub part-append : (old new : Option (List ℕ)) (block past whole : List Event) → whole ≡ block ++ past → AppendsPrefix old new (text_of past) → AppendsPrefix old new (text_of whole)
+part-append old new block past whole is part =
+    subst (λ (text : List ℕ). AppendsPrefix old new text) (sym (ap text_of is ∙ text-append block past)) (AppendsPrefix-append old new (text_of past) (text_of block) part)
 
 -- the run of some lines
 abbrev pub run_of_lines : Plan → List Line → List Event
 run_of_lines plan lines = run_after plan (reverse lines)
 
--- the text of its entries
-abbrev pub text_of_lines : Plan → List Line → List ℕ
-text_of_lines plan lines = flat_map entry_line (reverse (run_of_lines plan lines))
-
--- one more line makes one more entry
+-- one more line adds what its directive gives
 pub run-push : (plan : Plan) (lines : List Line) (line : Line) →
-    run_of_lines plan (lines ++ line ∷ []) ≡ entry_after plan (run_of_lines plan lines) line ∷ run_of_lines plan lines
+    run_of_lines plan (lines ++ line ∷ []) ≡ with_directive plan (run_of_lines plan lines) line line.directive
 run-push plan lines line = ap (run_after plan) (reverse-append lines (line ∷ []))
 
--- and one more line of text
-pub text-push : (plan : Plan) (lines : List Line) (line : Line) →
-    text_of_lines plan (lines ++ line ∷ []) ≡ text_of_lines plan lines ++ entry_line (entry_after plan (run_of_lines plan lines) line)
-text-push plan lines line =
-    let past : List Event = run_of_lines plan lines in
-    let e : Event = entry_after plan past line in
-    ap (λ (events : List Event). flat_map entry_line (reverse events)) (run-push plan lines line)
-    ∙ ap (flat_map entry_line) (reverse-append (e ∷ []) past)
-    ∙ flat_map-append entry_line (reverse past) (e ∷ [])
-    ∙ ap (λ (text : List ℕ). text_of_lines plan lines ++ text) (append-nil (entry_line e))
-
--- what follows some lines adds to their text
-pub text-append : (plan : Plan) (lines more : List Line) → (rest : List ℕ) × (text_of_lines plan (lines ++ more) ≡ text_of_lines plan lines ++ rest)
-text-append plan lines [] = ([], ap (text_of_lines plan) (append-nil lines) ∙ sym (append-nil (text_of_lines plan lines)))
-text-append plan lines (line ∷ more) =
-    let later = text-append plan (lines ++ line ∷ []) more in
-    let own : List ℕ = entry_line (entry_after plan (run_of_lines plan lines) line) in
-    let whole : text_of_lines plan (lines ++ line ∷ more) ≡ text_of_lines plan lines ++ (own ++ later.0) =
-    ap (text_of_lines plan) (sym (append_assoc lines (line ∷ []) more)) ∙ later.1 ∙ ap (λ (text : List ℕ). text ++ later.0) (text-push plan lines line)
-    ∙ append_assoc (text_of_lines plan lines) own later.0 in
-    (own ++ later.0, whole)
+-- what follows some lines adds to their run
+pub run-append : (plan : Plan) (lines more : List Line) → (block : List Event) × (run_of_lines plan (lines ++ more) ≡ block ++ run_of_lines plan lines)
+run-append plan lines [] = ([], ap (run_of_lines plan) (append-nil lines))
+run-append plan lines (line ∷ more) =
+    let later = run-append plan (lines ++ line ∷ []) more in
+    let next = done plan (run_of_lines plan lines) line line.directive in
+    let whole : run_of_lines plan (lines ++ line ∷ more) ≡ (later.0 ++ next.block) ++ run_of_lines plan lines =
+    ap (run_of_lines plan) (sym (append_assoc lines (line ∷ []) more)) ∙ later.1 ∙ ap (λ (past : List Event). later.0 ++ past) (run-push plan lines line ∙ next.is)
+    ∙ sym (append_assoc later.0 next.block (run_of_lines plan lines)) in
+    (later.0 ++ next.block, whole)

@@ -20,11 +20,13 @@ fn name_of(cmd: &Cmd) -> &'static [u8]
     match cmd {
         Cmd::HLd { .. } => b"h.ld",
         Cmd::HSt { .. } => b"h.st",
+        Cmd::UPageout { .. } => b"u.pageout",
         Cmd::UReturn { .. } => b"u.return",
         Cmd::GLi { .. } => b"g.li",
         Cmd::GLd { .. } => b"g.ld",
         Cmd::GSt { .. } => b"g.st",
         Cmd::GIrq => b"g.irq",
+        Cmd::Go => b"go",
     }
 }
 
@@ -33,6 +35,15 @@ fn name_of_code(code: Code) -> &'static [u8]
     ensures { result.now ≡ code_name code }
 {
     match code {
+        Code::USuccess => b"U_SUCCESS",
+        Code::UParameter => b"U_PARAMETER",
+        Code::UP2 => b"U_P2",
+        Code::UP3 => b"U_P3",
+        Code::UP4 => b"U_P4",
+        Code::UP5 => b"U_P5",
+        Code::UFunction => b"U_FUNCTION",
+        Code::UBusy => b"U_BUSY",
+        Code::UPermission => b"U_PERMISSION",
         Code::UInvalid => b"U_INVALID",
     }
 }
@@ -52,6 +63,7 @@ fn put_answer<K: Sink>(sink: &mut K, answer: &Answer) -> Result<(), Failed>
             put_value(sink, *value)
         }
         Answer::Ret(code) => put_all(sink, &[b"ret ", name_of_code(*code)]),
+        Answer::Step => put(sink, b"step"),
         Answer::Enter => put(sink, b"enter"),
         Answer::Exit(Exit::Irq) => put(sink, b"exit irq"),
         Answer::Again => put(sink, b"again"),

@@ -1,26 +1,120 @@
 //! A script is run on a machine, and its report is written as the run goes.
 
-ghost use Rattle.std.specs.Prelude.{◌≡◌, ◌≢◌, ◌≤◌, [], length, IfErr, OnErr, OnOk, Err};
+ghost use Rattle.std.specs.Prelude.{◌≡◌, ◌≢◌, ◌≤◌, ◌<◌, ◌+◌, ◌^◌, List, [], ◌∷◌, length, not, ◌||◌, IfOk, IfErr, IfSome, OnErr, OnOk, Err, slice_get};
 ghost use Rattle.pef_io.specs.Cause.{Rose, HasCause};
 ghost use Rattle.pef_io.specs.Sink.{appended, AppendsPrefix};
-ghost use Rattle.pef_model.specs.Plan.{plan_of};
-ghost use Rattle.pef_model.specs.Run.{run_of};
+ghost use Rattle.pef_model.specs.Plan.{Plan, plan_of};
+ghost use Rattle.pef_model.specs.Event.{Event};
+ghost use Rattle.pef_model.specs.Run.{is_in_progress, is_again, entry_after, with_directive, run_of};
 ghost use Rattle.pef_model.specs.Script.{IsScript};
 ghost use Rattle.pef_seal.specs.Serves.{Serves};
 ghost use Rattle.pef_core.specs.Start.{IsServed};
-ghost use Rattle.pef_core.specs.Steps.{Fits};
-ghost use Rattle.pef_top.specs.Text.{entries_text, frames_text, report_text};
+ghost use Rattle.pef_core.specs.Steps.{Fits, Makes};
+ghost use Rattle.pef_top.specs.Text.{Writes, WritesPart, entries_text, frames_text, report_text};
 ghost use Rattle.pef_top.specs.Top.{IsUntouched};
 
 use crate::fault::RunFault;
 use crate::outcome::SCRIPT_LIMIT;
 use crate::report::{put_entry, put_frame, put_free};
-use crate::script::Script;
+use crate::script::{Line, Script};
 use crate::sealers::{stream_sealers, vault_sealers};
 use pef_core::Machine;
 use pef_io::{Failed, Sink};
+use pef_model::{Answer, Cmd, Directive};
 use pef_seal::Seal;
 use std::alloc::Global;
+
+/// Does a command of a line once, and writes the line of its entry. It fails as `put` does.
+fn run_once<S: Seal, K: Sink>(
+    machine: &mut Machine<S>,
+    line: &Line,
+    cmd: &Cmd,
+    sink: &mut K,
+) -> Result<Answer, Failed>
+    requires cpu { line.now.cpu < length machine.old.cpus }
+    requires steps { machine.old.steps < 2 ^ 63 }
+    ensures made { (plan : Plan) → (past : List Event) → Fits S.stands S.image plan machine.old past →
+        IfOk result (Makes S.stands S.image plan machine.new past (entry_after plan past line.now cmd.now)) }
+    ensures all { (plan : Plan) → (past : List Event) → Fits S.stands S.image plan machine.old past →
+        OnOk result (Writes (K.written sink.old) (K.written sink.new) past (entry_after plan past line.now cmd.now ∷ past)) }
+    ensures prefix { (plan : Plan) → (past : List Event) → Fits S.stands S.image plan machine.old past →
+        OnErr result (WritesPart (K.written sink.old) (K.written sink.new) past (entry_after plan past line.now cmd.now ∷ past)) }
+    ensures cause { HasCause (K.faults sink.old) (K.faults sink.new) result }
+    ensures count { machine.new.steps ≡ machine.old.steps + 1 }
+    ensures cpus { length machine.new.cpus ≡ length machine.old.cpus }
+{
+    let answer = machine.step(line.cpu, cmd);
+    put_entry(sink, u64::from(line.number), line.cpu, cmd, &answer)?;
+    Ok(answer)
+}
+
+/// Whether `go*` ends with a step of a CPU, which is below the number of CPUs: no call is in progress after it, or it answers
+/// that nothing can be done at present.
+fn ends_all<S: Seal>(machine: &Machine<S>, cpu: u8, answer: &Answer) -> bool
+    requires { cpu < length machine.now.cpus }
+    ensures { IfSome (slice_get machine.now.cpus cpu) (λ own. result ≡ (not (is_in_progress own.ctx) || is_again answer.now)) }
+{
+    !machine.is_in_progress(cpu) || matches!(answer, Answer::Again)
+}
+
+/// Does `go` on a line's CPU again and again, until no call is in progress or nothing can be done at present, and writes
+/// the line of each entry. It fails as `put` does.
+fn run_all<S: Seal, K: Sink>(
+    machine: &mut Machine<S>,
+    pages: u32,
+    line: &Line,
+    sink: &mut K,
+) -> Result<(), Failed>
+    requires cpu { line.now.cpu < length machine.old.cpus }
+    requires few { pages ≤ 1024 }
+    requires steps { machine.old.steps + 1028 ≤ 2 ^ 63 }
+    ensures fits { (plan : Plan) → (past : List Event) → plan.pages ≡ pages → Fits S.stands S.image plan machine.old past →
+        OnOk result (Fits S.stands S.image plan machine.new (with_directive plan past line.now Directive.GoAll)) }
+    ensures all { (plan : Plan) → (past : List Event) → plan.pages ≡ pages → Fits S.stands S.image plan machine.old past →
+        OnOk result (Writes (K.written sink.old) (K.written sink.new) past (with_directive plan past line.now Directive.GoAll)) }
+    ensures prefix { (plan : Plan) → (past : List Event) → plan.pages ≡ pages → Fits S.stands S.image plan machine.old past →
+        OnErr result (WritesPart (K.written sink.old) (K.written sink.new) past (with_directive plan past line.now Directive.GoAll)) }
+    ensures cause { HasCause (K.faults sink.old) (K.faults sink.new) result }
+    ensures count { machine.new.steps ≤ machine.old.steps + 1028 }
+    ensures cpus { length machine.new.cpus ≡ length machine.old.cpus }
+{
+    for _done in 0..pages + 4 {
+        let answer = run_once(machine, line, &Cmd::Go, sink)?;
+        if ends_all(machine, line.cpu, &answer) {
+            return Ok(());
+        }
+    }
+    Ok(())
+}
+
+/// Does the directive of a line, and writes the line of each entry. It fails as `put` does.
+fn run_line<S: Seal, K: Sink>(
+    machine: &mut Machine<S>,
+    pages: u32,
+    line: &Line,
+    sink: &mut K,
+) -> Result<(), Failed>
+    requires cpu { line.now.cpu < length machine.old.cpus }
+    requires few { pages ≤ 1024 }
+    requires steps { machine.old.steps + 1028 ≤ 2 ^ 63 }
+    ensures fits { (plan : Plan) → (past : List Event) → plan.pages ≡ pages → Fits S.stands S.image plan machine.old past →
+        OnOk result (Fits S.stands S.image plan machine.new (with_directive plan past line.now line.now.directive)) }
+    ensures all { (plan : Plan) → (past : List Event) → plan.pages ≡ pages → Fits S.stands S.image plan machine.old past →
+        OnOk result (Writes (K.written sink.old) (K.written sink.new) past (with_directive plan past line.now line.now.directive)) }
+    ensures prefix { (plan : Plan) → (past : List Event) → plan.pages ≡ pages → Fits S.stands S.image plan machine.old past →
+        OnErr result (WritesPart (K.written sink.old) (K.written sink.new) past (with_directive plan past line.now line.now.directive)) }
+    ensures cause { HasCause (K.faults sink.old) (K.faults sink.new) result }
+    ensures count { machine.new.steps ≤ machine.old.steps + 1028 }
+    ensures cpus { length machine.new.cpus ≡ length machine.old.cpus }
+{
+    match &line.directive {
+        Directive::Once(cmd) => {
+            run_once(machine, line, cmd, sink)?;
+            Ok(())
+        }
+        Directive::GoAll => run_all(machine, pages, line, sink),
+    }
+}
 
 /// Does the lines of a script one after another, and writes the line of each. It fails as `put` does.
 fn run_commands<S: Seal, K: Sink>(
@@ -28,11 +122,11 @@ fn run_commands<S: Seal, K: Sink>(
     script: &Script,
     sink: &mut K,
 ) -> Result<(), Failed>
-    requires fits { Fits (plan_of script.now.config) machine.old [] }
+    requires fits { Fits S.stands S.image (plan_of script.now.config) machine.old [] }
     requires steps { machine.old.steps ≡ 0 }
     requires script { IsScript script.now }
     requires few { length script.now.lines ≤ SCRIPT_LIMIT }
-    ensures fits { OnOk result (Fits (plan_of script.now.config) machine.new (run_of script.now)) }
+    ensures fits { OnOk result (Fits S.stands S.image (plan_of script.now.config) machine.new (run_of script.now)) }
     ensures all { OnOk result
         (K.written sink.new ≡ appended (K.written sink.old) (entries_text script.now)) }
     ensures prefix { OnErr result
@@ -40,8 +134,7 @@ fn run_commands<S: Seal, K: Sink>(
     ensures cause { HasCause (K.faults sink.old) (K.faults sink.new) result }
 {
     for line in &script.lines {
-        let answer = machine.step(line.cpu, &line.cmd);
-        put_entry(sink, u64::from(line.number), line.cpu, &line.cmd, &answer)?;
+        run_line(machine, script.config.pages, line, sink)?;
     }
     Ok(())
 }
@@ -66,7 +159,7 @@ fn write_report<S: Seal, K: Sink>(
     script: &Script,
     sink: &mut K,
 ) -> Result<(), Failed>
-    requires fits { Fits (plan_of script.now.config) machine.old [] }
+    requires fits { Fits S.stands S.image (plan_of script.now.config) machine.old [] }
     requires steps { machine.old.steps ≡ 0 }
     requires script { IsScript script.now }
     requires few { length script.now.lines ≤ SCRIPT_LIMIT }

@@ -1,6 +1,6 @@
 //! A script is a configuration and command lines.
 
-use pef_model::{Cmd, Config};
+use pef_model::{Config, Directive};
 use std::marker::Model;
 
 /// A command line.
@@ -10,7 +10,8 @@ pub struct Line {
     pub number: u32,
     /// The CPU that does it, counted from 0.
     pub cpu: u8,
-    pub cmd: Cmd,
+    /// What it tells the CPU to do.
+    pub directive: Directive,
 }
 
 impl Model for Line {
@@ -18,9 +19,9 @@ impl Model for Line {
 
     ghost Value = { Line };
 
-    ghost view = { λ l. record { number = l.number; cpu = l.cpu; cmd = l.cmd } };
+    ghost view = { λ l. record { number = l.number; cpu = l.cpu; directive = l.directive } };
 
-    ghost inverse = { λ l. record { number = l.number; cpu = l.cpu; cmd = l.cmd } };
+    ghost inverse = { λ l. record { number = l.number; cpu = l.cpu; directive = l.directive } };
 }
 
 /// A script that was read.

@@ -1,11 +1,11 @@
 use super::*;
-use pef_model::{Cmd, Reg};
+use pef_model::{Cmd, Directive, Reg};
 use std::test::Fail;
 
 #[test]
 fn a_text_is_read_as_its_lines(rt: HostRuntime) -> Result<(), Fail> {
     let text =
-        b"pef 1\ncpus 0x10\nborn 1\nbegin\n0 u.return 3 0x100\n15 g.li r20 0xAbCdEf\n0xF g.st r31 007\n00 g.ld r0 18446744073709551615\n1 h.ld 0x10\n2 h.st 24 0xFF\n3 g.irq\n";
+        b"pef 1\ncpus 0x10\nborn 1\nbegin\n0 u.return 3 0x100\n15 g.li r20 0xAbCdEf\n0xF g.st r31 007\n00 g.ld r0 18446744073709551615\n1 h.ld 0x10\n2 h.st 24 0xFF\n3 g.irq\n4 u.pageout 1 0x100 512 0 8\n5 go\n";
     let wanted = [
         (
             0,
@@ -39,6 +39,17 @@ fn a_text_is_read_as_its_lines(rt: HostRuntime) -> Result<(), Fail> {
         (1, Cmd::HLd { ra: 16 }),
         (2, Cmd::HSt { ra: 24, value: 255 }),
         (3, Cmd::GIrq),
+        (
+            4,
+            Cmd::UPageout {
+                lpid: 1,
+                dest: 256,
+                gpa: 512,
+                flags: 0,
+                order: 8,
+            },
+        ),
+        (5, Cmd::Go),
     ];
     let script = read_script(rt.alloc(), text)?.expect(&rt, "a script");
     assert!(rt; script.lines.len() == wanted.len());
@@ -46,8 +57,18 @@ fn a_text_is_read_as_its_lines(rt: HostRuntime) -> Result<(), Fail> {
         // The first command stands on line 5 of the text.
         assert!(rt; script.lines[i].number as usize == 5 + i);
         assert!(rt; script.lines[i].cpu == cpu);
-        assert!(rt; script.lines[i].cmd == cmd);
+        assert!(rt; script.lines[i].directive == Directive::Once(cmd));
     }
+    Ok(())
+}
+
+#[test]
+fn go_with_a_star_is_no_command(rt: HostRuntime) -> Result<(), Fail> {
+    let text = b"pef 1\nborn 1\nbegin\n0 go\n0 go*\n";
+    let script = read_script(rt.alloc(), text)?.expect(&rt, "a script");
+    assert!(rt; script.lines.len() == 2);
+    assert!(rt; script.lines[0].directive == Directive::Once(Cmd::Go));
+    assert!(rt; script.lines[1].directive == Directive::GoAll);
     Ok(())
 }
 
@@ -86,7 +107,7 @@ fn what_no_line_says_is_the_default(rt: HostRuntime) -> Result<(), Fail> {
 
 #[test]
 fn a_faulty_text_is_not_read(rt: HostRuntime) -> Result<(), Fail> {
-    let faulty: [&[u8]; 28] = [
+    let faulty: [&[u8]; 34] = [
         b"",
         b"pef 1\nborn 1\n0 g.li r1 7\n",
         b"pef 1\nborn 1\nbegin\n\n",
@@ -103,6 +124,12 @@ fn a_faulty_text_is_not_read(rt: HostRuntime) -> Result<(), Fail> {
         b"pef 1\nborn 1\nbegin\n0 g.irq 0\n",
         b"pef 1\nborn 1\nbegin\n0 g.irq \n",
         b"pef 1\nborn 1\nbegin\n0 h.st 8\n",
+        b"pef 1\nborn 1\nbegin\n0 u.pageout 1 0x100 0 0\n",
+        b"pef 1\nborn 1\nbegin\n0 u.pageout 1 0x100 0 0 8 8\n",
+        b"pef 1\nborn 1\nbegin\n0 u.pageout 1 r1 0 0 8\n",
+        b"pef 1\nborn 1\nbegin\n0 h.st 1 0x100 0 0 8\n",
+        b"pef 1\nborn 1\nbegin\n0 go 1\n",
+        b"pef 1\nborn 1\nbegin\n0 go *\n",
         b"pef 1\ncpus 2\nborn 1\nbegin\n2 h.ld 8\n",
         b"pef 1\nshift 7\nborn 1\nbegin\n",
         b"pef 1\nshift 17\nborn 1\nbegin\n",

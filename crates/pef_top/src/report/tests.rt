@@ -21,6 +21,7 @@ fn each_answer_has_its_words(rt: HostRuntime) -> Result<(), Fail> {
         (Answer::Done, "12 3 g.irq done\n"),
         (Answer::Val(0xfff8), "12 3 g.irq val 0xfff8\n"),
         (Answer::Ret(Code::UInvalid), "12 3 g.irq ret U_INVALID\n"),
+        (Answer::Step, "12 3 g.irq step\n"),
         (Answer::Enter, "12 3 g.irq enter\n"),
         (Answer::Exit(Exit::Irq), "12 3 g.irq exit irq\n"),
         (Answer::Again, "12 3 g.irq again\n"),
@@ -31,6 +32,27 @@ fn each_answer_has_its_words(rt: HostRuntime) -> Result<(), Fail> {
     ] {
         let mut sink = MemSink::build(rt.alloc(), 100, Vec::new(rt.alloc()))?;
         assert!(rt; put_entry(&mut sink, 12, 3, &Cmd::GIrq, &answer).is_ok());
+        assert!(rt; sink.bytes() == line.as_bytes());
+    }
+    Ok(())
+}
+
+#[test]
+fn each_code_has_its_name(rt: HostRuntime) -> Result<(), Fail> {
+    for (code, line) in [
+        (Code::USuccess, "1 0 go ret U_SUCCESS\n"),
+        (Code::UParameter, "1 0 go ret U_PARAMETER\n"),
+        (Code::UP2, "1 0 go ret U_P2\n"),
+        (Code::UP3, "1 0 go ret U_P3\n"),
+        (Code::UP4, "1 0 go ret U_P4\n"),
+        (Code::UP5, "1 0 go ret U_P5\n"),
+        (Code::UFunction, "1 0 go ret U_FUNCTION\n"),
+        (Code::UBusy, "1 0 go ret U_BUSY\n"),
+        (Code::UPermission, "1 0 go ret U_PERMISSION\n"),
+        (Code::UInvalid, "1 0 go ret U_INVALID\n"),
+    ] {
+        let mut sink = MemSink::build(rt.alloc(), 100, Vec::new(rt.alloc()))?;
+        assert!(rt; put_entry(&mut sink, 1, 0, &Cmd::Go, &Answer::Ret(code)).is_ok());
         assert!(rt; sink.bytes() == line.as_bytes());
     }
     Ok(())

@@ -29,6 +29,21 @@ fn two_cpus_take_turns_at_one_vcpu_under_either_seal(rt: HostRuntime) -> Result<
 }
 
 #[test]
+fn a_page_goes_out_into_the_vault(rt: HostRuntime) -> Result<(), Fail> {
+    // The report is written down by hand; the frame's digest is that of Python's hashlib over the doublewords 1, 1, 0, 1 and
+    // zeros.
+    let (outcome, sink) = run(
+        rt.alloc(),
+        "pef 1\nshift 8\nsecure 1\nseal vault\nborn 1\nbegin\n0 u.return 0 0\n0 g.li r20 7\n0 g.st r20 0x8\n0 g.irq\n0 u.pageout 2 0x100 0 0 8\n0 u.pageout 1 0x100 0 0 8\n0 go*\n0 go\n0 u.pageout 1 0x100 0 0 8\n",
+    )?;
+    let report =
+        "7 0 u.return enter\n8 0 g.li done\n9 0 g.st done\n10 0 g.irq exit irq\n11 0 u.pageout ret U_PARAMETER\n12 0 u.pageout step\n13 0 go step\n13 0 go ret U_SUCCESS\n14 0 go context\n15 0 u.pageout ret U_P3\nframe 1 cec0380835655ac3b41bbb0375f9fb5c44421cb235399683ae586c9e8dd54fdc\nfree 1\nend\n";
+    assert!(rt; outcome == RunOutcome::plain(0));
+    assert!(rt; sink.bytes() == report.as_bytes());
+    Ok(())
+}
+
+#[test]
 fn a_machine_past_limit_three_is_not_built(rt: HostRuntime) -> Result<(), Fail> {
     let (outcome, sink) = run(rt.alloc(), "pef 1\nnormal 1024\nsecure 1\nborn 1\nbegin\n")?;
     // 1,025 frames of 65,536 bytes.

@@ -8,4 +8,4 @@ abbrev pub invariant-loop-sealer : goal.invariant-loop-sealer
 invariant-loop-sealer g l =
     (length l.guests.items + length l.sealer-iterator.rest.items ≡ l.config.guests) ×
     Each (λ i sealer. Serves l.config (g.S.Seal.image sealer) (g.S.Seal.takes sealer)) l.sealer-iterator.rest.items ×
-    Each (λ i guest. Begins g.S.Seal.takes l.config (i + 1) guest) l.guests.items
+    Each (λ i guest. Begins g.S.Seal.image g.S.Seal.takes l.config (i + 1) guest) l.guests.items

@@ -9,23 +9,23 @@ use Rattle.pef_core.proofs.machine.Machine.build.Goals as goal
 pub invariant_of-result : goal.invariant_of-result
 invariant_of-result g c =
     let cpus : AreStartCpus c.args.config.now c.in_ok-cpus.cpus.items = search rules in
-    let guests : AreStartGuests g.S.Seal.takes c.args.config.now c.in_ok-guests.guests.items = search rules in
+    let guests : AreStartGuests g.S.Seal.image g.S.Seal.takes c.args.config.now c.in_ok-guests.guests.items = search rules in
     let pool : c.in_ok-pool.pool ≡ full_pool c.args.config.now.secure (2 ^ c.args.config.now.shift) = search rules in
     let normal : c.in_ok-normal.normal ≡ zero_frames c.args.config.now.shift c.args.config.now.normal = search rules in
-    whole_begun g.S.Seal.takes c.args.config.now c.requires.range c.in_ok-cpus.cpus.items c.in_ok-guests.guests.items c.in_ok-pool.pool c.in_ok-normal.normal cpus guests pool normal
+    whole_begun g.S.Seal.stands g.S.Seal.image g.S.Seal.takes c.args.config.now c.requires.range c.in_ok-cpus.cpus.items c.in_ok-guests.guests.items c.in_ok-pool.pool c.in_ok-normal.normal cpus guests pool normal
 
 pub returns-clause-fits : goal.returns-clause-fits
 returns-clause-fits g c =
     let cpus : AreStartCpus c.args.config.now c.in_ok-cpus.cpus.items = search rules in
-    let guests : AreStartGuests g.S.Seal.takes c.args.config.now c.in_ok-guests.guests.items = search rules in
+    let guests : AreStartGuests g.S.Seal.image g.S.Seal.takes c.args.config.now c.in_ok-guests.guests.items = search rules in
     let pool : c.in_ok-pool.pool ≡ full_pool c.args.config.now.secure (2 ^ c.args.config.now.shift) = search rules in
     let normal : c.in_ok-normal.normal ≡ zero_frames c.args.config.now.shift c.args.config.now.normal = search rules in
-    fits_begun g.S.Seal.takes c.args.config.now c.requires.range c.in_ok-cpus.cpus.items c.in_ok-guests.guests.items c.in_ok-pool.pool c.in_ok-normal.normal cpus guests pool normal
+    fits_begun g.S.Seal.stands g.S.Seal.image g.S.Seal.takes c.args.config.now c.requires.range c.in_ok-cpus.cpus.items c.in_ok-guests.guests.items c.in_ok-pool.pool c.in_ok-normal.normal cpus guests pool normal
 
 pub returns-clause-frames_once : goal.returns-clause-frames_once
 returns-clause-frames_once g c =
     let cpus : AreStartCpus c.args.config.now c.in_ok-cpus.cpus.items = search rules in
-    let guests : AreStartGuests g.S.Seal.takes c.args.config.now c.in_ok-guests.guests.items = search rules in
+    let guests : AreStartGuests g.S.Seal.image g.S.Seal.takes c.args.config.now c.in_ok-guests.guests.items = search rules in
     let pool : c.in_ok-pool.pool ≡ full_pool c.args.config.now.secure (2 ^ c.args.config.now.shift) = search rules in
     let normal : c.in_ok-normal.normal ≡ zero_frames c.args.config.now.shift c.args.config.now.normal = search rules in
-    once_at_start g.S.Seal.takes c.args.config.now c.requires.range c.in_ok-cpus.cpus.items c.in_ok-guests.guests.items c.in_ok-pool.pool c.in_ok-normal.normal cpus guests pool normal
+    once_at_start g.S.Seal.stands g.S.Seal.image g.S.Seal.takes c.args.config.now c.requires.range c.in_ok-cpus.cpus.items c.in_ok-guests.guests.items c.in_ok-pool.pool c.in_ok-normal.normal cpus guests pool normal

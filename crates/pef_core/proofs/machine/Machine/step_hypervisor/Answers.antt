@@ -10,7 +10,7 @@ use Rattle.pef_core.proofs.WholeAfter.{whole_cpu}
 use Rattle.pef_core.proofs.Places.{found_cpu, selection_stays}
 use Rattle.pef_core.specs.Refused.{LeavesRest}
 use Rattle.pef_core.proofs.Leaving.{normal_leaves, context_leaves}
-use Rattle.pef_core.proofs.Continuing.{load_continues, store_continues, is_guests, guest_idle}
+use Rattle.pef_core.proofs.Continuing.{load_continues, store_continues, is_idle, hypervisor_idle}
 use Rattle.pef_core.proofs.machine.Machine.step_hypervisor.Goals as goal
 
 pub load-requires : goal.load-requires
@@ -26,8 +26,8 @@ invariant_of-self g c =
     let cpu = c.index_mut.result.now in
     let own = found_cpu c.self.inside.cpus.items c.args.self.now c.args.cpu cpu ctx.Hv (ap (λ m. m.cpus) (sym c.self.view_is)) c.requires.hypervisor c.index_mut.ensures.value in
     let old : State _ = record { cpus = c.self.inside.cpus.items; guests = c.self.inside.guests.items; pool = c.self.inside.pool; normal = c.self.inside.normal; steps = c.self.inside.steps } in
-    whole_cpu g.S.Seal.takes old c.args.cpu c.load.new.cpu c.self.invariant c.self.inside.normal refl
-    (selection_stays c.self.inside.guests.items c.self.inside.normal.shift c.args.cpu cpu c.load.new.cpu c.load.ensures.keeps (c.self.invariant.cpus c.args.cpu cpu own.0))
+    whole_cpu g.S.Seal.takes old c.args.cpu c.load.new.cpu c.self.invariant c.self.inside.normal refl refl
+    (selection_stays c.self.inside.guests.items c.self.inside.normal c.args.cpu cpu c.load.new.cpu c.load.ensures.keeps (c.self.invariant.cpus c.args.cpu cpu own.0))
 
 pub invariant_of-self-in-HSt : goal.invariant_of-self-in-HSt
 invariant_of-self-in-HSt g c =
@@ -35,8 +35,8 @@ invariant_of-self-in-HSt g c =
     let inside = c.self-in-HSt.inside in
     let own = found_cpu inside.cpus.items c.args.self.now c.args.cpu cpu ctx.Hv (ap (λ m. m.cpus) (sym c.self-in-HSt.view_is)) c.requires.hypervisor c.index_mut-own.ensures.value in
     let old : State _ = record { cpus = inside.cpus.items; guests = inside.guests.items; pool = inside.pool; normal = inside.normal; steps = inside.steps } in
-    whole_cpu g.S.Seal.takes old c.args.cpu c.store.new.cpu c.self-in-HSt.invariant c.store.new.normal c.store.ensures.shift
-    (selection_stays inside.guests.items inside.normal.shift c.args.cpu cpu c.store.new.cpu c.store.ensures.keeps (c.self-in-HSt.invariant.cpus c.args.cpu cpu own.0))
+    whole_cpu g.S.Seal.takes old c.args.cpu c.store.new.cpu c.self-in-HSt.invariant c.store.new.normal c.store.ensures.shift c.store.ensures.count
+    (selection_stays inside.guests.items inside.normal c.args.cpu cpu c.store.new.cpu c.store.ensures.keeps (c.self-in-HSt.invariant.cpus c.args.cpu cpu own.0))
 
 pub returns-in-HLd-clause-step : goal.returns-in-HLd-clause-step
 returns-in-HLd-clause-step g c =
@@ -44,10 +44,10 @@ returns-in-HLd-clause-step g c =
     let own = found_cpu c.self.inside.cpus.items c.args.self.now c.args.cpu cpu ctx.Hv (ap (λ m. m.cpus) (sym c.self.view_is)) c.requires.hypervisor c.index_mut.ensures.value in
     let old : State _ = record { cpus = c.self.inside.cpus.items; guests = c.self.inside.guests.items; pool = c.self.inside.pool; normal = c.self.inside.normal; steps = c.self.inside.steps } in
     let below = subst (λ m. c.args.cpu < length m.cpus) (sym c.self.view_is) c.requires.hypervisor.below in
-    let step : Continues old (record old { cpus = slice_set old.cpus c.args.cpu c.load.new.cpu }) c.args.cpu (HLd c.in-HLd.ra) c.load.result =
-    load_continues old c.args.cpu below cpu own.0 c.load.new.cpu c.in-HLd.ra c.load.result own.1 c.load.ensures.row in
-    subst (λ (cmd : Cmd). Continues c.args.self.now (record old { cpus = slice_set old.cpus c.args.cpu c.load.new.cpu }) c.args.cpu cmd c.load.result) (sym c.in-HLd.is)
-    (subst (λ m. Continues m (record old { cpus = slice_set old.cpus c.args.cpu c.load.new.cpu }) c.args.cpu (HLd c.in-HLd.ra) c.load.result) c.self.view_is step)
+    let step : Continues g.S.Seal.stands g.S.Seal.image old (record old { cpus = slice_set old.cpus c.args.cpu c.load.new.cpu }) c.args.cpu (HLd c.in-HLd.ra) c.load.result =
+    load_continues g.S.Seal.stands g.S.Seal.image old c.args.cpu below cpu own.0 c.load.new.cpu c.in-HLd.ra c.load.result own.1 c.load.ensures.row in
+    subst (λ (cmd : Cmd). Continues g.S.Seal.stands g.S.Seal.image c.args.self.now (record old { cpus = slice_set old.cpus c.args.cpu c.load.new.cpu }) c.args.cpu cmd c.load.result) (sym c.in-HLd.is)
+    (subst (λ m. Continues g.S.Seal.stands g.S.Seal.image m (record old { cpus = slice_set old.cpus c.args.cpu c.load.new.cpu }) c.args.cpu (HLd c.in-HLd.ra) c.load.result) c.self.view_is step)
 
 pub returns-in-HSt-clause-step : goal.returns-in-HSt-clause-step
 returns-in-HSt-clause-step g c =
@@ -57,35 +57,35 @@ returns-in-HSt-clause-step g c =
     let old : State _ = record { cpus = inside.cpus.items; guests = inside.guests.items; pool = inside.pool; normal = inside.normal; steps = inside.steps } in
     let below = subst (λ m. c.args.cpu < length m.cpus) (sym c.self-in-HSt.view_is) c.requires.hypervisor.below in
     let new : State _ = record old { cpus = slice_set old.cpus c.args.cpu c.store.new.cpu; normal = c.store.new.normal } in
-    let step : Continues old new c.args.cpu (HSt c.in-HSt.ra c.in-HSt.value) c.store.result =
-    store_continues old c.args.cpu below cpu own.0 c.store.new.cpu c.store.new.normal c.in-HSt.ra c.in-HSt.value c.store.result own.1 c.store.ensures.row in
-    subst (λ (cmd : Cmd). Continues c.args.self.now new c.args.cpu cmd c.store.result) (sym c.in-HSt.is)
-    (subst (λ m. Continues m new c.args.cpu (HSt c.in-HSt.ra c.in-HSt.value) c.store.result) c.self-in-HSt.view_is step)
+    let step : Continues g.S.Seal.stands g.S.Seal.image old new c.args.cpu (HSt c.in-HSt.ra c.in-HSt.value) c.store.result =
+    store_continues g.S.Seal.stands g.S.Seal.image old c.args.cpu below cpu own.0 c.store.new.cpu c.store.new.normal c.in-HSt.ra c.in-HSt.value c.store.result own.1 c.store.ensures.row in
+    subst (λ (cmd : Cmd). Continues g.S.Seal.stands g.S.Seal.image c.args.self.now new c.args.cpu cmd c.store.result) (sym c.in-HSt.is)
+    (subst (λ m. Continues g.S.Seal.stands g.S.Seal.image m new c.args.cpu (HSt c.in-HSt.ra c.in-HSt.value) c.store.result) c.self-in-HSt.view_is step)
 
 pub returns-in-UReturn-clause-step : goal.returns-in-UReturn-clause-step
 returns-in-UReturn-clause-step g c =
-    subst (λ (cmd : Cmd). Continues c.args.self.now c.step_return.new.self c.args.cpu cmd c.step_return.result) (sym c.in-UReturn.is) c.step_return.ensures.step
+    subst (λ (cmd : Cmd). Continues g.S.Seal.stands g.S.Seal.image c.args.self.now c.step_return.new.self c.args.cpu cmd c.step_return.result) (sym c.in-UReturn.is) c.step_return.ensures.step
 
 -- a guest's command, while the hypervisor runs: nothing is done
 pub returns-in-GLi-clause-step : goal.returns-in-GLi-clause-step
 returns-in-GLi-clause-step g c =
     let own = element_at c.args.self.now.cpus c.args.cpu c.requires.hypervisor.below in
-    guest_idle c.args.self.now c.args.cpu c.requires.hypervisor.below own.0 own.1 c.args.cmd.now (c.requires.hypervisor.is own.0 own.1) (ap is_guests c.in-GLi.is)
+    hypervisor_idle g.S.Seal.stands g.S.Seal.image c.args.self.now c.args.cpu c.requires.hypervisor.below own.0 own.1 c.args.cmd.now (c.requires.hypervisor.is own.0 own.1) (ap is_idle c.in-GLi.is)
 
 pub returns-in-GLd-clause-step : goal.returns-in-GLd-clause-step
 returns-in-GLd-clause-step g c =
     let own = element_at c.args.self.now.cpus c.args.cpu c.requires.hypervisor.below in
-    guest_idle c.args.self.now c.args.cpu c.requires.hypervisor.below own.0 own.1 c.args.cmd.now (c.requires.hypervisor.is own.0 own.1) (ap is_guests c.in-GLd.is)
+    hypervisor_idle g.S.Seal.stands g.S.Seal.image c.args.self.now c.args.cpu c.requires.hypervisor.below own.0 own.1 c.args.cmd.now (c.requires.hypervisor.is own.0 own.1) (ap is_idle c.in-GLd.is)
 
 pub returns-in-GSt-clause-step : goal.returns-in-GSt-clause-step
 returns-in-GSt-clause-step g c =
     let own = element_at c.args.self.now.cpus c.args.cpu c.requires.hypervisor.below in
-    guest_idle c.args.self.now c.args.cpu c.requires.hypervisor.below own.0 own.1 c.args.cmd.now (c.requires.hypervisor.is own.0 own.1) (ap is_guests c.in-GSt.is)
+    hypervisor_idle g.S.Seal.stands g.S.Seal.image c.args.self.now c.args.cpu c.requires.hypervisor.below own.0 own.1 c.args.cmd.now (c.requires.hypervisor.is own.0 own.1) (ap is_idle c.in-GSt.is)
 
 pub returns-in-GIrq-clause-step : goal.returns-in-GIrq-clause-step
 returns-in-GIrq-clause-step g c =
     let own = element_at c.args.self.now.cpus c.args.cpu c.requires.hypervisor.below in
-    guest_idle c.args.self.now c.args.cpu c.requires.hypervisor.below own.0 own.1 c.args.cmd.now (c.requires.hypervisor.is own.0 own.1) (ap is_guests c.in-GIrq.is)
+    hypervisor_idle g.S.Seal.stands g.S.Seal.image c.args.self.now c.args.cpu c.requires.hypervisor.below own.0 own.1 c.args.cmd.now (c.requires.hypervisor.is own.0 own.1) (ap is_idle c.in-GIrq.is)
 
 -- what a refused command leaves
 pub returns-in-HLd-clause-refused : goal.returns-in-HLd-clause-refused
@@ -124,3 +124,17 @@ pub returns-in-GIrq-clause-refused : goal.returns-in-GIrq-clause-refused
 returns-in-GIrq-clause-refused g c =
     let own = element_at c.args.self.now.cpus c.args.cpu c.requires.hypervisor.below in
     context_leaves c.args.self.now c.args.cpu own.0 own.1
+
+pub returns-in-Go-clause-step : goal.returns-in-Go-clause-step
+returns-in-Go-clause-step g c =
+    let own = element_at c.args.self.now.cpus c.args.cpu c.requires.hypervisor.below in
+    hypervisor_idle g.S.Seal.stands g.S.Seal.image c.args.self.now c.args.cpu c.requires.hypervisor.below own.0 own.1 c.args.cmd.now (c.requires.hypervisor.is own.0 own.1) (ap is_idle c.in-Go.is)
+
+pub returns-in-Go-clause-refused : goal.returns-in-Go-clause-refused
+returns-in-Go-clause-refused g c =
+    let own = element_at c.args.self.now.cpus c.args.cpu c.requires.hypervisor.below in
+    context_leaves c.args.self.now c.args.cpu own.0 own.1
+
+pub returns-in-UPageout-clause-step : goal.returns-in-UPageout-clause-step
+returns-in-UPageout-clause-step g c =
+    subst (λ (cmd : Cmd). Continues g.S.Seal.stands g.S.Seal.image c.args.self.now c.step_page_out.new.self c.args.cpu cmd c.step_page_out.result) (sym c.in-UPageout.is) c.step_page_out.ensures.step

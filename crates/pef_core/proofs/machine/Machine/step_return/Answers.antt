@@ -8,7 +8,7 @@ use Rattle.pef_frames.specs.PoolLaw.{times_free}
 use Rattle.pef_pages.specs.Pages.{held}
 use Rattle.pef_core.specs.State.{State, HasSteps}
 use Rattle.pef_core.specs.Steps.{Continues}
-use Rattle.pef_core.specs.Rows.{KeepsFrames}
+use Rattle.pef_guest.specs.Keeps.{KeepsFrames, KeepsMovers}
 use Rattle.pef_core.proofs.WholeAfter.{whole_guest, once_stays}
 use Rattle.pef_core.proofs.Places.{read_at, found_cpu, guest_below, vcpu_below, returned_cpu}
 use Rattle.pef_core.specs.Refused.{LeavesRest}
@@ -72,9 +72,10 @@ invariant_of-self g c =
       size = refl;
       frames = λ number. ap (λ pages. count_by (λ (frame : FrameState). frame.number == number) (held pages) + times_free c.self.inside.pool number) c.uv_return.ensures.pages;
     } in
+    let movers : KeepsMovers c.args.cpu guest c.uv_return.new.guest = subst (λ n. KeepsMovers n guest c.uv_return.new.guest) is.number c.uv_return.ensures.movers in
     whole_guest g.S.Seal.takes (record { cpus = c.self.inside.cpus.items; guests = c.self.inside.guests.items; pool = c.self.inside.pool; normal = c.self.inside.normal; steps = c.self.inside.steps })
-    c.args.cpu c.uv_return.new.cpu c.self.invariant (cpu.lpid - 1) guest c.uv_return.new.guest c.self.inside.pool there c.uv_return.ensures.whole c.uv_return.ensures.keeps frames fewer
-    (returned_cpu c.self.inside.guests.items c.self.inside.normal.shift c.args.cpu cpu c.uv_return.new.cpu guest c.uv_return.new.guest is c.uv_return.ensures.keeps there c.uv_return.ensures.returns)
+    c.args.cpu c.uv_return.new.cpu c.self.invariant (cpu.lpid - 1) guest c.uv_return.new.guest c.self.inside.pool there c.uv_return.ensures.whole c.uv_return.ensures.keeps movers frames fewer
+    (returned_cpu c.self.inside.guests.items c.self.inside.normal c.args.cpu cpu c.uv_return.new.cpu guest c.uv_return.new.guest is c.uv_return.ensures.keeps there c.uv_return.ensures.returns)
 
 pub returns-clause-step : goal.returns-clause-step
 returns-clause-step g c =
@@ -86,8 +87,8 @@ returns-clause-step g c =
     let old : State _ = record { cpus = c.self.inside.cpus.items; guests = c.self.inside.guests.items; pool = c.self.inside.pool; normal = c.self.inside.normal; steps = c.self.inside.steps } in
     let below = subst (λ m. c.args.cpu < length m.cpus) (sym c.self.view_is) c.requires.hypervisor.below in
     let lpid : cpu.lpid ≡ cpu.lpid - 1 + 1 = (let least = is.selects.least in omega arith) in
-    subst (λ m. Continues m (record old { cpus = slice_set old.cpus c.args.cpu c.uv_return.new.cpu; guests = slice_set old.guests (cpu.lpid - 1) c.uv_return.new.guest }) c.args.cpu (UReturn c.args.r0 c.args.r2 c.args.outs.now) c.uv_return.result) c.self.view_is
-    (return_continues old c.args.cpu below cpu own.0 c.uv_return.new.cpu (cpu.lpid - 1) guest c.uv_return.new.guest c.args.r0 c.args.r2 c.args.outs.now c.uv_return.result own.1 is.number lpid there c.uv_return.ensures.row)
+    subst (λ m. Continues g.S.Seal.stands g.S.Seal.image m (record old { cpus = slice_set old.cpus c.args.cpu c.uv_return.new.cpu; guests = slice_set old.guests (cpu.lpid - 1) c.uv_return.new.guest }) c.args.cpu (UReturn c.args.r0 c.args.r2 c.args.outs.now) c.uv_return.result) c.self.view_is
+    (return_continues g.S.Seal.stands g.S.Seal.image old c.args.cpu below cpu own.0 c.uv_return.new.cpu (cpu.lpid - 1) guest c.uv_return.new.guest c.args.r0 c.args.r2 c.args.outs.now c.uv_return.result own.1 is.number lpid there c.uv_return.ensures.row)
 
 pub returns-clause-frames_once : goal.returns-clause-frames_once
 returns-clause-frames_once g c =

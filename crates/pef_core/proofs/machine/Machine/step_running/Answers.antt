@@ -3,34 +3,35 @@ use Rattle.std.specs.Prelude.{slice_get, slice_set}
 use Rattle.std.proofs.lemmas.Bool.Decides.{nat_tests}
 use Rattle.pef_model.specs.declared.state.Ctx.TheVariants as ctx
 use Rattle.pef_model.specs.declared.entry.Answer.TheVariants.{Gone}
-use Rattle.pef_core.specs.Rows.{has_real_address}
+use Rattle.pef_guest.specs.Keeps.{KeepsMovers}
+use Rattle.pef_core.specs.Rows.{is_no_guests}
 use Rattle.pef_core.specs.State.{State, HasSteps, IsCpuOf}
 use Rattle.pef_core.specs.Steps.{Continues}
 use Rattle.pef_core.proofs.Lists.{element_at}
 use Rattle.pef_core.proofs.WholeAfter.{whole_cpu, whole_guest, once_stays}
-use Rattle.pef_core.proofs.Places.{read_at, found_cpu, run_there, guest_below, vcpu_below, phase_lets, ran_cpu, gone_cpu}
+use Rattle.pef_core.proofs.Places.{read_at, found_cpu, works_there, guest_below, vcpu_below, phase_lets, ran_cpu, gone_cpu}
 use Rattle.pef_core.specs.Refused.{LeavesRest}
 use Rattle.pef_core.proofs.Leaving.{context_leaves, command_leaves}
-use Rattle.pef_core.proofs.Continuing.{busy_continues}
+use Rattle.pef_core.proofs.Continuing.{guest_busy}
 use Rattle.pef_core.proofs.RunningSteps.{gone_continues, command_continues}
 use Rattle.pef_core.proofs.machine.Machine.step_running.Goals as goal
 
 -- a command of the hypervisor, while a vCPU runs
-pub returns-then-has_real_address-clause-step : goal.returns-then-has_real_address-clause-step
-returns-then-has_real_address-clause-step g c =
+pub returns-then-is_no_guests-clause-step : goal.returns-then-is_no_guests-clause-step
+returns-then-is_no_guests-clause-step g c =
     let own = element_at c.args.self.now.cpus c.args.cpu c.requires.runs.below in
-    let address : has_real_address c.args.cmd.now ≡ true = search rules in
-    busy_continues c.args.self.now c.args.cpu c.requires.runs.below own.0 own.1 c.args.run c.args.cmd.now (c.requires.runs.is own.0 own.1) address
+    let own_command : is_no_guests c.args.cmd.now ≡ true = search rules in
+    guest_busy g.S.Seal.stands g.S.Seal.image c.args.self.now c.args.cpu c.requires.runs.below own.0 own.1 c.args.run c.args.cmd.now (c.requires.runs.is own.0 own.1) own_command
 
 -- the vCPU that the CPU runs is one of the machine's
 pub overflow_sub-run : goal.overflow_sub-run
 overflow_sub-run g c =
-    let runs = run_there c.self.inside.guests.items c.self.inside.cpus.items c.args.self.now c.self.inside.normal.shift c.args.cpu c.args.run (ap (λ m. m.cpus) (sym c.self.view_is)) c.requires.runs c.self.invariant.cpus in
+    let runs = works_there c.self.inside.guests.items c.self.inside.cpus.items c.args.self.now c.self.inside.normal c.args.cpu (ctx.Guest c.args.run) (ap (λ m. m.cpus) (sym c.self.view_is)) c.requires.runs c.self.invariant.cpus in
     runs.0.least
 
 pub index-requires : goal.index-requires
 index-requires g c =
-    let runs = run_there c.self.inside.guests.items c.self.inside.cpus.items c.args.self.now c.self.inside.normal.shift c.args.cpu c.args.run (ap (λ m. m.cpus) (sym c.self.view_is)) c.requires.runs c.self.invariant.cpus in
+    let runs = works_there c.self.inside.guests.items c.self.inside.cpus.items c.args.self.now c.self.inside.normal c.args.cpu (ctx.Guest c.args.run) (ap (λ m. m.cpus) (sym c.self.view_is)) c.requires.runs c.self.invariant.cpus in
     let below = guest_below c.self.inside.guests.items c.args.run.lpid c.args.run.vid runs.0 in
     search (rules, below)
 
@@ -40,9 +41,9 @@ invariant_of-self g c =
     let cpu = c.index_mut.result.now in
     let own = found_cpu c.self.inside.cpus.items c.args.self.now c.args.cpu cpu (ctx.Guest c.args.run) (ap (λ m. m.cpus) (sym c.self.view_is)) c.requires.runs c.index_mut.ensures.value in
     let old : State _ = record { cpus = c.self.inside.cpus.items; guests = c.self.inside.guests.items; pool = c.self.inside.pool; normal = c.self.inside.normal; steps = c.self.inside.steps } in
-    whole_cpu g.S.Seal.takes old c.args.cpu c.gone.new.self c.self.invariant c.self.inside.normal refl
-    (subst (IsCpuOf c.self.inside.guests.items c.self.inside.normal.shift c.args.cpu) (sym c.gone.ensures.cpu)
-    (gone_cpu c.self.inside.guests.items c.self.inside.normal.shift c.args.cpu cpu (c.self.invariant.cpus c.args.cpu cpu own.0)))
+    whole_cpu g.S.Seal.takes old c.args.cpu c.gone.new.self c.self.invariant c.self.inside.normal refl refl
+    (subst (IsCpuOf c.self.inside.guests.items c.self.inside.normal c.args.cpu) (sym c.gone.ensures.cpu)
+    (gone_cpu c.self.inside.guests.items c.self.inside.normal c.args.cpu cpu (c.self.invariant.cpus c.args.cpu cpu own.0)))
 
 pub returns-then-run-index-clause-step : goal.returns-then-run-index-clause-step
 returns-then-run-index-clause-step g c =
@@ -52,27 +53,27 @@ returns-then-run-index-clause-step g c =
     let cpus = c.self.inside.cpus.items in
     let guests = c.self.inside.guests.items in
     let own = found_cpu cpus c.args.self.now c.args.cpu cpu (ctx.Guest run) (ap (λ m. m.cpus) (sym c.self.view_is)) c.requires.runs c.index_mut.ensures.value in
-    let runs = run_there guests cpus c.args.self.now c.self.inside.normal.shift c.args.cpu run (ap (λ m. m.cpus) (sym c.self.view_is)) c.requires.runs c.self.invariant.cpus in
+    let runs = works_there guests cpus c.args.self.now c.self.inside.normal c.args.cpu (ctx.Guest run) (ap (λ m. m.cpus) (sym c.self.view_is)) c.requires.runs c.self.invariant.cpus in
     let here : slice_get guests (run.lpid - 1) ≡ Some guest = read_at guests (run.lpid - 1) guest (guest_below guests run.lpid run.vid runs.0) (search rules) in
     let old : State _ = record { cpus = c.self.inside.cpus.items; guests = c.self.inside.guests.items; pool = c.self.inside.pool; normal = c.self.inside.normal; steps = c.self.inside.steps } in
     let below = subst (λ m. c.args.cpu < length m.cpus) (sym c.self.view_is) c.requires.runs.below in
     let lpid : run.lpid ≡ run.lpid - 1 + 1 = (let least = runs.0.least in omega arith) in
-    let address : has_real_address c.args.cmd.now ≡ false = search rules in
+    let own_command : is_no_guests c.args.cmd.now ≡ false = search rules in
     let older : (run.generation == guest.generation) ≡ false = search rules in
-    let step : Continues old (record old { cpus = slice_set old.cpus c.args.cpu c.gone.new.self }) c.args.cpu c.args.cmd.now Gone =
-    gone_continues old c.args.cpu below cpu own.0 run own.1 (run.lpid - 1) lpid guest here c.gone.new.self c.args.cmd.now address older
+    let step : Continues g.S.Seal.stands g.S.Seal.image old (record old { cpus = slice_set old.cpus c.args.cpu c.gone.new.self }) c.args.cpu c.args.cmd.now Gone =
+    gone_continues g.S.Seal.stands g.S.Seal.image old c.args.cpu below cpu own.0 run own.1 (run.lpid - 1) lpid guest here c.gone.new.self c.args.cmd.now own_command older
     (λ part mark shows. rw c.gone.ensures.cpu (record { ctx = refl; own = refl; lpid = shows.lpid; vid = shows.vid; last = refl; hand = shows.hand })) in
-    rw c.gone.ensures.answer (subst (λ m. Continues m (record old { cpus = slice_set old.cpus c.args.cpu c.gone.new.self }) c.args.cpu c.args.cmd.now Gone) c.self.view_is step)
+    rw c.gone.ensures.answer (subst (λ m. Continues g.S.Seal.stands g.S.Seal.image m (record old { cpus = slice_set old.cpus c.args.cpu c.gone.new.self }) c.args.cpu c.args.cmd.now Gone) c.self.view_is step)
 
 -- a guest in its generation does its command
 pub overflow_sub-run-2 : goal.overflow_sub-run-2
 overflow_sub-run-2 g c =
-    let runs = run_there c.self.inside.guests.items c.self.inside.cpus.items c.args.self.now c.self.inside.normal.shift c.args.cpu c.args.run (ap (λ m. m.cpus) (sym c.self.view_is)) c.requires.runs c.self.invariant.cpus in
+    let runs = works_there c.self.inside.guests.items c.self.inside.cpus.items c.args.self.now c.self.inside.normal c.args.cpu (ctx.Guest c.args.run) (ap (λ m. m.cpus) (sym c.self.view_is)) c.requires.runs c.self.invariant.cpus in
     runs.0.least
 
 pub index_mut-guest-requires : goal.index_mut-guest-requires
 index_mut-guest-requires g c =
-    let runs = run_there c.self.inside.guests.items c.self.inside.cpus.items c.args.self.now c.self.inside.normal.shift c.args.cpu c.args.run (ap (λ m. m.cpus) (sym c.self.view_is)) c.requires.runs c.self.invariant.cpus in
+    let runs = works_there c.self.inside.guests.items c.self.inside.cpus.items c.args.self.now c.self.inside.normal c.args.cpu (ctx.Guest c.args.run) (ap (λ m. m.cpus) (sym c.self.view_is)) c.requires.runs c.self.invariant.cpus in
     let below = guest_below c.self.inside.guests.items c.args.run.lpid c.args.run.vid runs.0 in
     search (rules, below)
 
@@ -84,19 +85,19 @@ command-requires-clause-runs g c =
     let cpus = c.self.inside.cpus.items in
     let guests = c.self.inside.guests.items in
     let own = found_cpu cpus c.args.self.now c.args.cpu cpu (ctx.Guest run) (ap (λ m. m.cpus) (sym c.self.view_is)) c.requires.runs c.index_mut-own.ensures.value in
-    let runs = run_there guests cpus c.args.self.now c.self.inside.normal.shift c.args.cpu run (ap (λ m. m.cpus) (sym c.self.view_is)) c.requires.runs c.self.invariant.cpus in
+    let runs = works_there guests cpus c.args.self.now c.self.inside.normal c.args.cpu (ctx.Guest run) (ap (λ m. m.cpus) (sym c.self.view_is)) c.requires.runs c.self.invariant.cpus in
     let here = read_at guests (run.lpid - 1) guest (guest_below guests run.lpid run.vid runs.0) c.index_mut-guest.ensures.value in
     let seen : slice_get guests (run.lpid - 1) ≡ Some c.index.result.now = read_at guests (run.lpid - 1) c.index.result.now (guest_below guests run.lpid run.vid runs.0) (search rules) in
     let one : c.index.result.now ≡ guest = (let two = sym seen ∙ here in cc) in
     let same : run.generation ≡ c.index.result.now.generation = search rules in
-    record { ctx = own.1; vid = vcpu_below guests run.lpid run.vid guest runs.0 here; phase = phase_lets guests run guest runs here (same ∙ ap (λ x. x.generation) one) }
+    record { ctx = own.1; vid = vcpu_below guests run.lpid run.vid guest runs.0 here; phase = phase_lets guests c.self.inside.normal c.args.cpu run guest runs here (same ∙ ap (λ x. x.generation) one) }
 
 pub command-requires-clause-whole : goal.command-requires-clause-whole
 command-requires-clause-whole g c =
     let guest = c.index_mut-guest.result.now in
     let run = c.args.run in
     let guests = c.self.inside.guests.items in
-    let runs = run_there guests c.self.inside.cpus.items c.args.self.now c.self.inside.normal.shift c.args.cpu run (ap (λ m. m.cpus) (sym c.self.view_is)) c.requires.runs c.self.invariant.cpus in
+    let runs = works_there guests c.self.inside.cpus.items c.args.self.now c.self.inside.normal c.args.cpu (ctx.Guest run) (ap (λ m. m.cpus) (sym c.self.view_is)) c.requires.runs c.self.invariant.cpus in
     let here = read_at guests (run.lpid - 1) guest (guest_below guests run.lpid run.vid runs.0) c.index_mut-guest.ensures.value in
     (c.self.invariant.guests (run.lpid - 1) guest here).whole
 
@@ -105,7 +106,7 @@ command-requires-clause-pool g c =
     let guest = c.index_mut-guest.result.now in
     let run = c.args.run in
     let guests = c.self.inside.guests.items in
-    let runs = run_there guests c.self.inside.cpus.items c.args.self.now c.self.inside.normal.shift c.args.cpu run (ap (λ m. m.cpus) (sym c.self.view_is)) c.requires.runs c.self.invariant.cpus in
+    let runs = works_there guests c.self.inside.cpus.items c.args.self.now c.self.inside.normal c.args.cpu (ctx.Guest run) (ap (λ m. m.cpus) (sym c.self.view_is)) c.requires.runs c.self.invariant.cpus in
     let here = read_at guests (run.lpid - 1) guest (guest_below guests run.lpid run.vid runs.0) c.index_mut-guest.ensures.value in
     let is = c.self.invariant.guests (run.lpid - 1) guest here in
     record { count = sym is.secure; size = c.self.invariant.size ∙ ap (λ (shift : ℕ). 2 ^ shift) (sym is.shift) }
@@ -115,7 +116,7 @@ command-requires-clause-steps g c =
     let guest = c.index_mut-guest.result.now in
     let run = c.args.run in
     let guests = c.self.inside.guests.items in
-    let runs = run_there guests c.self.inside.cpus.items c.args.self.now c.self.inside.normal.shift c.args.cpu run (ap (λ m. m.cpus) (sym c.self.view_is)) c.requires.runs c.self.invariant.cpus in
+    let runs = works_there guests c.self.inside.cpus.items c.args.self.now c.self.inside.normal c.args.cpu (ctx.Guest run) (ap (λ m. m.cpus) (sym c.self.view_is)) c.requires.runs c.self.invariant.cpus in
     let here = read_at guests (run.lpid - 1) guest (guest_below guests run.lpid run.vid runs.0) c.index_mut-guest.ensures.value in
     let steps = subst HasSteps (sym c.self.view_is) c.requires.steps in
     let fewer = steps.fewer (run.lpid - 1) guest here in
@@ -130,12 +131,14 @@ invariant_of-self-2 g c =
     let cpus = c.self.inside.cpus.items in
     let guests = c.self.inside.guests.items in
     let own = found_cpu cpus c.args.self.now c.args.cpu cpu (ctx.Guest run) (ap (λ m. m.cpus) (sym c.self.view_is)) c.requires.runs c.index_mut-own.ensures.value in
-    let runs = run_there guests cpus c.args.self.now c.self.inside.normal.shift c.args.cpu run (ap (λ m. m.cpus) (sym c.self.view_is)) c.requires.runs c.self.invariant.cpus in
+    let runs = works_there guests cpus c.args.self.now c.self.inside.normal c.args.cpu (ctx.Guest run) (ap (λ m. m.cpus) (sym c.self.view_is)) c.requires.runs c.self.invariant.cpus in
     let here = read_at guests (run.lpid - 1) guest (guest_below guests run.lpid run.vid runs.0) c.index_mut-guest.ensures.value in
     let fewer = (subst HasSteps (sym c.self.view_is) c.requires.steps).fewer (run.lpid - 1) guest here in
     let old : State _ = record { cpus = c.self.inside.cpus.items; guests = c.self.inside.guests.items; pool = c.self.inside.pool; normal = c.self.inside.normal; steps = c.self.inside.steps } in
-    whole_guest g.S.Seal.takes old c.args.cpu c.command.new.cpu c.self.invariant (run.lpid - 1) guest c.command.new.guest c.command.new.pool here c.command.ensures.whole c.command.ensures.keeps c.command.ensures.frames fewer
-    (ran_cpu guests c.self.inside.normal.shift c.args.cpu cpu c.command.new.cpu guest c.command.new.guest (c.self.invariant.cpus c.args.cpu cpu own.0) c.command.ensures.keeps run c.command.result own.1 here c.command.ensures.cpu)
+    let number : cpu.number ≡ c.args.cpu = (c.self.invariant.cpus c.args.cpu cpu own.0).number in
+    let movers : KeepsMovers c.args.cpu guest c.command.new.guest = subst (λ n. KeepsMovers n guest c.command.new.guest) number c.command.ensures.movers in
+    whole_guest g.S.Seal.takes old c.args.cpu c.command.new.cpu c.self.invariant (run.lpid - 1) guest c.command.new.guest c.command.new.pool here c.command.ensures.whole c.command.ensures.keeps movers c.command.ensures.frames fewer
+    (ran_cpu guests c.self.inside.normal c.args.cpu cpu c.command.new.cpu guest c.command.new.guest (c.self.invariant.cpus c.args.cpu cpu own.0) c.command.ensures.keeps run c.command.result own.1 here c.command.ensures.cpu)
 
 pub returns-clause-step : goal.returns-clause-step
 returns-clause-step g c =
@@ -145,7 +148,7 @@ returns-clause-step g c =
     let cpus = c.self.inside.cpus.items in
     let guests = c.self.inside.guests.items in
     let own = found_cpu cpus c.args.self.now c.args.cpu cpu (ctx.Guest run) (ap (λ m. m.cpus) (sym c.self.view_is)) c.requires.runs c.index_mut-own.ensures.value in
-    let runs = run_there guests cpus c.args.self.now c.self.inside.normal.shift c.args.cpu run (ap (λ m. m.cpus) (sym c.self.view_is)) c.requires.runs c.self.invariant.cpus in
+    let runs = works_there guests cpus c.args.self.now c.self.inside.normal c.args.cpu (ctx.Guest run) (ap (λ m. m.cpus) (sym c.self.view_is)) c.requires.runs c.self.invariant.cpus in
     let here = read_at guests (run.lpid - 1) guest (guest_below guests run.lpid run.vid runs.0) c.index_mut-guest.ensures.value in
     let seen : slice_get guests (run.lpid - 1) ≡ Some c.index.result.now = read_at guests (run.lpid - 1) c.index.result.now (guest_below guests run.lpid run.vid runs.0) (search rules) in
     let one : c.index.result.now ≡ guest = (let two = sym seen ∙ here in cc) in
@@ -155,11 +158,11 @@ returns-clause-step g c =
     let old : State _ = record { cpus = c.self.inside.cpus.items; guests = c.self.inside.guests.items; pool = c.self.inside.pool; normal = c.self.inside.normal; steps = c.self.inside.steps } in
     let below = subst (λ m. c.args.cpu < length m.cpus) (sym c.self.view_is) c.requires.runs.below in
     let lpid : run.lpid ≡ run.lpid - 1 + 1 = (let least = runs.0.least in omega arith) in
-    let address : has_real_address c.args.cmd.now ≡ false = search rules in
+    let own_command : is_no_guests c.args.cmd.now ≡ false = search rules in
     let new : State _ = record old { cpus = slice_set old.cpus c.args.cpu c.command.new.cpu; guests = slice_set old.guests (run.lpid - 1) c.command.new.guest; pool = c.command.new.pool } in
-    let step : Continues old new c.args.cpu c.args.cmd.now c.command.result =
-    command_continues old c.args.cpu below cpu own.0 run own.1 (run.lpid - 1) lpid guest here c.command.new.cpu c.command.new.guest c.command.new.pool c.args.cmd.now c.command.result address test c.command.ensures.row in
-    subst (λ m. Continues m new c.args.cpu c.args.cmd.now c.command.result) c.self.view_is step
+    let step : Continues g.S.Seal.stands g.S.Seal.image old new c.args.cpu c.args.cmd.now c.command.result =
+    command_continues g.S.Seal.stands g.S.Seal.image old c.args.cpu below cpu own.0 run own.1 (run.lpid - 1) lpid guest here c.command.new.cpu c.command.new.guest c.command.new.pool c.args.cmd.now c.command.result own_command test c.command.ensures.row in
+    subst (λ m. Continues g.S.Seal.stands g.S.Seal.image m new c.args.cpu c.args.cmd.now c.command.result) c.self.view_is step
 
 pub returns-then-run-index-clause-frames_once : goal.returns-then-run-index-clause-frames_once
 returns-then-run-index-clause-frames_once g c = c.self.invariant.frames_once
@@ -169,14 +172,14 @@ returns-clause-frames_once g c =
     let guest = c.index_mut-guest.result.now in
     let run = c.args.run in
     let guests = c.self.inside.guests.items in
-    let runs = run_there guests c.self.inside.cpus.items c.args.self.now c.self.inside.normal.shift c.args.cpu run (ap (λ m. m.cpus) (sym c.self.view_is)) c.requires.runs c.self.invariant.cpus in
+    let runs = works_there guests c.self.inside.cpus.items c.args.self.now c.self.inside.normal c.args.cpu (ctx.Guest run) (ap (λ m. m.cpus) (sym c.self.view_is)) c.requires.runs c.self.invariant.cpus in
     let here = read_at guests (run.lpid - 1) guest (guest_below guests run.lpid run.vid runs.0) c.index_mut-guest.ensures.value in
     let old : State _ = record { cpus = c.self.inside.cpus.items; guests = c.self.inside.guests.items; pool = c.self.inside.pool; normal = c.self.inside.normal; steps = c.self.inside.steps } in
     once_stays old (run.lpid - 1) guest c.command.new.guest c.command.new.pool here c.command.ensures.frames c.self.invariant.frames_once (slice_set old.cpus c.args.cpu c.command.new.cpu)
 
 -- what a refused command leaves
-pub returns-then-has_real_address-clause-refused : goal.returns-then-has_real_address-clause-refused
-returns-then-has_real_address-clause-refused g c =
+pub returns-then-is_no_guests-clause-refused : goal.returns-then-is_no_guests-clause-refused
+returns-then-is_no_guests-clause-refused g c =
     let own = element_at c.args.self.now.cpus c.args.cpu c.requires.runs.below in
     context_leaves c.args.self.now c.args.cpu own.0 own.1
 
@@ -191,7 +194,7 @@ returns-clause-refused g c =
     let cpus = c.self.inside.cpus.items in
     let guests = c.self.inside.guests.items in
     let own = found_cpu cpus c.args.self.now c.args.cpu cpu (ctx.Guest run) (ap (λ m. m.cpus) (sym c.self.view_is)) c.requires.runs c.index_mut-own.ensures.value in
-    let runs = run_there guests cpus c.args.self.now c.self.inside.normal.shift c.args.cpu run (ap (λ m. m.cpus) (sym c.self.view_is)) c.requires.runs c.self.invariant.cpus in
+    let runs = works_there guests cpus c.args.self.now c.self.inside.normal c.args.cpu (ctx.Guest run) (ap (λ m. m.cpus) (sym c.self.view_is)) c.requires.runs c.self.invariant.cpus in
     let here = read_at guests (run.lpid - 1) guest (guest_below guests run.lpid run.vid runs.0) c.index_mut-guest.ensures.value in
     let old : State _ = record { cpus = c.self.inside.cpus.items; guests = c.self.inside.guests.items; pool = c.self.inside.pool; normal = c.self.inside.normal; steps = c.self.inside.steps } in
     let new : State _ = record old { cpus = slice_set old.cpus c.args.cpu c.command.new.cpu; guests = slice_set old.guests (run.lpid - 1) c.command.new.guest; pool = c.command.new.pool } in
