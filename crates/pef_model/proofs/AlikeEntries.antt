@@ -3,18 +3,16 @@ use Rattle.std.proofs.Common.{◌≡◌, ℕ, Bool, true, false, if◌then◌els
 use Rattle.pef_model.specs.declared.state.Ctx.{Ctx}
 use Rattle.pef_model.specs.declared.state.Ctx.TheVariants as ctx
 use Rattle.pef_model.specs.declared.command.Cmd.{Cmd}
-use Rattle.pef_model.specs.declared.command.Cmd.TheVariants.{HLd, HSt, UPageout, UReturn, GLi, GLd, GSt, GIrq, Go}
-use Rattle.pef_model.specs.declared.entry.Answer.{Answer}
 use Rattle.pef_model.specs.Plan.{Plan}
 use Rattle.pef_model.specs.Event.{Event, mark_of}
 use Rattle.pef_model.specs.Target.{Ask, Target, Alone, AtGuest, AtFrame, target_in, uses_hand}
 use Rattle.pef_model.specs.Cpu.{CpuPart}
-use Rattle.pef_model.specs.Deed.{Deed, answer_alone, answer_frame, deed_guest, deed_frame, deed_frame_in}
+use Rattle.pef_model.specs.Deed.{Deed, answer_alone, answer_frame, deed_guest, deed_frame, deed_frame_in, deed_copy}
 use Rattle.pef_model.specs.History.{cpu_after, guest_after, pool_after, frame_after, ask_of, entry_of, deed_after, next_entry, next_entry_by}
 use Rattle.pef_model.specs.SecretLaw.{open_cmd, open_answer, open_entry, is_sealing, AgreeButValue}
 use Rattle.pef_model.specs.View.{view}
 use Rattle.pef_model.specs.Alike.{AreAlikeOpen, begins_sealing}
-use Rattle.pef_model.proofs.Opened.{target_open, uses_hand_open, alone_open, frame_answer_open}
+use Rattle.pef_model.proofs.Opened.{target_open, uses_hand_open, alone_open, frame_answer_open, sealing_agrees}
 use Rattle.pef_model.proofs.Deeds.{no_secret_in_deeds, same_deed, IsShut, bytes_shut}
 
 -- an entry without its stamp
@@ -74,7 +72,7 @@ deeds_shut plan past history ask cmd other Alone same cmds shut = refl
 deeds_shut plan past history ask cmd other (AtFrame n) same cmds shut = by_ctx ask.before where
   by_ctx : (c : Ctx) → (deed_frame_in c plan n (frame_after plan n past) ask cmd).bytes ≡ (deed_frame_in c plan n (frame_after plan n history) ask other).bytes
   by_ctx ctx.Hv = refl
-  by_ctx (ctx.Uv work) = refl
+  by_ctx (ctx.Uv work) = ap (λ (bytes : List ℕ). (deed_copy work n bytes ask).bytes) (same.frame n)
   by_ctx (ctx.Guest run) = refl
 deeds_shut plan past history ask cmd other (AtGuest lpid) same cmds shut =
     ap (λ (free : ℕ). (deed_guest plan (guest_after plan lpid past) (nat_lt 0 free) ask cmd).bytes) same.pool
@@ -86,20 +84,6 @@ asks_agree cpu other cmd with_ cpus cmds =
     let uses : uses_hand cpu.ctx cmd ≡ uses_hand cpu.ctx with_ = uses_hand_open cpu.ctx cmd ∙ ap (uses_hand cpu.ctx) cmds ∙ sym (uses_hand_open cpu.ctx with_) in
     (λ i. record { before = cpu.ctx; lpid = cpu.lpid; vid = cpu.vid; last = cpu.last; hand = if uses i then cpu.hand else [] })
     ∙ ap (λ (x : CpuPart). ask_of x with_) cpus
-
--- whether a step begins a page-out is no secret
-sealing_open : (c : Ctx) (cmd : Cmd) (a : Answer) → is_sealing c cmd a ≡ is_sealing c (open_cmd cmd) (open_answer c a)
-sealing_open ctx.Hv (HLd ra) a = refl
-sealing_open ctx.Hv (HSt ra value) a = refl
-sealing_open ctx.Hv (UPageout lpid dest gpa flags order) a = refl
-sealing_open ctx.Hv (UReturn r0 r2 outs) a = refl
-sealing_open ctx.Hv (GLi rd value) a = refl
-sealing_open ctx.Hv (GLd rd gpa) a = refl
-sealing_open ctx.Hv (GSt rs gpa) a = refl
-sealing_open ctx.Hv GIrq a = refl
-sealing_open ctx.Hv Go a = refl
-sealing_open (ctx.Uv work) cmd a = refl
-sealing_open (ctx.Guest run) cmd a = refl
 
 module _ (plan : Plan) (past history : List Event) (e f : Event) (same : Same plan past history) (p : IsNext plan past e) (q : IsNext plan history f) (alike : AreAlikeOpen e f) where
   abbrev ask : Ask
@@ -130,10 +114,7 @@ module _ (plan : Plan) (past history : List Event) (e f : Event) (same : Same pl
   -- both begin a page-out, or neither does
   pub sealings_agree : begins_sealing e ≡ begins_sealing f
   sealings_agree =
-      ap begins_sealing is ∙ sealing_open ask.before e.trace.cmd deed.answer
-      ∙ ap (λ (cmd : Cmd). is_sealing ask.before cmd (open_answer ask.before deed.answer)) alike.cmd
-      ∙ ap (is_sealing ask.before (open_cmd f.trace.cmd)) agree.answer
-      ∙ sym (sealing_open ask.before f.trace.cmd other_deed.answer) ∙ sym (ap begins_sealing q)
+      ap begins_sealing is ∙ sealing_agrees ask.before e.trace.cmd f.trace.cmd deed.answer other_deed.answer alike.cmd agree.answer ∙ sym (ap begins_sealing q)
 
   -- where sealed pages tell nothing their bytes agree
   pub entries_shut : IsShut plan → e.bytes ≡ f.bytes

@@ -20,8 +20,7 @@ use Rattle.pef_model.specs.Run.{entries_of, entry_after, with_directive, run_aft
 use Rattle.pef_model.specs.SecretLaw.{open_cmd, open_directive}
 use Rattle.pef_model.specs.Alike.{AreAlikeOpen, AllAlikeOpen, begins_sealing, SealedBytesAgree, IsAlike}
 use Rattle.pef_model.specs.SeenReport.{SecretsGiveAlikeRuns, open_line, all_let_out, all_sealed}
-use Rattle.pef_model.proofs.GoAll.{gos_left, ctx_at}
-use Rattle.pef_model.proofs.GoAll.{gos, most_gos_is}
+use Rattle.pef_model.proofs.GoAll.{gos_left, ctx_at, gos, most_gos_is}
 use Rattle.pef_model.proofs.Runs.{done}
 use Rattle.pef_model.proofs.Deeds.{IsShut}
 use Rattle.pef_model.proofs.AlikeEntries.{Same, sealings_agree, entries_shut}

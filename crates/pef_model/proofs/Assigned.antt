@@ -9,9 +9,9 @@ use Rattle.std.proofs.lemmas.Bool.Decides.{nat_tests}
 use Rattle.pef_model.specs.declared.state.Regs.{Regs}
 use Rattle.pef_model.specs.declared.state.Ctx.{Ctx}
 use Rattle.pef_model.specs.declared.state.Ctx.TheVariants as ctx
-use Rattle.pef_model.specs.declared.command.TheConstants.{UV_RETURN}
+use Rattle.pef_model.specs.declared.command.TheConstants.{UV_PAGE_IN, UV_PAGE_OUT, UV_RETURN}
 use Rattle.pef_model.specs.declared.command.Cmd.{Cmd}
-use Rattle.pef_model.specs.declared.command.Cmd.TheVariants.{HLd, HSt, UPageout, UReturn, GLi, GLd, GSt, GIrq, Go}
+use Rattle.pef_model.specs.declared.command.Cmd.TheVariants.{UPagein, UPageout, UReturn, GLi, GLd, GSt}
 use Rattle.pef_model.specs.declared.entry.Answer.{Answer}
 use Rattle.pef_model.specs.declared.entry.Answer.TheVariants.{Done, Val, Ret, Enter}
 use Rattle.pef_model.specs.Plan.{Plan}
@@ -104,20 +104,13 @@ returned_value gpr outs r0 r2 code r h k small = by_zero (r == 0) refl where
 
 -- a command keeps that there are 32 registers
 length_command : (regs : Regs) (cmd : Cmd) (a : Answer) → IsCommand cmd → length regs.gpr ≡ 32 → length (registers_after_command regs cmd a).gpr ≡ 32
-length_command regs (HLd ra) a k h = h
-length_command regs (HSt ra value) a k h = h
-length_command regs (UPageout lpid dest gpa flags order) (Ret code) k h = length-called regs.gpr lpid dest gpa flags order (number_of code) h
-length_command regs (UPageout lpid dest gpa flags order) a k h = h
+length_command regs (UPagein lpid src gpa flags order) (Ret code) k h = length-called regs.gpr UV_PAGE_IN lpid src gpa flags order (number_of code) h
+length_command regs (UPageout lpid dest gpa flags order) (Ret code) k h = length-called regs.gpr UV_PAGE_OUT lpid dest gpa flags order (number_of code) h
 length_command regs (UReturn r0 r2 outs) (Ret code) k h = length-returned (loaded regs.gpr r0 r2) outs r0 r2 (number_of code) (length-loaded regs.gpr r0 r2 h) k
-length_command regs (UReturn r0 r2 outs) a k h = h
 length_command regs (GLi rd value) Done k h = simp length-set h
-length_command regs (GLi rd value) a k h = h
 length_command regs (GLd rd gpa) (Val value) k h = simp length-set h
-length_command regs (GLd rd gpa) a k h = h
 length_command regs (GSt rs gpa) Done k h = h
-length_command regs (GSt rs gpa) a k h = h
-length_command regs GIrq a k h = h
-length_command regs Go a k h = h
+length_command regs cmd a k h = h
 
 pub set_value : (gpr : List ℕ) (rd value r : ℕ) → length gpr ≡ 32 → rd < 32 → get_or (slice_set gpr rd value) r 0 ≡ unwrap_or (if r == rd then Some value else None) (get_or gpr r 0)
 set_value gpr rd value r h k = by_test (r == rd) refl where
@@ -128,20 +121,13 @@ set_value gpr rd value r h k = by_test (r == rd) refl where
 -- each register after a command of its vCPU
 command_value : (regs : Regs) (cmd : Cmd) (a : Answer) (r : ℕ) → IsCommand cmd → length regs.gpr ≡ 32 → r < 32 →
     get_or (registers_after_command regs cmd a).gpr r 0 ≡ unwrap_or (assigned_by_command cmd a r) (get_or regs.gpr r 0)
-command_value regs (HLd ra) a r k h small = refl
-command_value regs (HSt ra value) a r k h small = refl
-command_value regs (UPageout lpid dest gpa flags order) (Ret code) r k h small = called_value regs.gpr lpid dest gpa flags order (number_of code) r h
-command_value regs (UPageout lpid dest gpa flags order) a r k h small = refl
+command_value regs (UPagein lpid src gpa flags order) (Ret code) r k h small = called_value regs.gpr UV_PAGE_IN lpid src gpa flags order (number_of code) r h
+command_value regs (UPageout lpid dest gpa flags order) (Ret code) r k h small = called_value regs.gpr UV_PAGE_OUT lpid dest gpa flags order (number_of code) r h
 command_value regs (UReturn r0 r2 outs) (Ret code) r k h small = returned_value regs.gpr outs r0 r2 (number_of code) r h k small
-command_value regs (UReturn r0 r2 outs) a r k h small = refl
 command_value regs (GLi rd value) Done r k h small = set_value regs.gpr rd value r h k
-command_value regs (GLi rd value) a r k h small = refl
 command_value regs (GLd rd gpa) (Val value) r k h small = set_value regs.gpr rd value r h k
-command_value regs (GLd rd gpa) a r k h small = refl
 command_value regs (GSt rs gpa) Done r k h small = refl
-command_value regs (GSt rs gpa) a r k h small = refl
-command_value regs GIrq a r k h small = refl
-command_value regs Go a r k h small = refl
+command_value regs cmd a r k h small = refl
 
 -- UV_RETURN of the hypervisor moves no register of R0 to R31
 gpr_after_return : (regs : Regs) (cmd : Cmd) (a : Answer) → (registers_after_return regs cmd a).gpr ≡ regs.gpr
@@ -149,15 +135,7 @@ gpr_after_return regs (UReturn r0 r2 outs) Enter = by_test (r2 == 0) where
   by_test : (b : Bool) → (if b then regs else record regs { nip = r2; srr0 = regs.nip }).gpr ≡ regs.gpr
   by_test true = refl
   by_test false = refl
-gpr_after_return regs (UReturn r0 r2 outs) a = refl
-gpr_after_return regs (HLd ra) a = refl
-gpr_after_return regs (HSt ra value) a = refl
-gpr_after_return regs (UPageout lpid dest gpa flags order) a = refl
-gpr_after_return regs (GLi rd value) a = refl
-gpr_after_return regs (GLd rd gpa) a = refl
-gpr_after_return regs (GSt rs gpa) a = refl
-gpr_after_return regs GIrq a = refl
-gpr_after_return regs Go a = refl
+gpr_after_return regs cmd a = refl
 
 -- each vCPU has 32 registers
 abbrev AreFull : (ℕ → Regs) → Type 0

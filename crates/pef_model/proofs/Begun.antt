@@ -1,9 +1,11 @@
 -- A page's version counts the page-outs of it that began, and the newest of them is what is pending or was last sealed.
 use Rattle.std.proofs.Common.{◌≡◌, ℕ, ◌+◌, List, [], ◌∷◌, Bool, true, false, refl, ap, sym, subst, ◌∙◌, ◌==◌, ◌&&◌, cond, if◌then◌else◌, inl, inr, Option, Some, None, arith}
-use Rattle.std.specs.Prelude.{IsSome}
 use Rattle.std.specs.List.{count_by}
 use Rattle.std.proofs.lemmas.List.Sums.{sum_by-cons}
 use Rattle.pef_model.specs.declared.state.Kind.TheVariants.{Secure, Out}
+use Rattle.pef_model.specs.declared.state.Way.{Way}
+use Rattle.pef_model.specs.declared.state.Way.TheVariants as way
+use Rattle.pef_model.specs.declared.state.Mover.{Mover}
 use Rattle.pef_model.specs.declared.state.Move.{Move}
 use Rattle.pef_model.specs.declared.state.Work.TheVariants.{Outward}
 use Rattle.pef_model.specs.declared.state.Ctx.{Ctx}
@@ -16,14 +18,14 @@ use Rattle.pef_model.specs.Plan.{Plan}
 use Rattle.pef_model.specs.Event.{Event}
 use Rattle.pef_model.specs.Target.{touches_cpu}
 use Rattle.pef_model.specs.Cpu.{CpuPart, start_cpu, next_cpu}
-use Rattle.pef_model.specs.GuestPart.{Page, GuestPart, start_part_of, secured, begun_out, ended_out}
+use Rattle.pef_model.specs.GuestPart.{Page, GuestPart, start_part_of, secured, begun_out, ended_out, begun_in, refused_in}
 use Rattle.pef_model.specs.History.{cpu_after, Extends, IsLegal}
 use Rattle.pef_model.specs.MoveLaw.{begins_out, begins_out_in, last_begun, LastSealedIsBegun, VersionsCountPageOuts}
 use Rattle.pef_model.proofs.Folds.{same_test, test_same, counts}
 use Rattle.pef_model.proofs.Puts.{put_in, here_or_elsewhere, put_in-here, put_in-elsewhere, IsElsewhere}
 use Rattle.pef_model.proofs.Outcomes.{Outcome, outcome}
 use Rattle.pef_model.proofs.Steps.{ctx_after}
-use Rattle.pef_model.proofs.Changes.{Change, Quiet, Begins, Copies, Ends, Drops, Takes, Parked, Gone, Backs, LeavesCpu}
+use Rattle.pef_model.proofs.Changes.{Change, Quiet, Begins, Copies, Ends, Drops, Comes, Reads, Accepts, Refuses, Takes, Parked, Gone, Backs, LeavesCpu}
 use Rattle.pef_model.proofs.ChangeOf.{change}
 use Rattle.pef_model.proofs.Fields.{field_after, same_field, kept_field}
 use Rattle.pef_model.proofs.Moving.{IsMoving}
@@ -58,14 +60,16 @@ not_both l g m n elsewhere = by_first (l == m) refl where
 data PageStep (old new : Page) (begins : Bool) (bytes : List ℕ) : Type 0 where
   Stays : begins ≡ false → new ≡ old → PageStep old new begins bytes
   Begun : begins ≡ true → (cpu : ℕ) → old.kind ≡ Secure → new ≡ begun_out old cpu bytes → PageStep old new begins bytes
-  Ended : begins ≡ false → (hand : List ℕ) (cpu : ℕ) → IsMoving old hand cpu → new ≡ ended_out old → PageStep old new begins bytes
-  Backed : begins ≡ false → new ≡ secured old → PageStep old new begins bytes
+  Ended : begins ≡ false → (hand : List ℕ) (cpu : ℕ) → IsMoving way.Outward old hand cpu → new ≡ ended_out old → PageStep old new begins bytes
+  Coming : begins ≡ false → (cpu : ℕ) → new ≡ begun_in old cpu → PageStep old new begins bytes
+  Refused : begins ≡ false → new ≡ refused_in old → PageStep old new begins bytes
+  Secured : begins ≡ false → new ≡ secured old → PageStep old new begins bytes
 
 -- a page that has begun so often, the last time with these bytes
 record IsCounted (page : Page) (count : ℕ) (last : Option (List ℕ)) : Type 0 where
   version : page.version ≡ count
   sealed : page.kind ≡ Out → page.sealed ≡ last
-  pending : IsSome page.mover → page.pending ≡ last
+  pending : (cpu : ℕ) → page.mover ≡ Some (record { cpu = cpu; way = way.Outward }) → page.pending ≡ last
 
 -- one more where a page-out begins
 abbrev counted_on : Bool → ℕ → ℕ
@@ -76,24 +80,43 @@ counted_on_is : (begins : Bool) (count : ℕ) → cond begins 1 0 + count ≡ co
 counted_on_is true count = refl
 counted_on_is false count = omega arith
 
+-- where none begins the count and the newest bytes are the old
+counted_still : (new : Page) (begins : Bool) (bytes : List ℕ) (count : ℕ) (last : Option (List ℕ)) → begins ≡ false → IsCounted new count last → IsCounted new (counted_on begins count) (if begins then Some bytes else last)
+counted_still new true bytes count last none h = cc
+counted_still new false bytes count last none h = h
+
+-- and where one does they are the entry's
+counted_more : (new : Page) (begins : Bool) (bytes : List ℕ) (count : ℕ) (last : Option (List ℕ)) → begins ≡ true → IsCounted new (1 + count) (Some bytes) →
+    IsCounted new (counted_on begins count) (if begins then Some bytes else last)
+counted_more new true bytes count last some h = h
+counted_more new false bytes count last some h = cc
+
+-- no page moves both ways
+not_both_ways : (n cpu : ℕ) (mover other : Option Mover) → mover ≡ Some (record { cpu = cpu; way = way.Inward }) → other ≡ Some (record { cpu = n; way = way.Outward }) → mover ≡ other → ⊥
+not_both_ways n cpu mover other inward outward same = let ways : way.Inward ≡ way.Outward = sym (ap way_in inward) ∙ ap way_in same ∙ ap way_in outward in cc where
+  way_in : Option Mover → Way
+  way_in None = way.Inward
+  way_in (Some mover) = mover.way
+
 -- the count and the newest bytes after an entry
 counted_after : (old new : Page) (begins : Bool) (bytes : List ℕ) (count : ℕ) (last : Option (List ℕ)) → PageStep old new begins bytes → IsCounted old count last →
     IsCounted new (counted_on begins count) (if begins then Some bytes else last)
-counted_after old new true bytes count last (Stays none is) h = cc
-counted_after old new false bytes count last (Stays none is) h = subst (λ (page : Page). IsCounted page count last) (sym is) h
-counted_after old new true bytes count last (Begun begins cpu secure is) h =
-    subst (λ (page : Page). IsCounted page (1 + count) (Some bytes)) (sym is)
-    (record { version = let same = h.version in omega arith; sealed = λ out. cc; pending = λ moves. refl })
-counted_after old new false bytes count last (Begun begins cpu secure is) h = cc
-counted_after old new true bytes count last (Ended none hand cpu moving is) h = cc
-counted_after old new false bytes count last (Ended none hand cpu moving is) h =
-    let moves : IsSome old.mover = rw moving.mover refl in
-    subst (λ (page : Page). IsCounted page count last) (sym is)
-    (record { version = h.version; sealed = λ out. h.pending moves; pending = λ rests. cc })
-counted_after old new true bytes count last (Backed none is) h = cc
-counted_after old new false bytes count last (Backed none is) h =
-    subst (λ (page : Page). IsCounted page count last) (sym is)
-    (record { version = h.version; sealed = λ out. cc; pending = λ rests. cc })
+counted_after old new begins bytes count last (Stays none is) h = counted_still new begins bytes count last none (subst (λ (page : Page). IsCounted page count last) (sym is) h)
+counted_after old new begins bytes count last (Begun some cpu secure is) h =
+    counted_more new begins bytes count last some (subst (λ (page : Page). IsCounted page (1 + count) (Some bytes)) (sym is)
+    (record { version = let same = h.version in omega arith; sealed = λ out. cc; pending = λ n moves. refl }))
+counted_after old new begins bytes count last (Ended none hand cpu moving is) h =
+    counted_still new begins bytes count last none (subst (λ (page : Page). IsCounted page count last) (sym is)
+    (record { version = h.version; sealed = λ out. h.pending cpu moving.mover; pending = λ n rests. cc }))
+counted_after old new begins bytes count last (Coming none cpu is) h =
+    counted_still new begins bytes count last none (subst (λ (page : Page). IsCounted page count last) (sym is)
+    (record { version = h.version; sealed = h.sealed; pending = λ n moves. absurd (not_both_ways n cpu _ _ refl moves refl) }))
+counted_after old new begins bytes count last (Refused none is) h =
+    counted_still new begins bytes count last none (subst (λ (page : Page). IsCounted page count last) (sym is)
+    (record { version = h.version; sealed = h.sealed; pending = λ n rests. cc }))
+counted_after old new begins bytes count last (Secured none is) h =
+    counted_still new begins bytes count last none (subst (λ (page : Page). IsCounted page count last) (sym is)
+    (record { version = h.version; sealed = λ out. cc; pending = λ n rests. cc }))
 
 module _ (plan : Plan) (past : List Event) (e : Event) (extends : Extends plan past e) (lpid gfn : ℕ) where
   abbrev cpu : CpuPart
@@ -151,15 +174,32 @@ module _ (plan : Plan) (past : List Event) (e : Event) (extends : Extends plan p
   page_step all (Copies x) =
       page_kept (none_begins _ _ _ x.cpu_is (λ move hypervisor call. let before = x.before in cc)) (kept_field plan past e (λ (g : GuestPart). g.pages) x.parts)
   page_step all (Ends x) =
-      let moving = all.moves e.trace.cpu x.move x.before x.generation in
+      let moving = all.moves e.trace.cpu (Outward x.move) x.before x.generation in
       let none = none_begins _ _ _ x.cpu_is (λ move hypervisor call. let before = x.before in cc) in
       page_put x.move.lpid x.move.gfn _ (field_after plan past e (λ (g : GuestPart). g.pages) _ _ x.parts)
       (λ p q is. Ended none cpu.hand e.trace.cpu
-      (subst (λ (page : Page). IsMoving page cpu.hand e.trace.cpu) (old_page x.move.lpid x.move.gfn p q) moving)
+      (subst (λ (page : Page). IsMoving way.Outward page cpu.hand e.trace.cpu) (old_page x.move.lpid x.move.gfn p q) moving)
       (is ∙ ap ended_out (old_page x.move.lpid x.move.gfn p q)))
       (λ elsewhere. none)
   page_step all (Drops x) =
       page_kept (none_begins _ _ _ x.cpu_is (λ move hypervisor call. let before = x.before in cc)) (kept_field plan past e (λ (g : GuestPart). g.pages) x.parts)
+  page_step all (Comes x) =
+      let none = none_begins _ _ _ x.cpu_is (λ move hypervisor call. cc) in
+      page_put x.move.lpid x.move.gfn _ (field_after plan past e (λ (g : GuestPart). g.pages) _ _ x.parts)
+      (λ p q is. Coming none e.trace.cpu (is ∙ ap (λ (page : Page). begun_in page e.trace.cpu) (old_page x.move.lpid x.move.gfn p q)))
+      (λ elsewhere. none)
+  page_step all (Reads x) =
+      page_kept (none_begins _ _ _ x.cpu_is (λ move hypervisor call. let before = x.before in cc)) (kept_field plan past e (λ (g : GuestPart). g.pages) x.parts)
+  page_step all (Accepts x) =
+      let none = none_begins _ _ _ x.cpu_is (λ move hypervisor call. let before = x.before in cc) in
+      page_put x.move.lpid x.move.gfn _ (field_after plan past e (λ (g : GuestPart). g.pages) _ _ x.parts)
+      (λ p q is. Secured none (is ∙ ap secured (old_page x.move.lpid x.move.gfn p q)))
+      (λ elsewhere. none)
+  page_step all (Refuses x) =
+      let none = none_begins _ _ _ x.cpu_is (λ move hypervisor call. let before = x.before in cc) in
+      page_put x.move.lpid x.move.gfn _ (field_after plan past e (λ (g : GuestPart). g.pages) _ _ x.parts)
+      (λ p q is. Refused none (is ∙ ap refused_in (old_page x.move.lpid x.move.gfn p q)))
+      (λ elsewhere. none)
   page_step all (Takes x) =
       page_kept (none_begins _ _ _ x.cpu_is (λ move hypervisor call. cc)) (same_field plan past e (λ (g : GuestPart). g.pages) _ _ x.parts refl)
   page_step all (Parked x) =
@@ -169,13 +209,13 @@ module _ (plan : Plan) (past : List Event) (e : Event) (extends : Extends plan p
   page_step all (Backs x) =
       let none = none_begins _ _ _ x.cpu_is (λ move hypervisor call. let before = x.before in cc) in
       page_put x.run.lpid x.gfn _ (field_after plan past e (λ (g : GuestPart). g.pages) _ _ x.parts)
-      (λ p q is. Backed none (is ∙ ap secured (old_page x.run.lpid x.gfn p q)))
+      (λ p q is. Secured none (is ∙ ap secured (old_page x.run.lpid x.gfn p q)))
       (λ elsewhere. none)
 
 -- at the start no page-out has begun
 start_counted : (b : Bool) (gfn : ℕ) → IsCounted ((start_part_of b).pages gfn) 0 None
-start_counted true gfn = record { version = refl; sealed = λ out. cc; pending = λ moves. refl }
-start_counted false gfn = record { version = refl; sealed = λ out. cc; pending = λ moves. refl }
+start_counted true gfn = record { version = refl; sealed = λ out. cc; pending = λ n moves. refl }
+start_counted false gfn = record { version = refl; sealed = λ out. cc; pending = λ n moves. refl }
 
 -- by induction over the history
 counted : (plan : Plan) (past : List Event) (lpid gfn : ℕ) → IsLegal plan past → IsCounted (pages plan past lpid gfn) (count_by (begins_out plan lpid gfn) past) (last_begun plan lpid gfn past)

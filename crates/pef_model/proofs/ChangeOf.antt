@@ -1,10 +1,10 @@
 -- Which change each entry of a legal history makes.
 use Rattle.std.proofs.Common.{◌≡◌, nat_le, List, ◌&&◌, refl, sym, subst}
-use Rattle.pef_model.specs.declared.state.Work.TheVariants.{Outward}
+use Rattle.pef_model.specs.declared.state.Work.TheVariants.{Inward, Outward}
 use Rattle.pef_model.specs.declared.state.Ctx.{Ctx}
 use Rattle.pef_model.specs.declared.state.Ctx.TheVariants as ctx
 use Rattle.pef_model.specs.declared.command.Cmd.{Cmd}
-use Rattle.pef_model.specs.declared.command.Cmd.TheVariants.{HLd, HSt, UPageout, UReturn, GLi, GLd, GSt, GIrq, Go}
+use Rattle.pef_model.specs.declared.command.Cmd.TheVariants.{HLd, HSt, UPagein, UPageout, UReturn, GLi, GLd, GSt, GIrq, Go}
 use Rattle.pef_model.specs.Plan.{Plan}
 use Rattle.pef_model.specs.Event.{Event, Mark, mark_of}
 use Rattle.pef_model.specs.Target.{has_real_place}
@@ -12,6 +12,7 @@ use Rattle.pef_model.specs.Cpu.{CpuPart}
 use Rattle.pef_model.specs.History.{cpu_after, next_entry_by, Extends}
 use Rattle.pef_model.proofs.Changes.{Change, asked, refused}
 use Rattle.pef_model.proofs.HypervisorChanges.{load, store, return, any_page_out, go}
+use Rattle.pef_model.proofs.PageInChanges.{any_page_in, go_in}
 use Rattle.pef_model.proofs.GuestChanges.{at_own}
 
 -- by the context before the step, and the command
@@ -19,6 +20,7 @@ change_in : (plan : Plan) (past : List Event) (cpu : CpuPart) (mark : Mark) (c :
     Change plan past cpu (next_entry_by plan past (asked cpu c cmd) mark cmd)
 change_in plan past cpu mark ctx.Hv h (HLd ra) = load plan past cpu mark h ra (has_real_place plan ra)
 change_in plan past cpu mark ctx.Hv h (HSt ra value) = store plan past cpu mark h ra value (has_real_place plan ra)
+change_in plan past cpu mark ctx.Hv h (UPagein lpid src gpa flags order) = any_page_in plan past cpu mark h lpid src gpa flags order (nat_le 1 lpid && nat_le lpid plan.guests) refl
 change_in plan past cpu mark ctx.Hv h (UPageout lpid dest gpa flags order) = any_page_out plan past cpu mark h lpid dest gpa flags order (nat_le 1 lpid && nat_le lpid plan.guests) refl
 change_in plan past cpu mark ctx.Hv h (UReturn r0 r2 outs) = return plan past cpu mark h r0 r2 outs
 change_in plan past cpu mark ctx.Hv h (GLi rd value) = refused plan past cpu mark ctx.Hv h (GLi rd value) (record { ctx_is = refl; hand_is = refl; lpid_is = refl }) refl
@@ -26,17 +28,13 @@ change_in plan past cpu mark ctx.Hv h (GLd rd gpa) = refused plan past cpu mark 
 change_in plan past cpu mark ctx.Hv h (GSt rs gpa) = refused plan past cpu mark ctx.Hv h (GSt rs gpa) (record { ctx_is = refl; hand_is = refl; lpid_is = refl }) refl
 change_in plan past cpu mark ctx.Hv h GIrq = refused plan past cpu mark ctx.Hv h GIrq (record { ctx_is = refl; hand_is = refl; lpid_is = refl }) refl
 change_in plan past cpu mark ctx.Hv h Go = refused plan past cpu mark ctx.Hv h Go (record { ctx_is = refl; hand_is = refl; lpid_is = refl }) refl
-change_in plan past cpu mark (ctx.Uv (Outward move)) h (HLd ra) = refused plan past cpu mark (ctx.Uv (Outward move)) h (HLd ra) (record { ctx_is = h; hand_is = refl; lpid_is = refl }) refl
-change_in plan past cpu mark (ctx.Uv (Outward move)) h (HSt ra value) = refused plan past cpu mark (ctx.Uv (Outward move)) h (HSt ra value) (record { ctx_is = h; hand_is = refl; lpid_is = refl }) refl
-change_in plan past cpu mark (ctx.Uv (Outward move)) h (UPageout lpid dest gpa flags order) = refused plan past cpu mark (ctx.Uv (Outward move)) h (UPageout lpid dest gpa flags order) (record { ctx_is = h; hand_is = refl; lpid_is = refl }) refl
-change_in plan past cpu mark (ctx.Uv (Outward move)) h (UReturn r0 r2 outs) = refused plan past cpu mark (ctx.Uv (Outward move)) h (UReturn r0 r2 outs) (record { ctx_is = h; hand_is = refl; lpid_is = refl }) refl
-change_in plan past cpu mark (ctx.Uv (Outward move)) h (GLi rd value) = refused plan past cpu mark (ctx.Uv (Outward move)) h (GLi rd value) (record { ctx_is = h; hand_is = refl; lpid_is = refl }) refl
-change_in plan past cpu mark (ctx.Uv (Outward move)) h (GLd rd gpa) = refused plan past cpu mark (ctx.Uv (Outward move)) h (GLd rd gpa) (record { ctx_is = h; hand_is = refl; lpid_is = refl }) refl
-change_in plan past cpu mark (ctx.Uv (Outward move)) h (GSt rs gpa) = refused plan past cpu mark (ctx.Uv (Outward move)) h (GSt rs gpa) (record { ctx_is = h; hand_is = refl; lpid_is = refl }) refl
-change_in plan past cpu mark (ctx.Uv (Outward move)) h GIrq = refused plan past cpu mark (ctx.Uv (Outward move)) h GIrq (record { ctx_is = h; hand_is = refl; lpid_is = refl }) refl
 change_in plan past cpu mark (ctx.Uv (Outward move)) h Go = go plan past cpu mark move h move.copied refl
+change_in plan past cpu mark (ctx.Uv (Outward move)) h cmd = refused plan past cpu mark (ctx.Uv (Outward move)) h cmd (record { ctx_is = h; hand_is = refl; lpid_is = refl }) refl
+change_in plan past cpu mark (ctx.Uv (Inward move)) h Go = go_in plan past cpu mark move h move.copied refl
+change_in plan past cpu mark (ctx.Uv (Inward move)) h cmd = refused plan past cpu mark (ctx.Uv (Inward move)) h cmd (record { ctx_is = h; hand_is = refl; lpid_is = refl }) refl
 change_in plan past cpu mark (ctx.Guest run) h (HLd ra) = refused plan past cpu mark (ctx.Guest run) h (HLd ra) (record { ctx_is = h; hand_is = refl; lpid_is = refl }) refl
 change_in plan past cpu mark (ctx.Guest run) h (HSt ra value) = refused plan past cpu mark (ctx.Guest run) h (HSt ra value) (record { ctx_is = h; hand_is = refl; lpid_is = refl }) refl
+change_in plan past cpu mark (ctx.Guest run) h (UPagein lpid src gpa flags order) = at_own plan past cpu mark run h (UPagein lpid src gpa flags order) refl
 change_in plan past cpu mark (ctx.Guest run) h (UPageout lpid dest gpa flags order) = at_own plan past cpu mark run h (UPageout lpid dest gpa flags order) refl
 change_in plan past cpu mark (ctx.Guest run) h (UReturn r0 r2 outs) = at_own plan past cpu mark run h (UReturn r0 r2 outs) refl
 change_in plan past cpu mark (ctx.Guest run) h (GLi rd value) = at_own plan past cpu mark run h (GLi rd value) refl

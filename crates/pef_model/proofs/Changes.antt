@@ -1,10 +1,11 @@
 -- What a step can change: its CPU, the public part of one guest, the pool.
-use Rattle.std.proofs.Common.{◌≡◌, ◌≢◌, ℕ, ◌+◌, List, ◌∷◌, Bool, true, false, refl, ap, sym, ◌∙◌, ◌==◌, ◌&&◌, if◌then◌else◌, None}
-use Rattle.pef_model.specs.declared.state.Kind.TheVariants.{Secure}
+use Rattle.std.proofs.Common.{◌≡◌, ◌≢◌, ℕ, ◌+◌, ◌<◌, List, ◌∷◌, Bool, true, false, refl, ap, sym, ◌∙◌, ◌==◌, ◌&&◌, if◌then◌else◌, None}
+use Rattle.pef_model.specs.declared.state.Kind.TheVariants.{Secure, Out}
 use Rattle.pef_model.specs.declared.state.Pending.TheVariants as pending
 use Rattle.pef_model.specs.declared.state.Run.{Run}
 use Rattle.pef_model.specs.declared.state.Move.{Move}
-use Rattle.pef_model.specs.declared.state.Work.TheVariants.{Outward}
+use Rattle.pef_model.specs.declared.state.Work.{Work}
+use Rattle.pef_model.specs.declared.state.Work.TheVariants.{Inward, Outward}
 use Rattle.pef_model.specs.declared.state.Ctx.{Ctx}
 use Rattle.pef_model.specs.declared.state.Ctx.TheVariants as ctx
 use Rattle.pef_model.specs.declared.command.Cmd.{Cmd}
@@ -12,14 +13,15 @@ use Rattle.pef_model.specs.Plan.{Plan}
 use Rattle.pef_model.specs.Event.{Event, Mark}
 use Rattle.pef_model.specs.Target.{Ask, Target, Alone, AtGuest, target_in, target_of, is_guest}
 use Rattle.pef_model.specs.Cpu.{CpuPart, next_cpu}
-use Rattle.pef_model.specs.GuestPart.{GuestPart, put, is_invalid, next_part, with_secure_page, with_running_vcpu, with_parked_vcpu, with_page_leaving, with_page_out}
+use Rattle.pef_model.specs.GuestPart.{GuestPart, put, is_invalid, next_part, with_secure_page, with_running_vcpu, with_parked_vcpu, with_page_leaving, with_page_out, with_page_coming, with_page_refused}
 use Rattle.pef_model.specs.Guest.{next_guest}
 use Rattle.pef_model.specs.PageOut.{sealed_page}
 use Rattle.pef_model.specs.Deed.{Deed, may_return_in, is_waiting}
-use Rattle.pef_model.specs.History.{guest_after, pool_after, deed_after, ask_of, entry_of}
+use Rattle.pef_model.specs.History.{guest_after, pool_after, frame_after, deed_after, ask_of, entry_of}
 use Rattle.pef_model.specs.CountLaw.{part_after}
 use Rattle.pef_model.specs.MoveLaw.{begins_out}
 use Rattle.pef_model.proofs.Folds.{test_same}
+use Rattle.pef_model.proofs.Works.{move_of}
 use Rattle.pef_model.proofs.Puts.{not_swapped, put-same}
 
 -- a CPU after an entry of its own: its context, hand and selected guest
@@ -72,14 +74,53 @@ pub record EndsMove (plan : Plan) (past : List Event) (cpu : CpuPart) (e : Event
   pub parts : PutsPart plan past e move.lpid (with_page_out (part_after plan past move.lpid) move.gfn)
   pub pool : pool_after plan (e ∷ past) ≡ pool_after plan past + 1
 
--- a page-out of a guest that has ended comes back
+-- the move of a page of a guest that has ended comes back
 pub record DropsMove (plan : Plan) (past : List Event) (cpu : CpuPart) (e : Event) : Type 0 where
-  pub move : Move
-  pub before : cpu.ctx ≡ ctx.Uv (Outward move)
-  pub generation : move.generation ≢ (part_after plan past move.lpid).generation
+  pub work : Work
+  pub before : cpu.ctx ≡ ctx.Uv work
+  pub generation : (move_of work).generation ≢ (part_after plan past (move_of work).lpid).generation
   pub cpu_is : LeavesCpu cpu e ctx.Hv cpu.hand cpu.lpid
   pub parts : KeepsParts plan past e
   pub pool : pool_after plan (e ∷ past) ≡ pool_after plan past
+
+-- a page that is Out at rest begins to move inward, and a free secure frame is taken for it
+pub record ComesIn (plan : Plan) (past : List Event) (cpu : CpuPart) (e : Event) : Type 0 where
+  pub move : Move
+  pub before : cpu.ctx ≡ ctx.Hv
+  pub generation : move.generation ≡ (part_after plan past move.lpid).generation
+  pub kind_is : ((part_after plan past move.lpid).pages move.gfn).kind ≡ Out
+  pub at_rest : ((part_after plan past move.lpid).pages move.gfn).mover ≡ None
+  pub placed : move.gfn < plan.pages
+  pub cpu_is : LeavesCpu cpu e (ctx.Uv (Inward move)) cpu.hand cpu.lpid
+  pub parts : PutsPart plan past e move.lpid (with_page_coming (part_after plan past move.lpid) move.gfn e.trace.cpu)
+  pub pool : pool_after plan (e ∷ past) + 1 ≡ pool_after plan past
+
+-- a normal frame is read into the hand of a CPU that moves a page inward
+pub record ReadsFrame (plan : Plan) (past : List Event) (cpu : CpuPart) (e : Event) : Type 0 where
+  pub move : Move
+  pub before : cpu.ctx ≡ ctx.Uv (Inward move)
+  pub read : e.bytes ≡ frame_after plan move.frame past
+  pub cpu_is : LeavesCpu cpu e (ctx.Uv (Inward (record move { copied = true }))) e.bytes cpu.lpid
+  pub parts : KeepsParts plan past e
+  pub pool : pool_after plan (e ∷ past) ≡ pool_after plan past
+
+-- a page has moved inward
+pub record AcceptsPage (plan : Plan) (past : List Event) (cpu : CpuPart) (e : Event) : Type 0 where
+  pub move : Move
+  pub before : cpu.ctx ≡ ctx.Uv (Inward move)
+  pub generation : move.generation ≡ (part_after plan past move.lpid).generation
+  pub cpu_is : LeavesCpu cpu e ctx.Hv cpu.hand cpu.lpid
+  pub parts : PutsPart plan past e move.lpid (with_secure_page (part_after plan past move.lpid) move.gfn)
+  pub pool : pool_after plan (e ∷ past) ≡ pool_after plan past
+
+-- a page that moved inward is refused, and its secure frame goes back
+pub record RefusesPage (plan : Plan) (past : List Event) (cpu : CpuPart) (e : Event) : Type 0 where
+  pub move : Move
+  pub before : cpu.ctx ≡ ctx.Uv (Inward move)
+  pub generation : move.generation ≡ (part_after plan past move.lpid).generation
+  pub cpu_is : LeavesCpu cpu e ctx.Hv cpu.hand cpu.lpid
+  pub parts : PutsPart plan past e move.lpid (with_page_refused (part_after plan past move.lpid) move.gfn)
+  pub pool : pool_after plan (e ∷ past) ≡ pool_after plan past + 1
 
 -- a vCPU of the selected guest that waits is taken up
 pub record TakesUp (plan : Plan) (past : List Event) (cpu : CpuPart) (e : Event) : Type 0 where
@@ -113,6 +154,7 @@ pub record BacksPage (plan : Plan) (past : List Event) (cpu : CpuPart) (e : Even
   pub before : cpu.ctx ≡ ctx.Guest run
   pub invalid : is_invalid ((part_after plan past run.lpid).pages gfn) ≡ true
   pub at_rest : ((part_after plan past run.lpid).pages gfn).mover ≡ None
+  pub placed : gfn < plan.pages
   pub cpu_is : LeavesCpu cpu e cpu.ctx cpu.hand cpu.lpid
   pub parts : PutsPart plan past e run.lpid (with_secure_page (part_after plan past run.lpid) gfn)
   pub pool : pool_after plan (e ∷ past) + 1 ≡ pool_after plan past
@@ -124,6 +166,10 @@ pub data Change (plan : Plan) (past : List Event) (cpu : CpuPart) (e : Event) : 
   Copies : CopiesPage plan past cpu e → Change plan past cpu e
   Ends : EndsMove plan past cpu e → Change plan past cpu e
   Drops : DropsMove plan past cpu e → Change plan past cpu e
+  Comes : ComesIn plan past cpu e → Change plan past cpu e
+  Reads : ReadsFrame plan past cpu e → Change plan past cpu e
+  Accepts : AcceptsPage plan past cpu e → Change plan past cpu e
+  Refuses : RefusesPage plan past cpu e → Change plan past cpu e
   Takes : TakesUp plan past cpu e → Change plan past cpu e
   Parked : Parks plan past cpu e → Change plan past cpu e
   Gone : FindsGone plan past cpu e → Change plan past cpu e

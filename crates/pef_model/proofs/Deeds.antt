@@ -62,9 +62,9 @@ page_out_agrees plan g ask lpid dest gpa flags order (Some code) =
     same_deed ctx.Hv (UPageout lpid dest gpa flags order) (returning ask (Some code) (deed_page_out_begin plan g ask lpid dest gpa))
 page_out_agrees plan g ask lpid dest gpa flags order None = record { answer = refl; after = refl; shown = refl; pool = refl; frame = refl; bytes = λ unsealed. cc }
 
-hypervisor_agrees : (plan : Plan) (g : Guest) (ask : Ask) (cmd : Cmd) → AgreeButValue ctx.Hv cmd (deed_hypervisor plan g ask cmd) (deed_hypervisor plan (bare g.part) ask (open_cmd cmd))
-hypervisor_agrees plan g ask (UPageout lpid dest gpa flags order) = page_out_agrees plan g ask lpid dest gpa flags order (page_out_code plan g.part dest gpa flags order)
-hypervisor_agrees plan g ask (GLi rd value) = record {
+hypervisor_agrees : (plan : Plan) (g : Guest) (any : Bool) (ask : Ask) (cmd : Cmd) → AgreeButValue ctx.Hv cmd (deed_hypervisor plan g any ask cmd) (deed_hypervisor plan (bare g.part) any ask (open_cmd cmd))
+hypervisor_agrees plan g any ask (UPageout lpid dest gpa flags order) = page_out_agrees plan g ask lpid dest gpa flags order (page_out_code plan g.part dest gpa flags order)
+hypervisor_agrees plan g any ask (GLi rd value) = record {
   answer = alone_open ask.before (GLi rd value);
   after = refl;
   shown = refl;
@@ -72,11 +72,11 @@ hypervisor_agrees plan g ask (GLi rd value) = record {
   frame = refl;
   bytes = λ unsealed. refl;
 }
-hypervisor_agrees plan g ask cmd = same_deed ctx.Hv cmd (deed_hypervisor plan g ask cmd)
+hypervisor_agrees plan g any ask cmd = same_deed ctx.Hv cmd (deed_hypervisor plan g any ask cmd)
 
 deed_agrees : (plan : Plan) (g : Guest) (any : Bool) (ask : Ask) (cmd : Cmd) (c : Ctx) →
     AgreeButValue c cmd (deed_guest_in c plan g any ask cmd) (deed_guest_in c plan (bare g.part) any ask (open_cmd cmd))
-deed_agrees plan g any ask cmd ctx.Hv = hypervisor_agrees plan g ask cmd
+deed_agrees plan g any ask cmd ctx.Hv = hypervisor_agrees plan g any ask cmd
 deed_agrees plan g any ask cmd (ctx.Uv work) = same_deed (ctx.Uv work) cmd (deed_guest_in (ctx.Uv work) plan g any ask cmd)
 deed_agrees plan g any ask cmd (ctx.Guest run) = by_test (run.generation == g.part.generation) where
   by_test : (b : Bool) → AgreeButValue (ctx.Guest run) cmd (if b then deed_running plan g any ask cmd else deed_gone ask) (if b then deed_running plan (bare g.part) any ask (open_cmd cmd) else deed_gone ask)
@@ -110,7 +110,7 @@ page_out_shut plan shut g ask lpid dest gpa None =
 deed_shut : (plan : Plan) → IsShut plan → (g : Guest) (any : Bool) (ask : Ask) (cmd : Cmd) (c : Ctx) →
     (deed_guest_in c plan g any ask cmd).bytes ≡ (deed_guest_in c plan (bare g.part) any ask (open_cmd cmd)).bytes
 deed_shut plan shut g any ask (UPageout lpid dest gpa flags order) ctx.Hv = page_out_shut plan shut g ask lpid dest gpa (page_out_code plan g.part dest gpa flags order)
-deed_shut plan shut g any ask cmd ctx.Hv = (hypervisor_agrees plan g ask cmd).bytes refl
+deed_shut plan shut g any ask cmd ctx.Hv = (hypervisor_agrees plan g any ask cmd).bytes refl
 deed_shut plan shut g any ask cmd (ctx.Uv work) = refl
 deed_shut plan shut g any ask cmd (ctx.Guest run) = (deed_agrees plan g any ask cmd (ctx.Guest run)).bytes refl
 

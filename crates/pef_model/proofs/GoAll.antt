@@ -3,7 +3,7 @@ use Rattle.std.proofs.Common.{◌≡◌, ℕ, zero, suc, ◌+◌, ◌<◌, List,
 use Rattle.std.specs.List.{AllByRecursion}
 use Rattle.pef_model.specs.declared.state.Move.{Move}
 use Rattle.pef_model.specs.declared.state.Work.{Work}
-use Rattle.pef_model.specs.declared.state.Work.TheVariants.{Outward}
+use Rattle.pef_model.specs.declared.state.Work.TheVariants.{Inward, Outward}
 use Rattle.pef_model.specs.declared.state.Ctx.{Ctx}
 use Rattle.pef_model.specs.declared.state.Ctx.TheVariants as ctx
 use Rattle.pef_model.specs.declared.command.Cmd.TheVariants.{Go}
@@ -12,21 +12,26 @@ use Rattle.pef_model.specs.declared.entry.Answer.{Answer}
 use Rattle.pef_model.specs.declared.entry.Answer.TheVariants as answer
 use Rattle.pef_model.specs.Plan.{Plan}
 use Rattle.pef_model.specs.Event.{Event}
-use Rattle.pef_model.specs.Target.{Ask, AtGuest, AtFrame, target_in, touches_cpu}
-use Rattle.pef_model.specs.Cpu.{CpuPart, start_cpu, next_cpu, cpu_after_work, cpu_after_in}
+use Rattle.pef_model.specs.Target.{Ask, AtGuest, AtFrame, target_in}
 use Rattle.pef_model.specs.GuestPart.{GuestPart}
-use Rattle.pef_model.specs.Deed.{Deed, giving, coming_back, deed_page_out_end}
+use Rattle.pef_model.specs.PageIn.{is_last_sealed}
+use Rattle.pef_model.specs.Deed.{Deed, giving, coming_back, deed_page_in_test, deed_page_in_end, deed_page_out_end}
 use Rattle.pef_model.specs.History.{cpu_after, guest_after, deed_after, ask_of}
 use Rattle.pef_model.specs.Script.{Line}
-use Rattle.pef_model.specs.Run.{is_in_progress, is_again, ends_go, GoesOn, entry_after, with_gos, most_gos}
+use Rattle.pef_model.specs.Run.{is_in_progress, is_again, ends_go, GoesOn, mark_after, entry_after, with_gos, most_gos}
 use Rattle.pef_model.specs.RunLaw.{EachGoAllEnds}
-use Rattle.pef_model.proofs.Folds.{same_test, counts}
+use Rattle.pef_model.proofs.Steps.{ctx_after_next}
 use Rattle.pef_model.proofs.LineEntries.{AreMade}
+
+-- whether a call in progress has copied its page
+abbrev is_copied : Work → Bool
+is_copied (Inward move) = move.copied
+is_copied (Outward move) = move.copied
 
 -- with how many `go` in a context go* doesn't end
 abbrev pub gos_left : Ctx → ℕ
 gos_left ctx.Hv = 0
-gos_left (ctx.Uv (Outward move)) = cond move.copied 0 1
+gos_left (ctx.Uv work) = cond (is_copied work) 0 1
 gos_left (ctx.Guest run) = 0
 
 -- whether go* ends with a step that does this
@@ -46,33 +51,42 @@ pub record GoesNoFurther (c : Ctx) (deed : Deed) : Type 0 where
   pub ends : ends_with deed ≡ true
   pub none : gos_left c ≡ 0
 
--- the end of a page-out comes back to the hypervisor, with either code
-end_ends : (g : GuestPart) (ask : Ask) (move : Move) → ends_with (deed_page_out_end g ask move) ≡ true
-end_ends g ask move = by_test (move.generation == g.generation) where
+-- the end of a page-in comes back to the hypervisor, with each code
+end_in_ends : (g : GuestPart) (ask : Ask) (move : Move) → ends_with (deed_page_in_end g ask move) ≡ true
+end_in_ends g ask move = by_test (move.generation == g.generation) (is_last_sealed (g.pages move.gfn).sealed ask.hand) where
+  by_test : (b last : Bool) → ends_with (cond b (deed_page_in_test ask last) (coming_back ask UParameter)) ≡ true
+  by_test true true = refl
+  by_test true false = refl
+  by_test false last = refl
+
+-- so does the end of a page-out
+end_out_ends : (g : GuestPart) (ask : Ask) (move : Move) → ends_with (deed_page_out_end g ask move) ≡ true
+end_out_ends g ask move = by_test (move.generation == g.generation) where
   by_test : (b : Bool) → ends_with (cond b (giving (coming_back ask USuccess) 1) (coming_back ask UParameter)) ≡ true
   by_test true = refl
   by_test false = refl
 
--- `go` ends go* but where a page-out isn't copied yet
+-- a step of a call in progress copies its page and goes further, or its page is copied and it ends the call
+work_goes : (work : Work) (deed : Bool → Deed) → ends_with (deed true) ≡ true → (deed false).answer ≡ answer.Step → ends_with (deed false) ≡ false → gos_left (deed false).after ≡ 0 →
+    (b : Bool) → is_copied work ≡ b → GoesFurther (ctx.Uv work) (deed b) ⊎ GoesNoFurther (ctx.Uv work) (deed b)
+work_goes work deed ends step goes_on none true h = inr (record { ends = ends; none = rw h refl })
+work_goes work deed ends step goes_on none false h = inl (record { work = work; is = refl; step = step; goes_on = goes_on; fewer = rw (h, none) refl })
+
+-- `go` ends go* but where the page of the call in progress isn't copied yet
 deed_goes : (plan : Plan) (past : List Event) (c : Ctx) (lpid vid : ℕ) (last : Answer) (hand : List ℕ) →
     let ask : Ask = record { before = c; lpid = lpid; vid = vid; last = last; hand = hand } in
     let deed : Deed = deed_after plan past ask Go (target_in plan c lpid Go) in
     GoesFurther c deed ⊎ GoesNoFurther c deed
 deed_goes plan past ctx.Hv lpid vid last hand = inr (record { ends = refl; none = refl })
 deed_goes plan past (ctx.Guest run) lpid vid last hand = inr (record { ends = refl; none = refl })
-deed_goes plan past (ctx.Uv (Outward move)) lpid vid last hand = by_test move.copied refl where
-  c : Ctx
-  c = ctx.Uv (Outward move)
-
-  ask : Ask
-  ask = record { before = c; lpid = lpid; vid = vid; last = last; hand = hand }
-
-  deed : Bool → Deed
-  deed b = deed_after plan past ask Go (cond b (AtGuest move.lpid) (AtFrame move.frame))
-
-  by_test : (b : Bool) → move.copied ≡ b → GoesFurther c (deed b) ⊎ GoesNoFurther c (deed b)
-  by_test true h = inr (record { ends = end_ends (guest_after plan move.lpid past).part ask move; none = rw h refl })
-  by_test false h = inl (record { work = Outward move; is = refl; step = refl; goes_on = refl; fewer = rw h refl })
+deed_goes plan past (ctx.Uv (Inward move)) lpid vid last hand =
+    let ask : Ask = record { before = ctx.Uv (Inward move); lpid = lpid; vid = vid; last = last; hand = hand } in
+    work_goes (Inward move) (λ b. deed_after plan past ask Go (cond b (AtGuest move.lpid) (AtFrame move.frame)))
+    (end_in_ends (guest_after plan move.lpid past).part ask move) refl refl refl move.copied refl
+deed_goes plan past (ctx.Uv (Outward move)) lpid vid last hand =
+    let ask : Ask = record { before = ctx.Uv (Outward move); lpid = lpid; vid = vid; last = last; hand = hand } in
+    work_goes (Outward move) (λ b. deed_after plan past ask Go (cond b (AtGuest move.lpid) (AtFrame move.frame)))
+    (end_out_ends (guest_after plan move.lpid past).part ask move) refl refl refl move.copied refl
 
 -- the context of a line's CPU after a history
 abbrev pub ctx_at : Plan → List Event → Line → Ctx
@@ -89,42 +103,9 @@ line_goes plan past line =
     let ask : Ask = ask_of (cpu_after plan line.cpu past) Go in
     deed_goes plan past ask.before ask.lpid ask.vid ask.last ask.hand
 
--- the end of a page-out leaves the hypervisor running
-end_leaves : (g : GuestPart) (ask : Ask) (move : Move) (cpu : CpuPart) (e : Event) → e.saw.after ≡ (deed_page_out_end g ask move).after → e.trace.answer ≡ (deed_page_out_end g ask move).answer →
-    (cpu_after_work cpu e.saw.after e.trace.answer).ctx ≡ e.saw.after
-end_leaves g ask move cpu e after answered = by_test (move.generation == g.generation) after answered where
-  deed : Bool → Deed
-  deed b = cond b (giving (coming_back ask USuccess) 1) (coming_back ask UParameter)
-
-  by_test : (b : Bool) → e.saw.after ≡ (deed b).after → e.trace.answer ≡ (deed b).answer → (cpu_after_work cpu e.saw.after e.trace.answer).ctx ≡ e.saw.after
-  by_test true after answered = rw answered refl
-  by_test false after answered = rw answered refl
-
--- a step of `go` leaves its CPU in the context that it says
-deed_leaves : (plan : Plan) (past : List Event) (c : Ctx) (lpid vid : ℕ) (last : Answer) (hand : List ℕ) (cpu : CpuPart) (e : Event) →
-    let ask : Ask = record { before = c; lpid = lpid; vid = vid; last = last; hand = hand } in
-    let deed : Deed = deed_after plan past ask Go (target_in plan c lpid Go) in
-    cpu.ctx ≡ c → e.saw.after ≡ deed.after → e.trace.answer ≡ deed.answer → (cpu_after_in c cpu e).ctx ≡ e.saw.after
-deed_leaves plan past ctx.Hv lpid vid last hand cpu e is after answered = refl
-deed_leaves plan past (ctx.Guest run) lpid vid last hand cpu e is after answered = rw answered (is ∙ sym after)
-deed_leaves plan past (ctx.Uv (Outward move)) lpid vid last hand cpu e is after answered = by_test move.copied after answered where
-  ask : Ask
-  ask = record { before = ctx.Uv (Outward move); lpid = lpid; vid = vid; last = last; hand = hand }
-
-  deed : Bool → Deed
-  deed b = deed_after plan past ask Go (cond b (AtGuest move.lpid) (AtFrame move.frame))
-
-  by_test : (b : Bool) → e.saw.after ≡ (deed b).after → e.trace.answer ≡ (deed b).answer → (cpu_after_work cpu e.saw.after e.trace.answer).ctx ≡ e.saw.after
-  by_test true after answered = end_leaves (guest_after plan move.lpid past).part ask move cpu e after answered
-  by_test false after answered = rw answered refl
-
+-- `go` leaves its CPU in the context that it says
 pub go_leaves : (plan : Plan) (past : List Event) (line : Line) → ctx_at plan (entry_after plan past line Go ∷ past) line ≡ (entry_after plan past line Go).saw.after
-go_leaves plan past line =
-    let e : Event = entry_after plan past line Go in
-    let cpu : CpuPart = cpu_after plan line.cpu past in
-    let ask : Ask = ask_of cpu Go in
-    ap (λ (x : CpuPart). x.ctx) (counts (touches_cpu line.cpu) next_cpu (start_cpu plan) e past (same_test line.cpu))
-    ∙ deed_leaves plan past ask.before ask.lpid ask.vid ask.last ask.hand cpu e refl refl refl
+go_leaves plan past line = ctx_after_next plan past (mark_after past line) Go
 
 -- a history with so many entries of `go` of a line
 abbrev pub gos : Plan → ℕ → List Event → Line → List Event
@@ -222,7 +203,7 @@ gos_go_on plan (suc n) m past line left =
 -- at most one is left
 few_left : (c : Ctx) → gos_left c < 2
 few_left ctx.Hv = omega arith
-few_left (ctx.Uv (Outward move)) = by_test move.copied where
+few_left (ctx.Uv work) = by_test (is_copied work) where
   by_test : (b : Bool) → cond b 0 1 < 2
   by_test true = omega arith
   by_test false = omega arith

@@ -7,7 +7,7 @@ use Rattle.pef_model.specs.declared.state.Mover.{Mover}
 use Rattle.pef_model.specs.declared.state.Run.{Run}
 use Rattle.pef_model.specs.declared.state.Ctx.TheVariants as ctx
 use Rattle.pef_model.specs.declared.command.Cmd.{Cmd}
-use Rattle.pef_model.specs.declared.command.Cmd.TheVariants.{HLd, HSt, UPageout, UReturn, GLi, GLd, GSt, GIrq, Go}
+use Rattle.pef_model.specs.declared.command.Cmd.TheVariants.{HLd, HSt, UPagein, UPageout, UReturn, GLi, GLd, GSt, GIrq, Go}
 use Rattle.pef_model.specs.declared.entry.Answer.{Answer}
 use Rattle.pef_model.specs.declared.entry.Answer.TheVariants as answer
 use Rattle.pef_model.specs.Plan.{Plan}
@@ -19,53 +19,55 @@ use Rattle.pef_model.specs.Guest.{Guest, private_doubleword}
 use Rattle.pef_model.specs.Deed.{Deed, Reach, NoPage, InFrame, Backs, NoFrame, Moves, reach, reach_of, reach_kind, reach_invalid, deed_access, deed_running, deed_gone}
 use Rattle.pef_model.specs.History.{guest_after, pool_after, deed_after}
 use Rattle.pef_model.proofs.Changes as change
-use Rattle.pef_model.proofs.Changes.{Change, asked, entry, at_guest, at_guest_same, at_one, refused}
+use Rattle.pef_model.proofs.Changes.{Change, asked, entry, both, at_guest, at_guest_same, at_one}
 
 -- a page that an access backs
-record IsBacked (page : Page) (any : Bool) : Type 0 where
+record IsBacked (page : Page) (any place : Bool) : Type 0 where
+  placed : place ≡ true
   invalid : is_invalid page ≡ true
   at_rest : page.mover ≡ None
   some : any ≡ true
 
 -- what an access finds of the page: Invalid at rest where it backs it, and not Invalid where it lies in a frame
-abbrev Finds : Page → Bool → Reach → Type 0
-Finds page any NoPage = Unit {0}
-Finds page any InFrame = is_invalid page ≡ false
-Finds page any Backs = IsBacked page any
-Finds page any NoFrame = Unit {0}
-Finds page any Moves = Unit {0}
+abbrev Finds : Page → Bool → Bool → Reach → Type 0
+Finds page any place NoPage = Unit {0}
+Finds page any place InFrame = is_invalid page ≡ false
+Finds page any place Backs = IsBacked page any place
+Finds page any place NoFrame = Unit {0}
+Finds page any place Moves = Unit {0}
 
 -- by whether the page moves, and by its kind
-finds_page : (page : Page) (any : Bool) → Finds page any (reach_of page any)
-finds_page page any = by_mover page.mover refl where
+finds_page : (page : Page) (any place : Bool) → place ≡ true → Finds page any place (reach_of page any)
+finds_page page any place here = by_mover page.mover refl where
   with_kind : Kind → Page
   with_kind k = record page { kind = k }
 
-  by_any : (k : Kind) → k ≡ kind.Invalid → page.mover ≡ None → (b : Bool) → any ≡ b → Finds (with_kind k) any (reach_invalid b)
-  by_any k invalid rests true t = record { invalid = ap (λ (x : Kind). is_invalid (with_kind x)) invalid; at_rest = rests; some = t }
+  by_any : (k : Kind) → k ≡ kind.Invalid → page.mover ≡ None → (b : Bool) → any ≡ b → Finds (with_kind k) any place (reach_invalid b)
+  by_any k invalid rests true t = record { placed = here; invalid = ap (λ (x : Kind). is_invalid (with_kind x)) invalid; at_rest = rests; some = t }
   by_any k invalid rests false t = tt
 
-  by_kind : (k : Kind) → page.mover ≡ None → Finds (with_kind k) any (reach_kind k any)
+  by_kind : (k : Kind) → page.mover ≡ None → Finds (with_kind k) any place (reach_kind k any)
   by_kind kind.Invalid rests = by_any kind.Invalid refl rests any refl
   by_kind kind.Secure rests = refl
   by_kind kind.Out rests = tt
   by_kind (kind.Shared frame fresh) rests = tt
 
-  by_mover : (mover : Option Mover) → page.mover ≡ mover → Finds page any (if is_some mover then Moves else reach_kind page.kind any)
+  by_mover : (mover : Option Mover) → page.mover ≡ mover → Finds page any place (if is_some mover then Moves else reach_kind page.kind any)
   by_mover None rests = by_kind page.kind rests
   by_mover (Some mover) rests = tt
 
 -- the page of the address, if it has one
-finds : (plan : Plan) (g : GuestPart) (any : Bool) (gpa : ℕ) → Finds (g.pages (page_of plan gpa)) any (reach plan g any gpa)
-finds plan g any gpa = by_place (has_place plan gpa) where
-  by_place : (b : Bool) → Finds (g.pages (page_of plan gpa)) any (if b then reach_of (g.pages (page_of plan gpa)) any else NoPage)
-  by_place true = finds_page (g.pages (page_of plan gpa)) any
-  by_place false = tt
+finds : (plan : Plan) (g : GuestPart) (any : Bool) (gpa : ℕ) → Finds (g.pages (page_of plan gpa)) any (has_place plan gpa) (reach plan g any gpa)
+finds plan g any gpa = by_place (has_place plan gpa) refl where
+  by_place : (b : Bool) → has_place plan gpa ≡ b → Finds (g.pages (page_of plan gpa)) any (has_place plan gpa) (if b then reach_of (g.pages (page_of plan gpa)) any else NoPage)
+  by_place true t = finds_page (g.pages (page_of plan gpa)) any (has_place plan gpa) t
+  by_place false t = tt
 
 -- a guest that has ended stays as it is
 gone_keeps : (plan : Plan) (g : GuestPart) (vid : ℕ) (cmd : Cmd) → part_after_guest plan g vid cmd answer.Gone ≡ g
 gone_keeps plan g vid (HLd ra) = refl
 gone_keeps plan g vid (HSt ra value) = refl
+gone_keeps plan g vid (UPagein lpid src gpa flags order) = refl
 gone_keeps plan g vid (UPageout lpid dest gpa flags order) = refl
 gone_keeps plan g vid (UReturn r0 r2 outs) = refl
 gone_keeps plan g vid (GLi rd value) = refl
@@ -91,7 +93,7 @@ module _ (plan : Plan) (past : List Event) (cpu : CpuPart) (mark : Mark) (run : 
   access : (cmd : Cmd) (success : Answer) (gpa : ℕ) → target_in plan (ctx.Guest run) cpu.lpid cmd ≡ AtGuest run.lpid →
       ((a : Answer) → part_after_guest plan g.part run.vid cmd a ≡ part_after_access g.part (page_of plan gpa) a) →
       part_after_access g.part (page_of plan gpa) success ≡ with_page_backed g.part (page_of plan gpa) → cpu_after_guest cpu run success ≡ cpu →
-      (r : Reach) → Finds (g.part.pages (page_of plan gpa)) any r → Change plan past cpu (entry_of cmd (deed_access (ask_of cmd) success r))
+      (r : Reach) → Finds (g.part.pages (page_of plan gpa)) any (has_place plan gpa) r → Change plan past cpu (entry_of cmd (deed_access (ask_of cmd) success r))
   access cmd success gpa target part backs stays NoPage found =
       at_one plan past cpu _ run.lpid (record { ctx_is = refl; hand_is = refl; lpid_is = refl }) target (part answer.Hole) refl
   access cmd success gpa target part backs stays InFrame found =
@@ -100,12 +102,14 @@ module _ (plan : Plan) (past : List Event) (cpu : CpuPart) (mark : Mark) (run : 
       target (part success ∙ backs ∙ ap (λ (b : Bool). if b then with_secure_page g.part (page_of plan gpa) else g.part) found) refl
   access cmd success gpa target part backs stays Backs found =
       let some : 0 < pool_after plan past = let t = found.some in grind (arith, nat_tests) in
+      let below : nat_lt (page_of plan gpa) plan.pages ≡ true = let place = both _ (nat_lt (page_of plan gpa) plan.pages) found.placed in place.1 in
       change.Backs (record {
         run = run;
         gfn = page_of plan gpa;
         before = h;
         invalid = found.invalid;
         at_rest = found.at_rest;
+        placed = grind (arith, nat_tests);
         cpu_is = record { ctx_is = ap (λ (x : CpuPart). x.ctx) stays; hand_is = ap (λ (x : CpuPart). x.hand) stays; lpid_is = ap (λ (x : CpuPart). x.lpid) stays };
         parts = at_guest plan past (entry_of cmd (deed_access (ask_of cmd) success Backs)) run.lpid (with_secure_page g.part (page_of plan gpa)) target
             (part success ∙ backs ∙ ap (λ (b : Bool). if b then with_secure_page g.part (page_of plan gpa) else g.part) found.invalid);
@@ -120,6 +124,7 @@ module _ (plan : Plan) (past : List Event) (cpu : CpuPart) (mark : Mark) (run : 
   running : (cmd : Cmd) → target_in plan (ctx.Guest run) cpu.lpid cmd ≡ AtGuest run.lpid → Change plan past cpu (entry_of cmd (deed_running plan g any (ask_of cmd) cmd))
   running (HLd ra) target = cc
   running (HSt ra value) target = cc
+  running (UPagein lpid src gpa flags order) target = at_one plan past cpu _ run.lpid (record { ctx_is = refl; hand_is = refl; lpid_is = refl }) target refl refl
   running (UPageout lpid dest gpa flags order) target = at_one plan past cpu _ run.lpid (record { ctx_is = refl; hand_is = refl; lpid_is = refl }) target refl refl
   running (UReturn r0 r2 outs) target = at_one plan past cpu _ run.lpid (record { ctx_is = refl; hand_is = refl; lpid_is = refl }) target refl refl
   running (GLi rd value) target = at_one plan past cpu _ run.lpid (record { ctx_is = refl; hand_is = refl; lpid_is = refl }) target refl refl

@@ -1,103 +1,108 @@
--- In a legal history of a configuration in its ranges each hand has as many bytes as a page, and a copy writes its CPU's.
-use Rattle.std.proofs.Common.{◌≡◌, ℕ, ◌^◌, List, [], ◌∷◌, length, Bool, true, false, refl, ap, sym, ◌∙◌, ◌==◌, if◌then◌else◌, inl, inr, Some}
+-- In a legal history of a configuration in its ranges each hand and each normal frame has as many bytes as a page.
+use Rattle.std.proofs.Common.{◌≡◌, ℕ, ◌+◌, ◌^◌, ◌≤◌, List, [], ◌∷◌, length, Bool, true, false, refl, ap, sym, ◌∙◌, inl, inr, arith}
 use Rattle.std.proofs.lemmas.Bool.{cases_eq}
 use Rattle.std.proofs.lemmas.List.{length-replicate}
 use Rattle.pef_model.specs.declared.config.Config.{Config}
 use Rattle.pef_model.specs.declared.state.Move.{Move}
-use Rattle.pef_model.specs.declared.state.Work.TheVariants.{Outward}
+use Rattle.pef_model.specs.declared.state.Work.TheVariants.{Inward, Outward}
 use Rattle.pef_model.specs.declared.state.Ctx.{Ctx}
 use Rattle.pef_model.specs.declared.state.Ctx.TheVariants as ctx
-use Rattle.pef_model.specs.declared.command.Code.TheVariants.{USuccess, UParameter}
 use Rattle.pef_model.specs.declared.command.Cmd.{Cmd}
-use Rattle.pef_model.specs.declared.command.Cmd.TheVariants.{Go}
-use Rattle.pef_model.specs.declared.entry.Answer.TheVariants.{Step}
+use Rattle.pef_model.specs.declared.command.Cmd.TheVariants.{HSt, Go}
+use Rattle.pef_model.specs.declared.entry.Answer.{Answer}
+use Rattle.pef_model.specs.declared.entry.Answer.TheVariants.{Done, Step}
 use Rattle.pef_model.specs.Plan.{Plan, plan_of, IsInRange}
 use Rattle.pef_model.specs.Event.{Event}
-use Rattle.pef_model.specs.Target.{Ask, AtGuest, AtFrame, uses_hand, target_in}
-use Rattle.pef_model.specs.Cpu.{CpuPart}
+use Rattle.pef_model.specs.Target.{has_real_place, touches_frame}
+use Rattle.pef_model.specs.Memory.{offset_of, written_in, next_frame, start_frame}
 use Rattle.pef_model.specs.GuestPart.{put}
 use Rattle.pef_model.specs.Guest.{private_doubleword}
 use Rattle.pef_model.specs.PageOut.{page_bytes}
-use Rattle.pef_model.specs.Deed.{Deed, giving, coming_back}
-use Rattle.pef_model.specs.History.{cpu_after, guest_after, deed_after, ask_of, Extends, IsLegal}
+use Rattle.pef_model.specs.History.{cpu_after, guest_after, frame_after, Extends, IsLegal}
+use Rattle.pef_model.proofs.Folds.{counts, skips}
 use Rattle.pef_model.proofs.Puts.{put-here, put-other}
 use Rattle.pef_model.proofs.PageBytes.{page_has_its_length}
 use Rattle.pef_model.proofs.Filled.{sealed_pages_fill}
-use Rattle.pef_model.proofs.Changes.{Change, Quiet, Begins, Copies, Ends, Drops, Takes, Parked, Gone, Backs}
+use Rattle.pef_model.proofs.Doublewords.{length-with_doubleword}
+use Rattle.pef_model.proofs.Places.{room_at}
+use Rattle.pef_model.proofs.Placed.{store_is_placed, copy_is_placed, aligned}
+use Rattle.pef_model.proofs.Changes.{Change, Quiet, Begins, Copies, Ends, Drops, Comes, Reads, Accepts, Refuses, Takes, Parked, Gone, Backs}
 use Rattle.pef_model.proofs.ChangeOf.{change}
 use Rattle.pef_model.proofs.Fields.{hands, hands_after, same_hands}
 
--- each hand has the size of a page
-abbrev AllFill : Config → List Event → Type 0
-AllFill config past = (n : ℕ) → length (hands (plan_of config) past n) ≡ 2 ^ config.shift
+-- each hand and each frame has the size of a page
+pub record AllFill (config : Config) (past : List Event) : Type 0 where
+  pub hands : (n : ℕ) → length (cpu_after (plan_of config) n past).hand ≡ 2 ^ config.shift
+  pub frames : (n : ℕ) → length (frame_after (plan_of config) n past) ≡ 2 ^ config.shift
+
+-- each hand has it
+abbrev HandsFill : Config → List Event → Type 0
+HandsFill config past = (n : ℕ) → length (hands (plan_of config) past n) ≡ 2 ^ config.shift
 
 -- the hands stay
-fill_again : (config : Config) (past : List Event) (e : Event) → hands (plan_of config) past ≡ hands (plan_of config) (e ∷ past) → AllFill config past → AllFill config (e ∷ past)
+fill_again : (config : Config) (past : List Event) (e : Event) → hands (plan_of config) past ≡ hands (plan_of config) (e ∷ past) → HandsFill config past → HandsFill config (e ∷ past)
 fill_again config past e same fill n = ap (λ (h : ℕ → List ℕ). length (h n)) (sym same) ∙ fill n
 
--- each change keeps it so: a page-out that begins puts a sealed page into the hand
-fill_by : (config : Config) (past : List Event) (e : Event) → IsInRange config → AllFill config past → Change (plan_of config) past (cpu_after (plan_of config) e.trace.cpu past) e →
-    AllFill config (e ∷ past)
-fill_by config past e range fill (Quiet x) = fill_again config past e (same_hands (plan_of config) past e _ _ x.cpu_is) fill
-fill_by config past e range fill (Begins x) = λ n. ap (λ (h : ℕ → List ℕ). length (h n)) (sym (hands_after (plan_of config) past e _ _ _ x.cpu_is)) ∙ put_fills n where
-  value : ℕ → ℕ
-  value = private_doubleword (plan_of config) (guest_after (plan_of config) x.move.lpid past)
+-- one hand is another of this size
+fill_put : (config : Config) (past : List Event) (e : Event) (bytes : List ℕ) → put (hands (plan_of config) past) e.trace.cpu bytes ≡ hands (plan_of config) (e ∷ past) → length bytes ≡ 2 ^ config.shift →
+    HandsFill config past → HandsFill config (e ∷ past)
+fill_put config past e bytes is size fill n = ap (λ (h : ℕ → List ℕ). length (h n)) (sym is) ∙ elim (cases_eq n e.trace.cpu) [
+  | inl here ↦ ap (λ (k : ℕ). length (put (hands (plan_of config) past) e.trace.cpu bytes k)) here ∙ ap length (put-here (hands (plan_of config) past) e.trace.cpu bytes) ∙ size
+  | inr other ↦ ap length (put-other (hands (plan_of config) past) e.trace.cpu bytes n other) ∙ fill n
+]
 
-  sealed : length e.bytes ≡ 2 ^ config.shift
-  sealed =
-      ap length x.sealed
-      ∙ sealed_pages_fill config _ (page_bytes config.shift value x.move.gfn) range (page_has_its_length config.shift value x.move.gfn range.shift)
+-- each change keeps it so: a page-out that begins puts a sealed page into the hand, and the copy of a page-in a frame
+hands_by : (config : Config) (past : List Event) (e : Event) → IsInRange config → AllFill config past → Change (plan_of config) past (cpu_after (plan_of config) e.trace.cpu past) e →
+    HandsFill config (e ∷ past)
+hands_by config past e range fill (Quiet x) = fill_again config past e (same_hands (plan_of config) past e _ _ x.cpu_is) fill.hands
+hands_by config past e range fill (Begins x) =
+    let value : ℕ → ℕ = private_doubleword (plan_of config) (guest_after (plan_of config) x.move.lpid past) in
+    let sealed : length e.bytes ≡ 2 ^ config.shift =
+    ap length x.sealed ∙ sealed_pages_fill config _ (page_bytes config.shift value x.move.gfn) range (page_has_its_length config.shift value x.move.gfn range.shift) in
+    fill_put config past e e.bytes (hands_after (plan_of config) past e _ _ _ x.cpu_is) sealed fill.hands
+hands_by config past e range fill (Copies x) = fill_again config past e (same_hands (plan_of config) past e _ _ x.cpu_is) fill.hands
+hands_by config past e range fill (Ends x) = fill_again config past e (same_hands (plan_of config) past e _ _ x.cpu_is) fill.hands
+hands_by config past e range fill (Drops x) = fill_again config past e (same_hands (plan_of config) past e _ _ x.cpu_is) fill.hands
+hands_by config past e range fill (Comes x) = fill_again config past e (same_hands (plan_of config) past e _ _ x.cpu_is) fill.hands
+hands_by config past e range fill (Reads x) = fill_put config past e e.bytes (hands_after (plan_of config) past e _ _ _ x.cpu_is) (ap length x.read ∙ fill.frames x.move.frame) fill.hands
+hands_by config past e range fill (Accepts x) = fill_again config past e (same_hands (plan_of config) past e _ _ x.cpu_is) fill.hands
+hands_by config past e range fill (Refuses x) = fill_again config past e (same_hands (plan_of config) past e _ _ x.cpu_is) fill.hands
+hands_by config past e range fill (Takes x) = fill_again config past e (same_hands (plan_of config) past e _ _ x.cpu_is) fill.hands
+hands_by config past e range fill (Parked x) = fill_again config past e (same_hands (plan_of config) past e _ _ x.cpu_is) fill.hands
+hands_by config past e range fill (Gone x) = fill_again config past e (same_hands (plan_of config) past e _ _ x.cpu_is) fill.hands
+hands_by config past e range fill (Backs x) = fill_again config past e (same_hands (plan_of config) past e _ _ x.cpu_is) fill.hands
 
-  put_fills : (n : ℕ) → length (put (hands (plan_of config) past) e.trace.cpu e.bytes n) ≡ 2 ^ config.shift
-  put_fills n = elim (cases_eq n e.trace.cpu) [
-    | inl here ↦ ap (λ (k : ℕ). length (put (hands (plan_of config) past) e.trace.cpu e.bytes k)) here ∙ ap length (put-here (hands (plan_of config) past) e.trace.cpu e.bytes) ∙ sealed
-    | inr other ↦ ap length (put-other (hands (plan_of config) past) e.trace.cpu e.bytes n other) ∙ fill n
-  ]
-fill_by config past e range fill (Copies x) = fill_again config past e (same_hands (plan_of config) past e _ _ x.cpu_is) fill
-fill_by config past e range fill (Ends x) = fill_again config past e (same_hands (plan_of config) past e _ _ x.cpu_is) fill
-fill_by config past e range fill (Drops x) = fill_again config past e (same_hands (plan_of config) past e _ _ x.cpu_is) fill
-fill_by config past e range fill (Takes x) = fill_again config past e (same_hands (plan_of config) past e _ _ x.cpu_is) fill
-fill_by config past e range fill (Parked x) = fill_again config past e (same_hands (plan_of config) past e _ _ x.cpu_is) fill
-fill_by config past e range fill (Gone x) = fill_again config past e (same_hands (plan_of config) past e _ _ x.cpu_is) fill
-fill_by config past e range fill (Backs x) = fill_again config past e (same_hands (plan_of config) past e _ _ x.cpu_is) fill
+-- a frame keeps its size: a store puts a doubleword, and a copy as many bytes
+step_fills : (plan : Plan) (bytes : List ℕ) (c : Ctx) (cmd : Cmd) (a : Answer) (hand : List ℕ) → 8 ≤ plan.shift → length bytes ≡ 2 ^ plan.shift →
+    ((at value : ℕ) → c ≡ ctx.Hv → cmd ≡ HSt at value → a ≡ Done → has_real_place plan at ≡ true) → ((move : Move) → c ≡ ctx.Uv (Outward move) → cmd ≡ Go → a ≡ Step → length hand ≡ 2 ^ plan.shift) →
+    length (written_in c plan bytes cmd a hand) ≡ 2 ^ plan.shift
+step_fills plan bytes ctx.Hv (HSt at value) Done hand least size stores copies =
+    let fits = room_at plan.shift at least (aligned plan at (stores at value refl refl refl)) in
+    let room : offset_of plan at + 8 ≤ length bytes = omega arith in
+    length-with_doubleword bytes (offset_of plan at) value room ∙ size
+step_fills plan bytes ctx.Hv cmd a hand least size stores copies = size
+step_fills plan bytes (ctx.Uv (Outward move)) Go Step hand least size stores copies = copies move refl refl refl
+step_fills plan bytes (ctx.Uv (Outward move)) cmd a hand least size stores copies = size
+step_fills plan bytes (ctx.Uv (Inward move)) cmd a hand least size stores copies = size
+step_fills plan bytes (ctx.Guest run) cmd a hand least size stores copies = size
+
+-- so each frame has it after an entry
+frames_by : (config : Config) (past : List Event) (e : Event) → IsInRange config → AllFill config past → Extends (plan_of config) past e → (n : ℕ) → length (frame_after (plan_of config) n (e ∷ past)) ≡ 2 ^ config.shift
+frames_by config past e range fill extends n = by_test (touches_frame n e) refl where
+  plan : Plan
+  plan = plan_of config
+
+  by_test : (b : Bool) → touches_frame n e ≡ b → length (frame_after plan n (e ∷ past)) ≡ 2 ^ plan.shift
+  by_test true t =
+      ap length (counts (touches_frame n) (next_frame plan) (start_frame plan) e past t)
+      ∙ step_fills plan (frame_after plan n past) e.saw.before e.trace.cmd e.trace.answer e.bytes range.shift.0 (fill.frames n)
+      (λ at value before cmd done_is. let placed = store_is_placed plan past e at value extends before cmd done_is in placed.place)
+      (λ move before cmd step_is. let copied = copy_is_placed plan past e move extends before cmd step_is in ap length copied.bytes ∙ fill.hands e.trace.cpu)
+  by_test false t = ap length (skips (touches_frame n) (next_frame plan) (start_frame plan) e past t) ∙ fill.frames n
 
 -- so it is after a legal history
-pub hands_fill : (config : Config) (past : List Event) → IsInRange config → IsLegal (plan_of config) past → AllFill config past
-hands_fill config [] range legal n = length-replicate (2 ^ config.shift) 0
-hands_fill config (e ∷ past) range legal n = fill_by config past e range (hands_fill config past range legal.1) (change (plan_of config) past e legal.0) n
-
--- the copy of a page that moves writes the hand into the frame that the call names
-pub record IsCopied (plan : Plan) (past : List Event) (e : Event) (move : Move) : Type 0 where
-  pub frame : e.saw.frame ≡ Some move.frame
-  pub bytes : e.bytes ≡ (cpu_after plan e.trace.cpu past).hand
-
--- by what a copy does
-pub copy_is_placed : (plan : Plan) (past : List Event) (e : Event) (move : Move) → Extends plan past e → e.saw.before ≡ ctx.Uv (Outward move) → e.trace.cmd ≡ Go → e.trace.answer ≡ Step →
-    IsCopied plan past e move
-copy_is_placed plan past e move extends before cmd_is answer_is = by_copied move.copied refl where
-  cpu : CpuPart
-  cpu = cpu_after plan e.trace.cpu past
-
-  ask : Ctx → Ask
-  ask c = record { before = c; lpid = cpu.lpid; vid = cpu.vid; last = cpu.last; hand = if uses_hand c Go then cpu.hand else [] }
-
-  deed : Bool → Deed
-  deed b = deed_after plan past (ask (ctx.Uv (Outward move))) Go (if b then AtGuest move.lpid else AtFrame move.frame)
-
-  same : deed_after plan past (ask_of cpu e.trace.cmd) e.trace.cmd (target_in plan cpu.ctx cpu.lpid e.trace.cmd) ≡ deed move.copied
-  same =
-      ap (λ (cmd : Cmd). deed_after plan past (ask_of cpu cmd) cmd (target_in plan cpu.ctx cpu.lpid cmd)) cmd_is
-      ∙ ap (λ (c : Ctx). deed_after plan past (ask c) Go (target_in plan c cpu.lpid Go)) (ap (λ (x : Event). x.saw.before) (sym extends.is) ∙ before)
-
-  not_step : (deed true).answer ≡ Step → ⊥
-  not_step = by_life (move.generation == (guest_after plan move.lpid past).part.generation) where
-    by_life : (b : Bool) → (if b then giving (coming_back (ask (ctx.Uv (Outward move))) USuccess) 1 else coming_back (ask (ctx.Uv (Outward move))) UParameter).answer ≡ Step → ⊥
-    by_life true h = cc
-    by_life false h = cc
-
-  by_copied : (b : Bool) → move.copied ≡ b → IsCopied plan past e move
-  by_copied true t = absurd (not_step (ap (λ (b : Bool). (deed b).answer) (sym t) ∙ ap (λ (d : Deed). d.answer) (sym same) ∙ ap (λ (x : Event). x.trace.answer) (sym extends.is) ∙ answer_is))
-  by_copied false t = record {
-    frame = ap (λ (x : Event). x.saw.frame) extends.is ∙ ap (λ (d : Deed). d.frame) same ∙ ap (λ (b : Bool). (deed b).frame) t;
-    bytes = ap (λ (x : Event). x.bytes) extends.is ∙ ap (λ (d : Deed). d.bytes) same ∙ ap (λ (b : Bool). (deed b).bytes) t;
-  }
+pub all_fill : (config : Config) (past : List Event) → IsInRange config → IsLegal (plan_of config) past → AllFill config past
+all_fill config [] range legal = record { hands = λ n. length-replicate (2 ^ config.shift) 0; frames = λ n. length-replicate (2 ^ config.shift) 0 }
+all_fill config (e ∷ past) range legal =
+    let fill = all_fill config past range legal.1 in
+    record { hands = hands_by config past e range fill (change (plan_of config) past e legal.0); frames = frames_by config past e range fill legal.0 }

@@ -5,7 +5,7 @@ use Rattle.pef_model.specs.declared.state.Run.{Run}
 use Rattle.pef_model.specs.declared.state.Ctx.{Ctx}
 use Rattle.pef_model.specs.declared.state.Ctx.TheVariants as ctx
 use Rattle.pef_model.specs.declared.command.Cmd.{Cmd}
-use Rattle.pef_model.specs.declared.command.Cmd.TheVariants.{HLd, HSt, UPageout, UReturn, GLi, GLd, GSt, GIrq, Go}
+use Rattle.pef_model.specs.declared.command.Cmd.TheVariants.{GLd, GSt}
 use Rattle.pef_model.specs.declared.entry.Answer.{Answer}
 use Rattle.pef_model.specs.declared.entry.Answer.TheVariants.{Done, Val}
 use Rattle.pef_model.specs.Plan.{Plan}
@@ -61,19 +61,11 @@ decides_nothing plan g lpid gpa l ctx.Hv cmd a h touched other = refl
 decides_nothing plan g lpid gpa l (ctx.Uv work) cmd a h touched other = refl
 decides_nothing plan g lpid gpa l (ctx.Guest run) cmd a h touched other = by_command cmd a touched other where
   by_command : (cmd : Cmd) (a : Answer) → is_guest lpid (target_of_running run.lpid cmd) ≡ true → is_store_by lpid gpa (ctx.Guest run) cmd a ≡ false → stored_by_command plan g run.vid cmd a gpa ≡ None
-  by_command (HLd ra) a t k = refl
-  by_command (HSt ra value) a t k = refl
-  by_command (UPageout named dest at flags order) a t k = refl
-  by_command (UReturn r0 r2 outs) a t k = refl
-  by_command (GLi rd value) a t k = refl
   by_command (GLd rd at) (Val value) t k = backs_nothing plan g at gpa h
-  by_command (GLd rd at) a t k = refl
   by_command (GSt rs at) Done t k =
       ap (λ (b : Bool). if b then Some (slice_index (g.registers run.vid).gpr rs) else backed_by plan g at gpa) (second_is_false _ _ t k)
       ∙ backs_nothing plan g at gpa h
-  by_command (GSt rs at) a t k = refl
-  by_command GIrq a t k = refl
-  by_command Go a t k = refl
+  by_command cmd a t k = refl
 
 -- an entry that is no store to the address keeps it there
 kept_holds : (plan : Plan) (g : Guest) (e : Event) (lpid gpa value : ℕ) → touches_guest plan lpid e ≡ true → is_store lpid gpa e ≡ false →

@@ -31,17 +31,17 @@ address_aims plan ra lpid true = refl
 address_aims plan ra lpid false = refl
 
 -- where a test holds that answers a code, no page begins to move
-passes : (b : Bool) (code : Code) (rest : Option Code) → (if b then Some code else rest) ≡ None → (b ≡ false) × (rest ≡ None)
+pub passes : (b : Bool) (code : Code) (rest : Option Code) → (if b then Some code else rest) ≡ None → (b ≡ false) × (rest ≡ None)
 passes true code rest h = cc
 passes false code rest h = (refl, h)
 
 -- what isn't denied holds
-not_false : (b : Bool) → not b ≡ false → b ≡ true
+pub not_false : (b : Bool) → not b ≡ false → b ≡ true
 not_false true h = refl
 not_false false h = cc
 
 -- where one of two tests would do, and none did, each fails
-neither : (a b : Bool) → a || b ≡ false → (a ≡ false) × (b ≡ false)
+pub neither : (a b : Bool) → a || b ≡ false → (a ≡ false) × (b ≡ false)
 neither true b h = cc
 neither false b h = (refl, h)
 
@@ -53,7 +53,7 @@ secure_kind kind.Out goes alone = cc
 secure_kind (kind.Shared frame fresh) goes alone = cc
 
 -- a page without a mover rests
-no_mover : (mover : Option Mover) → is_some mover ≡ false → mover ≡ None
+pub no_mover : (mover : Option Mover) → is_some mover ≡ false → mover ≡ None
 no_mover None h = refl
 no_mover (Some mover) h = cc
 
@@ -182,7 +182,7 @@ module _ (plan : Plan) (past : List Event) (cpu : CpuPart) (mark : Mark) where
       pool = omega arith;
     })
     by_life false other = Drops (record {
-      move = move;
+      work = Outward move;
       before = h;
       generation = grind (arith, nat_tests);
       cpu_is = record { ctx_is = refl; hand_is = refl; lpid_is = refl };

@@ -16,7 +16,9 @@ pub mod Loads
 pub mod Called
 pub mod Assigned
 pub mod Touched
+pub mod Clashes
 pub mod Aims
+pub mod Works
 pub mod OwnRegisters
 pub mod Outcomes
 pub mod Steps
@@ -24,6 +26,7 @@ pub mod Moves
 pub mod Puts
 pub mod Changes
 pub mod HypervisorChanges
+pub mod PageInChanges
 pub mod GuestChanges
 pub mod ChangeOf
 pub mod Fields
@@ -34,8 +37,10 @@ pub mod Running
 pub mod Parts
 pub mod Times
 pub mod Orders
+pub mod Grown
 pub mod First
 pub mod Frames
+pub mod Fresh
 pub mod ScriptLines
 pub mod WrittenWords
 pub mod WrittenLines
@@ -49,6 +54,7 @@ pub mod PageBytes
 pub mod Filled
 pub mod Streams
 pub mod Pairs
+pub mod Placed
 pub mod Hands
 pub mod Normal
 pub mod Written
@@ -56,3 +62,4 @@ pub mod AlikeEntries
 pub mod Views
 pub mod AlikeRuns
 pub mod SeenReports
+pub mod SoundParts

@@ -5,7 +5,7 @@ use Rattle.pef_model.specs.declared.state.Regs.{Regs}
 use Rattle.pef_model.specs.declared.state.Ctx.{Ctx}
 use Rattle.pef_model.specs.declared.state.Ctx.TheVariants as ctx
 use Rattle.pef_model.specs.declared.command.Cmd.{Cmd}
-use Rattle.pef_model.specs.declared.command.Cmd.TheVariants.{HLd, HSt, UPageout, UReturn, GLi, GLd, GSt, GIrq, Go}
+use Rattle.pef_model.specs.declared.command.Cmd.TheVariants.{HLd, HSt, UPagein, UPageout, UReturn, GLi, GLd, GSt, GIrq, Go}
 use Rattle.pef_model.specs.declared.entry.Exit.TheVariants as exit
 use Rattle.pef_model.specs.declared.entry.Answer.{Answer}
 use Rattle.pef_model.specs.declared.entry.Answer.TheVariants.{Done, Val, Ret, Enter, Exit, Again, Gone, Hole, Context}
@@ -39,23 +39,22 @@ steps : (regs : Regs) (run : Run) (cmd : Cmd) (a : Answer) (after : Ctx) (shown 
     Steps a regs (registers_after_command regs cmd a)
 steps regs run (HLd ra) Context after shown h = record { nip = refl; srr0 = refl }
 steps regs run (HSt ra value) Context after shown h = record { nip = refl; srr0 = refl }
-steps regs run (UPageout lpid dest gpa flags order) Gone after shown h = record { nip = refl; srr0 = refl }
+steps regs run (UPagein lpid src gpa flags order) (Ret code) after shown h = record { nip = refl; srr0 = refl }
 steps regs run (UPageout lpid dest gpa flags order) (Ret code) after shown h = record { nip = refl; srr0 = refl }
-steps regs run (UReturn r0 r2 outs) Gone after shown h = record { nip = refl; srr0 = refl }
 steps regs run (UReturn r0 r2 outs) (Ret code) after shown h = record { nip = refl; srr0 = refl }
-steps regs run (GLi rd value) Gone after shown h = record { nip = refl; srr0 = refl }
 steps regs run (GLi rd value) Done after shown h = record { nip = refl; srr0 = refl }
-steps regs run (GLd rd gpa) Gone after shown h = record { nip = refl; srr0 = refl }
 steps regs run (GLd rd gpa) (Val value) after shown h = record { nip = refl; srr0 = refl }
 steps regs run (GLd rd gpa) Hole after shown h = record { nip = refl; srr0 = refl }
-steps regs run (GSt rs gpa) Gone after shown h = record { nip = refl; srr0 = refl }
+steps regs run (GLd rd gpa) Again after shown h = record { nip = refl; srr0 = refl }
 steps regs run (GSt rs gpa) Done after shown h = record { nip = refl; srr0 = refl }
 steps regs run (GSt rs gpa) Hole after shown h = record { nip = refl; srr0 = refl }
-steps regs run (GLd rd gpa) Again after shown h = record { nip = refl; srr0 = refl }
 steps regs run (GSt rs gpa) Again after shown h = record { nip = refl; srr0 = refl }
-steps regs run GIrq Gone after shown h = record { nip = refl; srr0 = refl }
 steps regs run GIrq (Exit exit.Irq) after shown h = record { nip = refl; srr0 = refl }
 steps regs run Go Context after shown h = record { nip = refl; srr0 = refl }
+steps regs run (HLd ra) a after shown h = absurd h
+steps regs run (HSt ra value) a after shown h = absurd h
+steps regs run Go a after shown h = absurd h
+steps regs run cmd Gone after shown h = record { nip = refl; srr0 = refl }
 steps regs run cmd a after shown h = absurd h
 
 -- a step that aims at its own guest leaves its vCPU these registers
@@ -71,13 +70,8 @@ own_registers : (plan : Plan) (run : Run) (l v : ℕ) (cmd : Cmd) (a : Answer) (
     registers_by plan (ctx.Guest run) l v cmd a registers lpid vid ≡ registers_after_command (registers vid) cmd a
 own_registers plan run l v (HLd ra) a registers lpid vid here this = refl
 own_registers plan run l v (HSt ra value) a registers lpid vid here this = refl
-own_registers plan run l v (UPageout named dest gpa flags order) a registers lpid vid here this = aimed_registers run v (UPageout named dest gpa flags order) a registers lpid vid here this
-own_registers plan run l v (UReturn r0 r2 outs) a registers lpid vid here this = aimed_registers run v (UReturn r0 r2 outs) a registers lpid vid here this
-own_registers plan run l v (GLi rd value) a registers lpid vid here this = aimed_registers run v (GLi rd value) a registers lpid vid here this
-own_registers plan run l v (GLd rd gpa) a registers lpid vid here this = aimed_registers run v (GLd rd gpa) a registers lpid vid here this
-own_registers plan run l v (GSt rs gpa) a registers lpid vid here this = aimed_registers run v (GSt rs gpa) a registers lpid vid here this
-own_registers plan run l v GIrq a registers lpid vid here this = aimed_registers run v GIrq a registers lpid vid here this
 own_registers plan run l v Go a registers lpid vid here this = refl
+own_registers plan run l v cmd a registers lpid vid here this = aimed_registers run v cmd a registers lpid vid here this
 
 taken_registers : (plan : Plan) (r0 r2 : ℕ) (outs : List ℕ) (registers : ℕ → Regs) (lpid vid : ℕ) →
     registers_by plan ctx.Hv lpid vid (UReturn r0 r2 outs) Enter registers lpid vid ≡ entered_at (registers vid) r2
@@ -115,6 +109,8 @@ others_stay plan ctx.Hv l v (HLd ra) a registers lpid vid own taken =
     put_elsewhere (is_guest lpid (target_of_address plan ra)) registers (registers v) lpid vid v (λ t u. ap registers (sym (test_same vid v t)))
 others_stay plan ctx.Hv l v (HSt ra value) a registers lpid vid own taken =
     put_elsewhere (is_guest lpid (target_of_address plan ra)) registers (registers v) lpid vid v (λ t u. ap registers (sym (test_same vid v t)))
+others_stay plan ctx.Hv l v (UPagein named src gpa flags order) a registers lpid vid own taken =
+    put_elsewhere (is_guest lpid (target_of_number plan named)) registers (registers v) lpid vid v (λ t u. ap registers (sym (test_same vid v t)))
 others_stay plan ctx.Hv l v (UPageout named dest gpa flags order) a registers lpid vid own taken =
     put_elsewhere (is_guest lpid (target_of_number plan named)) registers (registers v) lpid vid v (λ t u. ap registers (sym (test_same vid v t)))
 others_stay plan ctx.Hv l v (UReturn r0 r2 outs) Enter registers lpid vid own taken =
@@ -122,11 +118,7 @@ others_stay plan ctx.Hv l v (UReturn r0 r2 outs) Enter registers lpid vid own ta
     (λ t u. absurd (taken r0 r2 outs refl refl refl (test_same l lpid u) (sym (test_same vid v t))))
 others_stay plan ctx.Hv l v (UReturn r0 r2 outs) a registers lpid vid own taken =
     put_elsewhere (l == lpid) registers (registers v) lpid vid v (λ t u. ap registers (sym (test_same vid v t)))
-others_stay plan ctx.Hv l v (GLi rd value) a registers lpid vid own taken = refl
-others_stay plan ctx.Hv l v (GLd rd gpa) a registers lpid vid own taken = refl
-others_stay plan ctx.Hv l v (GSt rs gpa) a registers lpid vid own taken = refl
-others_stay plan ctx.Hv l v GIrq a registers lpid vid own taken = refl
-others_stay plan ctx.Hv l v Go a registers lpid vid own taken = refl
+others_stay plan ctx.Hv l v cmd a registers lpid vid own taken = refl
 others_stay plan (ctx.Uv work) l v cmd a registers lpid vid own taken = kept_by_test (is_guest lpid (target_in plan (ctx.Uv work) l cmd)) (registers vid)
 others_stay plan (ctx.Guest run) l v cmd a registers lpid vid own taken =
     put_elsewhere (is_guest lpid (target_in plan (ctx.Guest run) l cmd)) registers (registers_after_command (registers run.vid) cmd a) lpid vid run.vid

@@ -1,34 +1,33 @@
 -- Normal memory holds what was last stored there.
-use Rattle.std.proofs.Common.{◌≡◌, ◌≢◌, ℕ, ◌+◌, ◌%◌, ◌^◌, ◌<◌, ◌≤◌, List, [], ◌∷◌, length, Bool, true, false, refl, ap, sym, subst, ◌∙◌, ◌==◌, ◌&&◌, if◌then◌else◌, Option, Some, None, arith}
+use Rattle.std.proofs.Common.{◌≡◌, ◌≢◌, ℕ, ◌+◌, ◌^◌, ◌<◌, ◌≤◌, List, [], ◌∷◌, length, Bool, true, false, refl, ap, sym, subst, ◌∙◌, ◌==◌, if◌then◌else◌, Option, Some, None, arith}
 use Rattle.std.specs.Prelude.{unwrap_or}
 use Rattle.std.specs.List.{AllByRecursion}
 use Rattle.std.proofs.lemmas.Bool.Decides.{nat_tests}
 use Rattle.std.proofs.lemmas.List.{length-replicate}
 use Rattle.pef_model.specs.declared.config.Config.{Config}
 use Rattle.pef_model.specs.declared.state.Move.{Move}
-use Rattle.pef_model.specs.declared.state.Work.TheVariants.{Outward}
+use Rattle.pef_model.specs.declared.state.Work.TheVariants.{Inward, Outward}
 use Rattle.pef_model.specs.declared.state.Ctx.{Ctx}
 use Rattle.pef_model.specs.declared.state.Ctx.TheVariants as ctx
 use Rattle.pef_model.specs.declared.command.Cmd.{Cmd}
-use Rattle.pef_model.specs.declared.command.Cmd.TheVariants.{HLd, HSt, UPageout, UReturn, GLi, GLd, GSt, GIrq, Go}
+use Rattle.pef_model.specs.declared.command.Cmd.TheVariants.{HSt, Go}
 use Rattle.pef_model.specs.declared.entry.Answer.{Answer}
 use Rattle.pef_model.specs.declared.entry.Answer.TheVariants.{Done, Step}
 use Rattle.pef_model.specs.Plan.{Plan, plan_of, IsInRange}
 use Rattle.pef_model.specs.Event.{Event}
 use Rattle.pef_model.specs.Doubleword.{doubleword, with_doubleword}
-use Rattle.pef_model.specs.Target.{Ask, Alone, AtFrame, frame_of, has_real_place, target_in, is_guest, is_number, touches_guest, touches_frame}
-use Rattle.pef_model.specs.Cpu.{CpuPart}
+use Rattle.pef_model.specs.Target.{frame_of, has_real_place, target_in, is_guest, is_number, touches_guest, touches_frame}
 use Rattle.pef_model.specs.Memory.{offset_of, written_in, next_frame, start_frame}
 use Rattle.pef_model.specs.Guest.{start_guest, next_guest}
-use Rattle.pef_model.specs.Deed.{Deed, answer_alone}
-use Rattle.pef_model.specs.History.{cpu_after, frame_after, ask_of, deed_after, norm_by, last_norm, Extends, IsLegal}
+use Rattle.pef_model.specs.History.{frame_after, norm_by, last_norm, IsLegal}
 use Rattle.pef_model.specs.SearchLaw.{IsCommand}
 use Rattle.pef_model.specs.NormalLaw.{FramesHoldLastNorm, GuestLeavesFrames, StoreLeavesGuests}
 use Rattle.pef_model.proofs.Folds.{same_test, test_same, counts, skips}
 use Rattle.pef_model.proofs.Aims.{address_is_no_guest}
 use Rattle.pef_model.proofs.Doublewords.{length-with_doubleword, doubleword-put, doubleword-other, doubleword-zeros}
 use Rattle.pef_model.proofs.Places.{room_at, apart_at}
-use Rattle.pef_model.proofs.Hands.{hands_fill, copy_is_placed}
+use Rattle.pef_model.proofs.Placed.{store_is_placed, copy_is_placed, aligned}
+use Rattle.pef_model.proofs.Hands.{all_fill}
 
 -- a step of a guest writes no frame
 pub guest_leaves_frames : GuestLeavesFrames
@@ -42,6 +41,7 @@ guest_leaves_frames plan past e run n before = by_test (touches_frame n e) refl 
 -- the hypervisor's store aims at no guest, in whatever context
 store_aims_at_none : (plan : Plan) (c : Ctx) (l ra value lpid : ℕ) → is_guest lpid (target_in plan c l (HSt ra value)) ≡ false
 store_aims_at_none plan ctx.Hv l ra value lpid = address_is_no_guest plan ra lpid
+store_aims_at_none plan (ctx.Uv (Inward move)) l ra value lpid = refl
 store_aims_at_none plan (ctx.Uv (Outward move)) l ra value lpid = refl
 store_aims_at_none plan (ctx.Guest run) l ra value lpid = refl
 
@@ -50,60 +50,6 @@ pub store_leaves_guests : StoreLeavesGuests
 store_leaves_guests plan past e ra value lpid is =
     skips (touches_guest plan lpid) (next_guest plan) (start_guest plan lpid) e past
     (ap (λ (cmd : Cmd). is_guest lpid (target_in plan e.saw.before e.saw.lpid cmd)) is ∙ store_aims_at_none plan e.saw.before e.saw.lpid ra value lpid)
-
--- a store that was done lies in a normal frame, which the entry tells
-pub record IsPlaced (plan : Plan) (e : Event) (at : ℕ) : Type 0 where
-  pub place : has_real_place plan at ≡ true
-  pub frame : e.saw.frame ≡ Some (frame_of plan at)
-
--- a command that aims at nothing isn't done
-alone_not_done : (c : Ctx) (cmd : Cmd) → answer_alone c cmd ≡ Done → ⊥
-alone_not_done ctx.Hv (HLd ra) h = cc
-alone_not_done ctx.Hv (HSt ra value) h = cc
-alone_not_done ctx.Hv (UPageout lpid dest gpa flags order) h = cc
-alone_not_done ctx.Hv (UReturn r0 r2 outs) h = cc
-alone_not_done ctx.Hv (GLi rd value) h = cc
-alone_not_done ctx.Hv (GLd rd gpa) h = cc
-alone_not_done ctx.Hv (GSt rs gpa) h = cc
-alone_not_done ctx.Hv GIrq h = cc
-alone_not_done ctx.Hv Go h = cc
-alone_not_done (ctx.Uv work) cmd h = cc
-alone_not_done (ctx.Guest run) cmd h = cc
-
--- by what a store does, in a frame or not
-pub store_is_placed : (plan : Plan) (past : List Event) (e : Event) (at value : ℕ) → Extends plan past e → e.saw.before ≡ ctx.Hv → e.trace.cmd ≡ HSt at value →
-    e.trace.answer ≡ Done → IsPlaced plan e at
-store_is_placed plan past e at value extends before cmd done_is = by_place (has_real_place plan at) refl where
-  cpu : CpuPart
-  cpu = cpu_after plan e.trace.cpu past
-
-  ask : Ctx → Ask
-  ask c = record (ask_of cpu (HSt at value)) { before = c }
-
-  deed : Bool → Deed
-  deed b = deed_after plan past (ask ctx.Hv) (HSt at value) (if b then AtFrame (frame_of plan at) else Alone)
-
-  same : deed_after plan past (ask_of cpu e.trace.cmd) e.trace.cmd (target_in plan cpu.ctx cpu.lpid e.trace.cmd) ≡ deed (has_real_place plan at)
-  same =
-      ap (λ (x : Cmd). deed_after plan past (ask_of cpu x) x (target_in plan cpu.ctx cpu.lpid x)) cmd
-      ∙ ap (λ (c : Ctx). deed_after plan past (ask c) (HSt at value) (target_in plan c cpu.lpid (HSt at value))) (ap (λ (x : Event). x.saw.before) (sym extends.is) ∙ before)
-
-  by_place : (b : Bool) → has_real_place plan at ≡ b → IsPlaced plan e at
-  by_place true t = record {
-    place = t;
-    frame = ap (λ (x : Event). x.saw.frame) extends.is ∙ ap (λ (d : Deed). d.frame) same ∙ ap (λ (b : Bool). (deed b).frame) t;
-  }
-  by_place false t = absurd (alone_not_done ctx.Hv (HSt at value) (
-      sym (ap (λ (x : Event). x.trace.answer) extends.is ∙ ap (λ (d : Deed). d.answer) same ∙ ap (λ (b : Bool). (deed b).answer) t) ∙ done_is))
-
--- the first of two tests that both hold
-first_holds : (a b : Bool) → a && b ≡ true → a ≡ true
-first_holds true b h = refl
-first_holds false b h = h
-
--- an address with a place is a multiple of 8
-aligned : (plan : Plan) (ra : ℕ) → has_real_place plan ra ≡ true → ra % 8 ≡ 0
-aligned plan ra h = test_same (ra % 8) 0 (first_holds _ _ h)
 
 -- addresses in different frames differ
 differs : (plan : Plan) (at ra : ℕ) → (frame_of plan at == frame_of plan ra) ≡ false → (at == ra) ≡ false
@@ -159,6 +105,7 @@ step_holds plan bytes (ctx.Uv (Outward move)) Go Step hand ra old least here k h
     let copy = writes.copies move refl refl refl in
     copied_holds plan ra old hand (move.frame == frame_of plan ra) copy.0 copy.1
 step_holds plan bytes (ctx.Uv (Outward move)) cmd a hand ra old least here k holds writes = holds
+step_holds plan bytes (ctx.Uv (Inward move)) cmd a hand ra old least here k holds writes = holds
 step_holds plan bytes ctx.Hv (HSt at value) Done hand ra old least here k holds writes =
     let store = writes.stores at value refl refl refl in
     stored_holds plan bytes ra at value old least here store.0 store.1 k holds
@@ -170,6 +117,7 @@ decides_nothing : (plan : Plan) (ra : ℕ) (c : Ctx) (cmd : Cmd) (a : Answer) (h
 decides_nothing plan ra (ctx.Guest run) cmd a hand stores copies = refl
 decides_nothing plan ra (ctx.Uv (Outward move)) Go Step hand stores copies = ap (λ (b : Bool). if b then Some (doubleword hand (offset_of plan ra)) else None) (copies move refl refl refl)
 decides_nothing plan ra (ctx.Uv (Outward move)) cmd a hand stores copies = refl
+decides_nothing plan ra (ctx.Uv (Inward move)) cmd a hand stores copies = refl
 decides_nothing plan ra ctx.Hv (HSt at value) Done hand stores copies = ap (λ (b : Bool). if b then Some value else None) (stores at value refl refl refl)
 decides_nothing plan ra ctx.Hv cmd a hand stores copies = refl
 
@@ -196,7 +144,7 @@ frame_holds config (e ∷ past) ra range legal commands here = by_test (frame_ho
             (placed.place, test_same (frame_of plan at) n (ap (is_number n) (sym placed.frame) ∙ t));
         copies = λ move before cmd step_is.
             let copied = copy_is_placed plan past e move legal.0 before cmd step_is in
-            (ap (is_number n) (sym copied.frame) ∙ t, ap length copied.bytes ∙ hands_fill config past range legal.1 e.trace.cpu);
+            (ap (is_number n) (sym copied.frame) ∙ t, let fill = all_fill config past range legal.1 in ap length copied.bytes ∙ fill.hands e.trace.cpu);
       }))
   by_test ih false t =
       let nothing : norm_by plan ra e.saw.before e.trace.cmd e.trace.answer e.bytes ≡ None =

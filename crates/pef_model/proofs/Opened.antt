@@ -1,6 +1,6 @@
 -- What the hypervisor sees of a command is the same without the value that a guest alone knows.
 use Rattle.std.proofs.Common.{◌≡◌, ℕ, List, refl, ap, sym, ◌∙◌}
-use Rattle.pef_model.specs.declared.state.Work.TheVariants.{Outward}
+use Rattle.pef_model.specs.declared.state.Work.TheVariants.{Inward, Outward}
 use Rattle.pef_model.specs.declared.state.Ctx.{Ctx}
 use Rattle.pef_model.specs.declared.state.Ctx.TheVariants as ctx
 use Rattle.pef_model.specs.declared.command.Cmd.{Cmd}
@@ -17,6 +17,8 @@ use Rattle.pef_model.specs.View.{writes_of}
 pub target_open : (plan : Plan) (c : Ctx) (lpid : ℕ) (cmd : Cmd) → target_in plan c lpid cmd ≡ target_in plan c lpid (open_cmd cmd)
 target_open plan ctx.Hv lpid (GLi rd value) = refl
 target_open plan ctx.Hv lpid cmd = refl
+target_open plan (ctx.Uv (Inward move)) lpid (GLi rd value) = refl
+target_open plan (ctx.Uv (Inward move)) lpid cmd = refl
 target_open plan (ctx.Uv (Outward move)) lpid (GLi rd value) = refl
 target_open plan (ctx.Uv (Outward move)) lpid cmd = refl
 target_open plan (ctx.Guest run) lpid (GLi rd value) = refl
@@ -50,6 +52,7 @@ name_open cmd = refl
 pub writes_open : (plan : Plan) (c : Ctx) (cmd : Cmd) (a : Answer) (bytes : List ℕ) → writes_of plan c cmd a bytes ≡ writes_of plan c (open_cmd cmd) (open_answer c a) bytes
 writes_open plan ctx.Hv (GLi rd value) a bytes = refl
 writes_open plan ctx.Hv cmd a bytes = refl
+writes_open plan (ctx.Uv (Inward move)) cmd a bytes = refl
 writes_open plan (ctx.Uv (Outward move)) (GLi rd value) a bytes = refl
 writes_open plan (ctx.Uv (Outward move)) cmd a bytes = refl
 writes_open plan (ctx.Guest run) cmd a bytes = refl

@@ -1,18 +1,21 @@
 -- A guest's Secure pages in their order.
-use Rattle.std.proofs.Common.{◌≡◌, ◌≢◌, ℕ, ◌+◌, ◌<◌, List, [], ◌∷◌, ◌++◌, length, take, Bool, true, false, not, cond, refl, ap, sym, subst, ◌∙◌, ◌==◌, if◌then◌else◌, arith, inl, inr}
+use Rattle.std.proofs.Common.{◌≡◌, ◌≢◌, ℕ, ◌+◌, List, [], ◌∷◌, ◌++◌, Bool, true, false, not, cond, refl, ap, sym, subst, ◌∙◌, ◌==◌, if◌then◌else◌, arith, inl, inr}
 use Rattle.std.specs.List.{filter}
 use Rattle.std.proofs.lemmas.Bool.{cases_eq}
-use Rattle.std.proofs.Math.Seq.{take-append_seam, take-length}
 use Rattle.pef_model.specs.declared.state.Kind.{Kind}
 use Rattle.pef_model.specs.declared.state.Kind.TheVariants as kind
+use Rattle.pef_model.specs.declared.state.Work.TheVariants.{Inward}
 use Rattle.pef_model.specs.Plan.{Plan}
 use Rattle.pef_model.specs.Event.{Event}
-use Rattle.pef_model.specs.GuestPart.{Page, GuestPart, start_part_of, put, secured, begun_out, ended_out, is_invalid, is_secure, with_secure_page, with_running_vcpu, with_parked_vcpu, with_page_leaving, with_page_out}
-use Rattle.pef_model.specs.CountLaw.{part_after, OrderHasSecurePages, OrderGrows}
+use Rattle.pef_model.specs.GuestPart.{Page, GuestPart, start_part_of, put, secured, begun_out, begun_in, refused_in, ended_out, is_invalid, is_secure, with_secure_page, with_page_out}
+use Rattle.pef_model.specs.History.{cpu_after, IsLegal}
+use Rattle.pef_model.specs.CountLaw.{part_after}
 use Rattle.pef_model.proofs.Folds.{same_test}
-use Rattle.pef_model.proofs.Times.{times, times-append, times_passed, times_stopped, same_filter, filter_all}
+use Rattle.pef_model.proofs.Times.{times, times-append, times_passed, times_stopped}
 use Rattle.pef_model.proofs.Puts.{other_test, put-here, put-other}
-use Rattle.pef_model.proofs.Parts.{IsKept, holds_after}
+use Rattle.pef_model.proofs.Changes.{Change, Quiet, Begins, Copies, Ends, Drops, Comes, Reads, Accepts, Refuses, Takes, Parked, Gone, Backs, KeepsParts, PutsPart}
+use Rattle.pef_model.proofs.ChangeOf.{change}
+use Rattle.pef_model.proofs.Paging.{pages, AllMoved, all_moved}
 
 -- an Invalid page isn't Secure
 pub invalid_not_secure : (page : Page) → is_invalid page ≡ true → is_secure page ≡ false
@@ -39,76 +42,74 @@ counts_put g at page order h others here gfn = elim (cases_eq gfn at) [
   | inr other ↦ others gfn other ∙ h gfn ∙ ap (λ (p : Page). if is_secure p then 1 else 0) (sym (put-other g.pages at page gfn other))
 ]
 
--- whatever a step makes of a part, its order counts its pages
-counts_kept : (g : GuestPart) → ((gfn : ℕ) → CountsPage gfn g) → IsKept (λ (new : GuestPart). (gfn : ℕ) → CountsPage gfn new) g
-counts_kept g h = record {
-  same = h;
-  running = λ vid cpu. h;
-  parked = λ vid pending. h;
-  leaving = λ at cpu bytes. counts_put g at (begun_out (g.pages at) cpu bytes) g.order h (λ gfn other. refl) (h at);
-  out = λ at. counts_put g at (ended_out (g.pages at)) (filter (λ n. not (n == at)) g.order) h
-      (λ gfn other. times_passed (λ n. not (n == at)) gfn g.order (ap not (other_test gfn at other)))
-      (times_stopped (λ n. not (n == at)) at g.order (ap not (same_test at)));
-  backed = λ at invalid. counts_put g at (secured (g.pages at)) (g.order ++ at ∷ []) h
-      (λ gfn other. let none : (at == gfn) ≡ false = other_test at gfn (λ same. other (sym same)) in times-append gfn at g.order ∙ ap (λ (b : Bool). times gfn g.order + (0 + cond b 1 0)) none ∙ omega arith)
-      (times-append at at g.order ∙ ap (λ (b : Bool). times at g.order + (0 + cond b 1 0)) (same_test at)
-      ∙ ap (λ (n : ℕ). n + 1) (counts_secure g at false (invalid_not_secure (g.pages at) invalid) (h at)));
-}
+-- what is put behind an order leaves every other number
+pub times-behind : (at gfn : ℕ) (order : List ℕ) → gfn ≢ at → times gfn (order ++ at ∷ []) ≡ times gfn order
+times-behind at gfn order other =
+    let none : (at == gfn) ≡ false = other_test at gfn (λ same. other (sym same)) in
+    times-append gfn at order ∙ ap (λ (b : Bool). times gfn order + (0 + cond b 1 0)) none ∙ omega arith
 
--- so it does after each history
-counts_all : (plan : Plan) (past : List Event) (lpid gfn : ℕ) → CountsPage gfn (part_after plan past lpid)
-counts_all plan [] lpid gfn = by_birth (plan.is_born lpid) where
+-- a page that isn't Secure comes behind the order as it becomes so
+counts_behind : (g : GuestPart) (at : ℕ) → is_secure (g.pages at) ≡ false → ((gfn : ℕ) → CountsPage gfn g) → (gfn : ℕ) → CountsPage gfn (with_secure_page g at)
+counts_behind g at none h =
+    counts_put g at (secured (g.pages at)) (g.order ++ at ∷ []) h (λ gfn other. times-behind at gfn g.order other)
+    (times-append at at g.order ∙ ap (λ (b : Bool). times at g.order + (0 + cond b 1 0)) (same_test at) ∙ ap (λ (n : ℕ). n + 1) (counts_secure g at false none (h at)))
+
+-- a Secure page leaves the order as it goes out
+counts_out : (g : GuestPart) (at : ℕ) → ((gfn : ℕ) → CountsPage gfn g) → (gfn : ℕ) → CountsPage gfn (with_page_out g at)
+counts_out g at h =
+    counts_put g at (ended_out (g.pages at)) (filter (λ n. not (n == at)) g.order) h
+    (λ gfn other. times_passed (λ n. not (n == at)) gfn g.order (ap not (other_test gfn at other)))
+    (times_stopped (λ n. not (n == at)) at g.order (ap not (same_test at)))
+
+-- each guest's order counts its pages
+abbrev CountsAll : Plan → List Event → Type 0
+CountsAll plan past = (lpid gfn : ℕ) → CountsPage gfn (part_after plan past lpid)
+
+-- where no part changes
+counts_same : (plan : Plan) (past : List Event) (e : Event) → KeepsParts plan past e → CountsAll plan past → CountsAll plan (e ∷ past)
+counts_same plan past e parts h lpid gfn = subst (CountsPage gfn) (sym (parts lpid)) (h lpid gfn)
+
+-- where one part changes
+counts_one : (plan : Plan) (past : List Event) (e : Event) (l : ℕ) (new : GuestPart) → PutsPart plan past e l new → ((gfn : ℕ) → CountsPage gfn new) → CountsAll plan past → CountsAll plan (e ∷ past)
+counts_one plan past e l new parts counted h lpid gfn = subst (CountsPage gfn) (sym (parts lpid)) (elim (cases_eq lpid l) [
+  | inl same ↦ subst (CountsPage gfn) (sym (ap (put (part_after plan past) l new) same ∙ put-here (part_after plan past) l new)) (counted gfn)
+  | inr other ↦ subst (CountsPage gfn) (sym (put-other (part_after plan past) l new lpid other)) (h lpid gfn)
+])
+
+-- a page that moves inward isn't Secure
+pub out_not_secure : (page : Page) → page.kind ≡ kind.Out → is_secure page ≡ false
+out_not_secure page h = ap (λ (k : Kind). is_secure (record page { kind = k })) h
+
+-- each change keeps it so
+counts_by : (plan : Plan) (past : List Event) (e : Event) → AllMoved plan past → CountsAll plan past → Change plan past (cpu_after plan e.trace.cpu past) e → CountsAll plan (e ∷ past)
+counts_by plan past e all h (Quiet x) = counts_same plan past e x.parts h
+counts_by plan past e all h (Begins x) =
+    let g : GuestPart = part_after plan past x.move.lpid in
+    counts_one plan past e _ _ x.parts (counts_put g x.move.gfn (begun_out (g.pages x.move.gfn) e.trace.cpu e.bytes) g.order (h x.move.lpid) (λ gfn other. refl) (h x.move.lpid x.move.gfn)) h
+counts_by plan past e all h (Copies x) = counts_same plan past e x.parts h
+counts_by plan past e all h (Ends x) = counts_one plan past e _ _ x.parts (counts_out (part_after plan past x.move.lpid) x.move.gfn (h x.move.lpid)) h
+counts_by plan past e all h (Drops x) = counts_same plan past e x.parts h
+counts_by plan past e all h (Comes x) =
+    let g : GuestPart = part_after plan past x.move.lpid in
+    counts_one plan past e _ _ x.parts (counts_put g x.move.gfn (begun_in (g.pages x.move.gfn) e.trace.cpu) g.order (h x.move.lpid) (λ gfn other. refl) (h x.move.lpid x.move.gfn)) h
+counts_by plan past e all h (Reads x) = counts_same plan past e x.parts h
+counts_by plan past e all h (Accepts x) =
+    let moving = all.moves e.trace.cpu (Inward x.move) x.before x.generation in
+    counts_one plan past e _ _ x.parts (counts_behind (part_after plan past x.move.lpid) x.move.gfn (out_not_secure (pages plan past x.move.lpid x.move.gfn) moving.kind_is) (h x.move.lpid)) h
+counts_by plan past e all h (Refuses x) =
+    let g : GuestPart = part_after plan past x.move.lpid in
+    counts_one plan past e _ _ x.parts (counts_put g x.move.gfn (refused_in (g.pages x.move.gfn)) g.order (h x.move.lpid) (λ gfn other. refl) (h x.move.lpid x.move.gfn)) h
+counts_by plan past e all h (Takes x) = counts_one plan past e _ _ x.parts (h (cpu_after plan e.trace.cpu past).lpid) h
+counts_by plan past e all h (Parked x) = counts_one plan past e _ _ x.parts (h x.run.lpid) h
+counts_by plan past e all h (Gone x) = counts_same plan past e x.parts h
+counts_by plan past e all h (Backs x) =
+    counts_one plan past e _ _ x.parts (counts_behind (part_after plan past x.run.lpid) x.gfn (invalid_not_secure (pages plan past x.run.lpid x.gfn) x.invalid) (h x.run.lpid)) h
+
+-- so an order has each Secure page once after a legal history
+pub order_has_secure_pages : (plan : Plan) (past : List Event) (lpid gfn : ℕ) → IsLegal plan past → CountsPage gfn (part_after plan past lpid)
+order_has_secure_pages plan [] lpid gfn legal = by_birth (plan.is_born lpid) where
   by_birth : (b : Bool) → CountsPage gfn (start_part_of b)
   by_birth true = refl
   by_birth false = refl
-counts_all plan (e ∷ past) lpid gfn = holds_after (λ (new : GuestPart). (gfn : ℕ) → CountsPage gfn new) plan past e lpid (counts_kept (part_after plan past lpid) (counts_all plan past lpid)) gfn
-
--- an order has each Secure page once
-pub order_has_secure_pages : OrderHasSecurePages
-order_has_secure_pages = counts_all
-
--- a page that is in an order is Secure
-is_there : (g : GuestPart) (gfn : ℕ) → CountsPage gfn g → 0 < times gfn g.order → is_secure (g.pages gfn) ≡ true
-is_there g gfn h some = by_kind (is_secure (g.pages gfn)) refl where
-  by_kind : (b : Bool) → is_secure (g.pages gfn) ≡ b → is_secure (g.pages gfn) ≡ true
-  by_kind true t = t
-  by_kind false t = let none = counts_secure g gfn false t h in absurd (omega arith)
-
--- the new order begins with the old one's pages that are still Secure
-abbrev Grows : GuestPart → GuestPart → Type 0
-Grows old new = take (length (filter (λ gfn. is_secure (new.pages gfn)) old.order)) new.order ≡ filter (λ gfn. is_secure (new.pages gfn)) old.order
-
--- so it does where those are these
-grows_by : (old new : GuestPart) (still : List ℕ) → filter (λ gfn. is_secure (new.pages gfn)) old.order ≡ still → take (length still) new.order ≡ still → Grows old new
-grows_by old new still same front = ap (λ (xs : List ℕ). take (length xs) new.order) same ∙ front ∙ sym same
-
--- whatever a step makes of a part, its order grows so
-grows_kept : (g : GuestPart) → ((gfn : ℕ) → CountsPage gfn g) → IsKept (Grows g) g
-grows_kept g h = record {
-  same = all_still g refl (λ gfn secure. secure);
-  running = λ vid cpu. all_still (with_running_vcpu g vid cpu) refl (λ gfn secure. secure);
-  parked = λ vid pending. all_still (with_parked_vcpu g vid pending) refl (λ gfn secure. secure);
-  leaving = λ at cpu bytes. all_still (with_page_leaving g at cpu bytes) refl (λ gfn secure. elim (cases_eq gfn at) [
-    | inl same ↦ ap (λ (n : ℕ). is_secure (put g.pages at (begun_out (g.pages at) cpu bytes) n)) same ∙ ap is_secure (put-here g.pages at (begun_out (g.pages at) cpu bytes)) ∙ ap (λ (n : ℕ). is_secure (g.pages n)) (sym same) ∙ secure
-    | inr other ↦ ap is_secure (put-other g.pages at (begun_out (g.pages at) cpu bytes) gfn other) ∙ secure
-  ]);
-  out = λ at. grows_by g (with_page_out g at) (filter (λ n. not (n == at)) g.order)
-      (same_filter (λ n. is_secure (put g.pages at (ended_out (g.pages at)) n)) (λ n. not (n == at)) g.order (λ gfn some. elim (cases_eq gfn at) [
-        | inl same ↦ ap (λ (n : ℕ). is_secure (put g.pages at (ended_out (g.pages at)) n)) same ∙ ap is_secure (put-here g.pages at (ended_out (g.pages at))) ∙ sym (ap (λ (n : ℕ). not (n == at)) same ∙ ap not (same_test at))
-        | inr other ↦ ap is_secure (put-other g.pages at (ended_out (g.pages at)) gfn other) ∙ is_there g gfn (h gfn) some ∙ sym (ap not (other_test gfn at other))
-      ]))
-      (take-length (filter (λ n. not (n == at)) g.order));
-  backed = λ at invalid. grows_by g (with_secure_page g at) g.order
-      (filter_all (λ n. is_secure (put g.pages at (secured (g.pages at)) n)) g.order (λ gfn some. elim (cases_eq gfn at) [
-        | inl same ↦ ap (λ (n : ℕ). is_secure (put g.pages at (secured (g.pages at)) n)) same ∙ ap is_secure (put-here g.pages at (secured (g.pages at)))
-        | inr other ↦ ap is_secure (put-other g.pages at (secured (g.pages at)) gfn other) ∙ is_there g gfn (h gfn) some
-      ]))
-      (take-append_seam g.order (at ∷ []));
-} where
-  all_still : (new : GuestPart) → new.order ≡ g.order → ((gfn : ℕ) → is_secure (g.pages gfn) ≡ true → is_secure (new.pages gfn) ≡ true) → Grows g new
-  all_still new same still = grows_by g new g.order (filter_all (λ gfn. is_secure (new.pages gfn)) g.order (λ gfn some. still gfn (is_there g gfn (h gfn) some)))
-      (ap (take (length g.order)) same ∙ take-length g.order)
-
--- so an order grows at each entry
-pub order_grows : OrderGrows
-order_grows plan past e lpid = holds_after (Grows (part_after plan past lpid)) plan past e lpid (grows_kept (part_after plan past lpid) (counts_all plan past lpid))
+order_has_secure_pages plan (e ∷ past) lpid gfn legal =
+    counts_by plan past e (all_moved plan past legal.1) (λ l n. order_has_secure_pages plan past l n legal.1) (change plan past e legal.0) lpid gfn

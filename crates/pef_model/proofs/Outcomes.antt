@@ -2,29 +2,37 @@
 use Rattle.std.proofs.Common.{◌≡◌, ℕ, List, [], ◌∷◌, Bool, true, false, refl, sym, subst, ◌==◌, ◌&&◌, if◌then◌else◌, nat_le, nat_lt, Option, Some, None}
 use Rattle.pef_model.specs.declared.state.Run.{Run}
 use Rattle.pef_model.specs.declared.state.Move.{Move}
-use Rattle.pef_model.specs.declared.state.Work.TheVariants.{Outward}
+use Rattle.pef_model.specs.declared.state.Work.{Work}
+use Rattle.pef_model.specs.declared.state.Work.TheVariants.{Inward, Outward}
 use Rattle.pef_model.specs.declared.state.Ctx.{Ctx}
 use Rattle.pef_model.specs.declared.state.Ctx.TheVariants as ctx
 use Rattle.pef_model.specs.declared.command.Code.{Code}
 use Rattle.pef_model.specs.declared.command.Code.TheVariants.{USuccess, UParameter, UInvalid}
 use Rattle.pef_model.specs.declared.command.Cmd.{Cmd}
-use Rattle.pef_model.specs.declared.command.Cmd.TheVariants.{HLd, HSt, UPageout, UReturn, GLi, GLd, GSt, GIrq, Go}
+use Rattle.pef_model.specs.declared.command.Cmd.TheVariants.{HLd, HSt, UPagein, UPageout, UReturn, GLi, GLd, GSt, GIrq, Go}
 use Rattle.pef_model.specs.declared.entry.Exit.TheVariants as exit
 use Rattle.pef_model.specs.declared.entry.Answer.{Answer}
 use Rattle.pef_model.specs.declared.entry.Answer.TheVariants.{Done, Val, Ret, Step, Enter, Exit, Again, Gone, Hole, Context}
 use Rattle.pef_model.specs.Plan.{Plan}
-use Rattle.pef_model.specs.Event.{Event}
+use Rattle.pef_model.specs.Event.{Event, Mark, mark_of}
 use Rattle.pef_model.specs.Target.{Ask, Alone, AtGuest, AtFrame, frame_of, has_real_place, target_in}
 use Rattle.pef_model.specs.GuestPart.{GuestPart}
 use Rattle.pef_model.specs.Guest.{Guest, private_doubleword}
 use Rattle.pef_model.specs.PageOut.{page_out_code}
-use Rattle.pef_model.specs.Deed.{Deed, Reach, NoPage, InFrame, Backs, NoFrame, Moves, answering, giving, coming_back, returning, may_return_in, is_waiting, deed_page_out_begin, deed_return, reach, deed_access, deed_running, deed_gone}
-use Rattle.pef_model.specs.History.{cpu_after, guest_after, pool_after, deed_after, ask_of, Extends}
+use Rattle.pef_model.specs.PageIn.{page_in_operands, is_last_sealed}
+use Rattle.pef_model.specs.Deed.{Deed, Reach, NoPage, InFrame, Backs, NoFrame, Moves, answering, giving, coming_back, returning, may_return_in, is_waiting, deed_page_out_begin, deed_page_in_with, deed_page_in_test, deed_return, reach, deed_access, deed_running, deed_gone}
+use Rattle.pef_model.specs.History.{cpu_after, guest_after, pool_after, deed_after, ask_of, next_entry, Extends}
+use Rattle.pef_model.proofs.Works.{with_copy}
 
 -- a context in which a page of this guest has begun to move outward
 abbrev pub Begins : ℕ → Ctx → Type 0
 Begins lpid (ctx.Uv (Outward move)) = (move.lpid ≡ lpid) × (move.copied ≡ false)
 Begins lpid other = ⊥
+
+-- a context in which a page of this guest has begun to move inward
+abbrev pub BeginsIn : ℕ → Ctx → Type 0
+BeginsIn lpid (ctx.Uv (Inward move)) = (move.lpid ≡ lpid) × (move.copied ≡ false)
+BeginsIn lpid other = ⊥
 
 -- the answers that a step can give, each with the context after it and the values that it lets out
 abbrev pub Outcome : Ctx → Cmd → Answer → Ctx → List ℕ → Type 0
@@ -34,6 +42,9 @@ Outcome ctx.Hv (HLd ra) a after shown = ⊥
 Outcome ctx.Hv (HSt ra value) Done after shown = (after ≡ ctx.Hv) × (shown ≡ [])
 Outcome ctx.Hv (HSt ra value) Hole after shown = (after ≡ ctx.Hv) × (shown ≡ [])
 Outcome ctx.Hv (HSt ra value) a after shown = ⊥
+Outcome ctx.Hv (UPagein lpid src gpa flags order) Step after shown = BeginsIn lpid after × (shown ≡ [])
+Outcome ctx.Hv (UPagein lpid src gpa flags order) (Ret code) after shown = (after ≡ ctx.Hv) × (shown ≡ [])
+Outcome ctx.Hv (UPagein lpid src gpa flags order) a after shown = ⊥
 Outcome ctx.Hv (UPageout lpid dest gpa flags order) Step after shown = Begins lpid after × (shown ≡ [])
 Outcome ctx.Hv (UPageout lpid dest gpa flags order) (Ret code) after shown = (after ≡ ctx.Hv) × (shown ≡ [])
 Outcome ctx.Hv (UPageout lpid dest gpa flags order) a after shown = ⊥
@@ -42,8 +53,8 @@ Outcome ctx.Hv (UReturn r0 r2 outs) (Ret code) after shown = (after ≡ ctx.Hv) 
 Outcome ctx.Hv (UReturn r0 r2 outs) a after shown = ⊥
 Outcome ctx.Hv cmd Context after shown = (after ≡ ctx.Hv) × (shown ≡ [])
 Outcome ctx.Hv cmd a after shown = ⊥
-Outcome (ctx.Uv (Outward move)) Go Step after shown = (after ≡ ctx.Uv (Outward (record move { copied = true }))) × (shown ≡ [])
-Outcome (ctx.Uv (Outward move)) Go (Ret code) after shown = (after ≡ ctx.Hv) × (shown ≡ [])
+Outcome (ctx.Uv work) Go Step after shown = (after ≡ ctx.Uv (with_copy work)) × (shown ≡ [])
+Outcome (ctx.Uv work) Go (Ret code) after shown = (after ≡ ctx.Hv) × (shown ≡ [])
 Outcome (ctx.Uv work) Go a after shown = ⊥
 Outcome (ctx.Uv work) cmd Context after shown = (after ≡ ctx.Uv work) × (shown ≡ [])
 Outcome (ctx.Uv work) cmd a after shown = ⊥
@@ -54,6 +65,7 @@ Outcome (ctx.Guest run) (HSt ra value) a after shown = ⊥
 Outcome (ctx.Guest run) Go Context after shown = (after ≡ ctx.Guest run) × (shown ≡ [])
 Outcome (ctx.Guest run) Go a after shown = ⊥
 Outcome (ctx.Guest run) cmd Gone after shown = (after ≡ ctx.Hv) × (shown ≡ [])
+Outcome (ctx.Guest run) (UPagein lpid src gpa flags order) (Ret code) after shown = (after ≡ ctx.Guest run) × (shown ≡ lpid ∷ src ∷ gpa ∷ flags ∷ order ∷ [])
 Outcome (ctx.Guest run) (UPageout lpid dest gpa flags order) (Ret code) after shown = (after ≡ ctx.Guest run) × (shown ≡ lpid ∷ dest ∷ gpa ∷ flags ∷ order ∷ [])
 Outcome (ctx.Guest run) (UReturn r0 r2 outs) (Ret code) after shown = (after ≡ ctx.Guest run) × (shown ≡ r0 ∷ r2 ∷ outs)
 Outcome (ctx.Guest run) (GLi rd value) Done after shown = (after ≡ ctx.Guest run) × (shown ≡ [])
@@ -86,15 +98,10 @@ store_comes run ask rs gpa Moves h = (h, refl)
 
 running_comes : (plan : Plan) (g : Guest) (any : Bool) (run : Run) (ask : Ask) (cmd : Cmd) → ask.before ≡ ctx.Guest run →
     Comes (ctx.Guest run) cmd (deed_running plan g any ask cmd)
-running_comes plan g any run ask (HLd ra) h = (h, refl)
-running_comes plan g any run ask (HSt ra value) h = (h, refl)
-running_comes plan g any run ask (UPageout lpid dest gpa flags order) h = (h, refl)
-running_comes plan g any run ask (UReturn r0 r2 outs) h = (h, refl)
-running_comes plan g any run ask (GLi rd value) h = (h, refl)
 running_comes plan g any run ask (GLd rd gpa) h = load_comes run ask rd gpa (private_doubleword plan g gpa) (reach plan g.part any gpa) h
 running_comes plan g any run ask (GSt rs gpa) h = store_comes run ask rs gpa (reach plan g.part any gpa) h
 running_comes plan g any run ask GIrq h = (refl, refl)
-running_comes plan g any run ask Go h = (h, refl)
+running_comes plan g any run ask cmd h = (h, refl)
 
 return_comes : (g : GuestPart) (asked : Ask) (r0 r2 : ℕ) (outs : List ℕ) → Comes ctx.Hv (UReturn r0 r2 outs) (deed_return g (record asked { before = ctx.Hv }))
 return_comes g asked r0 r2 outs = by_test (may_return_in g.phase && is_waiting (g.vcpus asked.vid).state) where
@@ -122,12 +129,46 @@ page_out_comes plan past asked lpid dest gpa flags order true = by_code (page_ou
   by_code None = ((refl, refl), refl)
   by_code (Some code) = (refl, refl)
 
+-- a page-in likewise
+page_in_comes : (plan : Plan) (past : List Event) (asked : Ask) (lpid src gpa flags order : ℕ) (b : Bool) →
+    Comes ctx.Hv (UPagein lpid src gpa flags order)
+    (deed_after plan past (record asked { before = ctx.Hv }) (UPagein lpid src gpa flags order) (if b then AtGuest lpid else Alone))
+page_in_comes plan past asked lpid src gpa flags order false = (refl, refl)
+page_in_comes plan past asked lpid src gpa flags order true = by_code (page_in_operands plan g src gpa flags order) (nat_lt 0 (pool_after plan past)) where
+  ask : Ask
+  ask = record asked { before = ctx.Hv }
+
+  g : GuestPart
+  g = (guest_after plan lpid past).part
+
+  by_code : (code : Option Code) (any : Bool) → Comes ctx.Hv (UPagein lpid src gpa flags order) (returning ask code (deed_page_in_with plan g ask lpid src gpa any))
+  by_code None true = ((refl, refl), refl)
+  by_code None false = (refl, refl)
+  by_code (Some code) any = (refl, refl)
+
+-- a step of a page-in in progress, whether its page is copied or not, and whether the page is accepted or not
+inward_comes : (plan : Plan) (past : List Event) (asked : Ask) (move : Move) (b : Bool) →
+    Comes (ctx.Uv (Inward move)) Go
+    (deed_after plan past (record asked { before = ctx.Uv (Inward move) }) Go (if b then AtGuest move.lpid else AtFrame move.frame))
+inward_comes plan past asked move false = (refl, refl)
+inward_comes plan past asked move true = by_life (move.generation == g.generation) (is_last_sealed (g.pages move.gfn).sealed ask.hand) where
+  ask : Ask
+  ask = record asked { before = ctx.Uv (Inward move) }
+
+  g : GuestPart
+  g = (guest_after plan move.lpid past).part
+
+  by_life : (b last : Bool) → Comes (ctx.Uv (Inward move)) Go (if b then deed_page_in_test ask last else coming_back ask UParameter)
+  by_life true true = (refl, refl)
+  by_life true false = (refl, refl)
+  by_life false last = (refl, refl)
+
 -- a step of a page-out in progress, whether its page is copied or not
-move_comes : (plan : Plan) (past : List Event) (asked : Ask) (move : Move) (b : Bool) →
+outward_comes : (plan : Plan) (past : List Event) (asked : Ask) (move : Move) (b : Bool) →
     Comes (ctx.Uv (Outward move)) Go
     (deed_after plan past (record asked { before = ctx.Uv (Outward move) }) Go (if b then AtGuest move.lpid else AtFrame move.frame))
-move_comes plan past asked move false = (refl, refl)
-move_comes plan past asked move true = by_life (move.generation == (guest_after plan move.lpid past).part.generation) where
+outward_comes plan past asked move false = (refl, refl)
+outward_comes plan past asked move true = by_life (move.generation == (guest_after plan move.lpid past).part.generation) where
   ask : Ask
   ask = record asked { before = ctx.Uv (Outward move) }
 
@@ -168,57 +209,43 @@ deed_comes : (plan : Plan) (past : List Event) (c : Ctx) (asked : Ask) (cmd : Cm
     Comes c cmd (deed_after plan past (record asked { before = c }) cmd (target_in plan c asked.lpid cmd))
 deed_comes plan past ctx.Hv asked (HLd ra) = normal_load_comes plan past asked ra (has_real_place plan ra)
 deed_comes plan past ctx.Hv asked (HSt ra value) = normal_store_comes plan past asked ra value (has_real_place plan ra)
+deed_comes plan past ctx.Hv asked (UPagein lpid src gpa flags order) = page_in_comes plan past asked lpid src gpa flags order (nat_le 1 lpid && nat_le lpid plan.guests)
 deed_comes plan past ctx.Hv asked (UPageout lpid dest gpa flags order) = page_out_comes plan past asked lpid dest gpa flags order (nat_le 1 lpid && nat_le lpid plan.guests)
 deed_comes plan past ctx.Hv asked (UReturn r0 r2 outs) = return_comes (guest_after plan asked.lpid past).part asked r0 r2 outs
-deed_comes plan past ctx.Hv asked (GLi rd value) = (refl, refl)
-deed_comes plan past ctx.Hv asked (GLd rd gpa) = (refl, refl)
-deed_comes plan past ctx.Hv asked (GSt rs gpa) = (refl, refl)
-deed_comes plan past ctx.Hv asked GIrq = (refl, refl)
-deed_comes plan past ctx.Hv asked Go = (refl, refl)
-deed_comes plan past (ctx.Uv (Outward move)) asked (HLd ra) = (refl, refl)
-deed_comes plan past (ctx.Uv (Outward move)) asked (HSt ra value) = (refl, refl)
-deed_comes plan past (ctx.Uv (Outward move)) asked (UPageout lpid dest gpa flags order) = (refl, refl)
-deed_comes plan past (ctx.Uv (Outward move)) asked (UReturn r0 r2 outs) = (refl, refl)
-deed_comes plan past (ctx.Uv (Outward move)) asked (GLi rd value) = (refl, refl)
-deed_comes plan past (ctx.Uv (Outward move)) asked (GLd rd gpa) = (refl, refl)
-deed_comes plan past (ctx.Uv (Outward move)) asked (GSt rs gpa) = (refl, refl)
-deed_comes plan past (ctx.Uv (Outward move)) asked GIrq = (refl, refl)
-deed_comes plan past (ctx.Uv (Outward move)) asked Go = move_comes plan past asked move move.copied
+deed_comes plan past ctx.Hv asked cmd = (refl, refl)
+deed_comes plan past (ctx.Uv (Inward move)) asked Go = inward_comes plan past asked move move.copied
+deed_comes plan past (ctx.Uv (Inward move)) asked cmd = (refl, refl)
+deed_comes plan past (ctx.Uv (Outward move)) asked Go = outward_comes plan past asked move move.copied
+deed_comes plan past (ctx.Uv (Outward move)) asked cmd = (refl, refl)
 deed_comes plan past (ctx.Guest run) asked (HLd ra) = (refl, refl)
 deed_comes plan past (ctx.Guest run) asked (HSt ra value) = (refl, refl)
-deed_comes plan past (ctx.Guest run) asked (UPageout lpid dest gpa flags order) = guest_comes plan past run asked (UPageout lpid dest gpa flags order) (λ ask. (refl, refl))
-deed_comes plan past (ctx.Guest run) asked (UReturn r0 r2 outs) = guest_comes plan past run asked (UReturn r0 r2 outs) (λ ask. (refl, refl))
-deed_comes plan past (ctx.Guest run) asked (GLi rd value) = guest_comes plan past run asked (GLi rd value) (λ ask. (refl, refl))
-deed_comes plan past (ctx.Guest run) asked (GLd rd gpa) = guest_comes plan past run asked (GLd rd gpa) (λ ask. (refl, refl))
-deed_comes plan past (ctx.Guest run) asked (GSt rs gpa) = guest_comes plan past run asked (GSt rs gpa) (λ ask. (refl, refl))
-deed_comes plan past (ctx.Guest run) asked GIrq = guest_comes plan past run asked GIrq (λ ask. (refl, refl))
 deed_comes plan past (ctx.Guest run) asked Go = (refl, refl)
+deed_comes plan past (ctx.Guest run) asked cmd = guest_comes plan past run asked cmd (λ ask. (refl, refl))
 
--- an entry that extends a history has such an outcome
+-- the entry that a step adds to a history has such an outcome
+pub next_outcome : (plan : Plan) (past : List Event) (mark : Mark) (cmd : Cmd) →
+    let e : Event = next_entry plan past mark cmd in
+    Outcome e.saw.before cmd e.trace.answer e.saw.after e.saw.shown
+next_outcome plan past mark cmd =
+    let cpu = cpu_after plan mark.cpu past in
+    deed_comes plan past cpu.ctx (ask_of cpu cmd) cmd
+
+-- so has an entry that extends a history
 pub outcome : (plan : Plan) (past : List Event) (e : Event) → Extends plan past e → Outcome e.saw.before e.trace.cmd e.trace.answer e.saw.after e.saw.shown
 outcome plan past e extends =
-    let cpu = cpu_after plan e.trace.cpu past in
-    subst (λ (x : Event). Outcome x.saw.before x.trace.cmd x.trace.answer x.saw.after x.saw.shown) (sym extends.is)
-    (deed_comes plan past cpu.ctx (ask_of cpu e.trace.cmd) e.trace.cmd)
+    subst (λ (x : Event). Outcome x.saw.before x.trace.cmd x.trace.answer x.saw.after x.saw.shown) (sym extends.is) (next_outcome plan past (mark_of e) e.trace.cmd)
 
--- what the answer of a step tells while a page moves outward, whatever its command is
-abbrev pub Moving : Move → Answer → Ctx → List ℕ → Type 0
-Moving move Step after shown = (after ≡ ctx.Uv (Outward (record move { copied = true }))) × (shown ≡ [])
-Moving move (Ret code) after shown = (after ≡ ctx.Hv) × (shown ≡ [])
-Moving move Context after shown = (after ≡ ctx.Uv (Outward move)) × (shown ≡ [])
-Moving move a after shown = ⊥
+-- what the answer of a step tells while a call is in progress, whatever its command is
+abbrev pub Moving : Work → Answer → Ctx → List ℕ → Type 0
+Moving work Step after shown = (after ≡ ctx.Uv (with_copy work)) × (shown ≡ [])
+Moving work (Ret code) after shown = (after ≡ ctx.Hv) × (shown ≡ [])
+Moving work Context after shown = (after ≡ ctx.Uv work) × (shown ≡ [])
+Moving work a after shown = ⊥
 
 -- only go does anything then
-pub moving : (move : Move) (cmd : Cmd) (a : Answer) (after : Ctx) (shown : List ℕ) → Outcome (ctx.Uv (Outward move)) cmd a after shown → Moving move a after shown
-moving move Go Step after shown h = h
-moving move Go (Ret code) after shown h = h
-moving move Go a after shown h = absurd h
-moving move (HLd ra) Context after shown h = h
-moving move (HSt ra value) Context after shown h = h
-moving move (UPageout lpid dest gpa flags order) Context after shown h = h
-moving move (UReturn r0 r2 outs) Context after shown h = h
-moving move (GLi rd value) Context after shown h = h
-moving move (GLd rd gpa) Context after shown h = h
-moving move (GSt rs gpa) Context after shown h = h
-moving move GIrq Context after shown h = h
-moving move cmd a after shown h = absurd h
+pub moving : (work : Work) (cmd : Cmd) (a : Answer) (after : Ctx) (shown : List ℕ) → Outcome (ctx.Uv work) cmd a after shown → Moving work a after shown
+moving work Go Step after shown h = h
+moving work Go (Ret code) after shown h = h
+moving work Go a after shown h = absurd h
+moving work cmd Context after shown h = h
+moving work cmd a after shown h = absurd h

@@ -4,28 +4,26 @@ use Rattle.std.specs.List.{AllByRecursion}
 use Rattle.std.proofs.Math.ListN.{length-set}
 use Rattle.pef_model.specs.declared.state.Ctx.{Ctx}
 use Rattle.pef_model.specs.declared.state.Ctx.TheVariants as ctx
+use Rattle.pef_model.specs.declared.command.TheConstants.{UV_PAGE_IN, UV_PAGE_OUT}
 use Rattle.pef_model.specs.declared.command.Cmd.{Cmd}
-use Rattle.pef_model.specs.declared.command.Cmd.TheVariants.{HLd, HSt, UPageout, UReturn, GLi, GLd, GSt, GIrq, Go}
+use Rattle.pef_model.specs.declared.command.Cmd.TheVariants.{HLd, UPagein, UPageout, UReturn}
 use Rattle.pef_model.specs.declared.entry.Exit.TheVariants as exit
 use Rattle.pef_model.specs.declared.entry.Answer.{Answer}
 use Rattle.pef_model.specs.declared.entry.Answer.TheVariants.{Val, Ret, Step, Exit, Gone}
 use Rattle.pef_model.specs.Plan.{Plan}
 use Rattle.pef_model.specs.Event.{Event}
-use Rattle.pef_model.specs.Registers.{load_return, load_page_out}
+use Rattle.pef_model.specs.Registers.{load_return, load_page_in, load_page_out}
 use Rattle.pef_model.specs.Target.{touches_cpu}
 use Rattle.pef_model.specs.Cpu.{CpuPart, start_cpu, next_cpu, own_after, own_after_return, own_after_load}
 use Rattle.pef_model.specs.History.{cpu_after}
 use Rattle.pef_model.specs.SearchLaw.{IsCommand}
 use Rattle.pef_model.proofs.Folds.{counts, skips}
 use Rattle.pef_model.proofs.NextValues.{cpu_by, cpu_by_is}
+use Rattle.pef_model.proofs.Called.{length-loaded}
 
 -- what a call loads takes the room of what was there
 length-load_return : (own outs : List ℕ) (r0 r2 : ℕ) → length own ≡ 32 → length outs ≡ 9 → length (load_return own r0 r2 outs) ≡ 32
 length-load_return own outs r0 r2 h k = simp (length-set, length-append, length-take, length-drop) (omega arith)
-
--- likewise of a page-out
-length-load_page_out : (own : List ℕ) (lpid dest gpa flags order : ℕ) → length own ≡ 32 → length (load_page_out own lpid dest gpa flags order) ≡ 32
-length-load_page_out own lpid dest gpa flags order h = simp (length-set, length-append, length-take, length-drop) (omega arith)
 
 -- and so does the code that comes back
 after_call : (loaded : List ℕ) (a : Answer) → length loaded ≡ 32 → length (own_after_return loaded a) ≡ 32
@@ -40,14 +38,10 @@ after_load own a h = h
 -- a command of the hypervisor keeps that there are 32
 after_command : (own : List ℕ) (cmd : Cmd) (a : Answer) → IsCommand cmd → length own ≡ 32 → length (own_after own cmd a) ≡ 32
 after_command own (HLd ra) a k h = after_load own a h
-after_command own (HSt ra value) a k h = h
-after_command own (UPageout lpid dest gpa flags order) a k h = after_call (load_page_out own lpid dest gpa flags order) a (length-load_page_out own lpid dest gpa flags order h)
+after_command own (UPagein lpid src gpa flags order) a k h = after_call (load_page_in own lpid src gpa flags order) a (length-loaded own UV_PAGE_IN lpid src gpa flags order h)
+after_command own (UPageout lpid dest gpa flags order) a k h = after_call (load_page_out own lpid dest gpa flags order) a (length-loaded own UV_PAGE_OUT lpid dest gpa flags order h)
 after_command own (UReturn r0 r2 outs) a k h = after_call (load_return own r0 r2 outs) a (length-load_return own outs r0 r2 h k)
-after_command own (GLi rd value) a k h = h
-after_command own (GLd rd gpa) a k h = h
-after_command own (GSt rs gpa) a k h = h
-after_command own GIrq a k h = h
-after_command own Go a k h = h
+after_command own cmd a k h = h
 
 -- a step keeps it in each context
 after_step : (cpu : CpuPart) (c after : Ctx) (cmd : Cmd) (a : Answer) (bytes : List ℕ) → IsCommand cmd → length cpu.own ≡ 32 → length (cpu_by cpu c after cmd a bytes).own ≡ 32

@@ -1,21 +1,24 @@
 -- In a legal history the calls in progress and the pages on the move are each other's.
-use Rattle.std.proofs.Common.{◌≡◌, ◌∙◌, ℕ, List, [], ◌∷◌, Bool, true, false, refl, ap, sym, subst, Some}
-use Rattle.pef_model.specs.declared.state.Move.{Move}
+use Rattle.std.proofs.Common.{◌≡◌, ◌∙◌, ℕ, List, [], ◌∷◌, Bool, true, false, refl, ap, subst, Some, None, is_some}
+use Rattle.std.specs.Prelude.{option_map}
+use Rattle.pef_model.specs.declared.state.Way.{Way}
 use Rattle.pef_model.specs.declared.state.Way.TheVariants as way
 use Rattle.pef_model.specs.declared.state.Mover.{Mover}
-use Rattle.pef_model.specs.declared.state.Work.TheVariants.{Outward}
+use Rattle.pef_model.specs.declared.state.Work.{Work}
+use Rattle.pef_model.specs.declared.state.Work.TheVariants.{Inward, Outward}
 use Rattle.pef_model.specs.declared.state.Ctx.{Ctx}
 use Rattle.pef_model.specs.declared.state.Ctx.TheVariants as ctx
 use Rattle.pef_model.specs.Plan.{Plan}
 use Rattle.pef_model.specs.Event.{Event}
-use Rattle.pef_model.specs.GuestPart.{Page, GuestPart, start_part_of}
+use Rattle.pef_model.specs.GuestPart.{Page, GuestPart, put, start_part_of, secured, begun_out, ended_out, begun_in, refused_in}
 use Rattle.pef_model.specs.History.{cpu_after, IsLegal}
 use Rattle.pef_model.specs.CountLaw.{part_after}
-use Rattle.pef_model.specs.MoveLaw.{KeepsWhatIsSealed, EachCpuMovesItsPage, EachMoverHasItsCall, EachPageKeepsWhatIsSealed}
+use Rattle.pef_model.specs.MoveLaw.{work_by, KeepsWhatIsSealed, EachCpuMovesItsPage, EachCpuMovesItsPageIn, EachMoverHasItsCall, EachPageKeepsWhatIsSealed}
 use Rattle.pef_model.proofs.Fields.{ctxs, hands, ctxs_after, hands_after, same_ctxs, same_hands, field_after, same_field, kept_field}
-use Rattle.pef_model.proofs.Changes.{Change, Quiet, Begins, Copies, Ends, Drops, Takes, Parked, Gone, Backs}
+use Rattle.pef_model.proofs.Changes.{Change, Quiet, Begins, Copies, Ends, Drops, Comes, Reads, Accepts, Refuses, Takes, Parked, Gone, Backs, KeepsParts, PutsPart}
 use Rattle.pef_model.proofs.ChangeOf.{change}
-use Rattle.pef_model.proofs.Moving.{AreMoved, moved_on, moved_copied, moved_dropped, moved_backed, moved_begun, moved_ended}
+use Rattle.pef_model.proofs.Works.{way_of, move_of}
+use Rattle.pef_model.proofs.Moving.{AreMoved, IsMoving, moved_on, moved_copied, moved_dropped, moved_backed, moved_begun, moved_ended}
 
 -- the pages of the guests
 abbrev pub pages : Plan → List Event → ℕ → ℕ → Page
@@ -36,42 +39,89 @@ abbrev pub AllMoved : Plan → List Event → Type 0
 AllMoved plan past = AreMoved (ctxs plan past) (hands plan past) (pages plan past) (generations plan past)
 
 -- the hypervisor's context has no call in progress
-hv_is_no_call : (c : Ctx) → c ≡ ctx.Hv → (move : Move) → c ≡ ctx.Uv (Outward move) → ⊥
-hv_is_no_call c h move is = cc
+hv_is_no_call : (c : Ctx) → c ≡ ctx.Hv → (work : Work) → c ≡ ctx.Uv work → ⊥
+hv_is_no_call c h work is = cc
 
--- each change keeps it so
-moved_by : (plan : Plan) (past : List Event) (e : Event) → AllMoved plan past → Change plan past (cpu_after plan e.trace.cpu past) e → AllMoved plan (e ∷ past)
-moved_by plan past e all (Quiet x) =
-    carry (same_ctxs plan past e _ _ x.cpu_is) (same_hands plan past e _ _ x.cpu_is) (kept_field plan past e (λ (g : GuestPart). g.pages) x.parts) (kept_field plan past e (λ (g : GuestPart). g.generation) x.parts) all
-moved_by plan past e all (Begins x) =
-    carry (ctxs_after plan past e _ _ _ x.cpu_is) (hands_after plan past e _ _ _ x.cpu_is) (field_after plan past e (λ (g : GuestPart). g.pages) _ _ x.parts) (same_field plan past e (λ (g : GuestPart). g.generation) _ _ x.parts refl)
-    (moved_begun _ _ _ _ e.trace.cpu all x.move e.bytes x.before x.generation x.kind_is x.at_rest)
-moved_by plan past e all (Copies x) =
-    carry (ctxs_after plan past e _ _ _ x.cpu_is) (same_hands plan past e _ _ x.cpu_is) (kept_field plan past e (λ (g : GuestPart). g.pages) x.parts) (kept_field plan past e (λ (g : GuestPart). g.generation) x.parts)
-    (moved_copied _ _ _ _ e.trace.cpu all x.move x.before)
-moved_by plan past e all (Ends x) =
-    carry (ctxs_after plan past e _ _ _ x.cpu_is) (same_hands plan past e _ _ x.cpu_is) (field_after plan past e (λ (g : GuestPart). g.pages) _ _ x.parts) (same_field plan past e (λ (g : GuestPart). g.generation) _ _ x.parts refl)
-    (moved_ended _ _ _ _ e.trace.cpu all x.move x.before x.generation)
-moved_by plan past e all (Drops x) =
-    carry (ctxs_after plan past e _ _ _ x.cpu_is) (same_hands plan past e _ _ x.cpu_is) (kept_field plan past e (λ (g : GuestPart). g.pages) x.parts) (kept_field plan past e (λ (g : GuestPart). g.generation) x.parts)
-    (moved_dropped _ _ _ _ e.trace.cpu all x.move x.before x.generation)
-moved_by plan past e all (Takes x) =
-    carry (ctxs_after plan past e _ _ _ x.cpu_is) (same_hands plan past e _ _ x.cpu_is) (same_field plan past e (λ (g : GuestPart). g.pages) _ _ x.parts refl) (same_field plan past e (λ (g : GuestPart). g.generation) _ _ x.parts refl)
-    (moved_on _ _ _ _ e.trace.cpu all _ (hv_is_no_call _ x.before) (λ move is. cc))
-moved_by plan past e all (Parked x) =
-    carry (ctxs_after plan past e _ _ _ x.cpu_is) (same_hands plan past e _ _ x.cpu_is) (same_field plan past e (λ (g : GuestPart). g.pages) _ _ x.parts refl) (same_field plan past e (λ (g : GuestPart). g.generation) _ _ x.parts refl)
-    (moved_on _ _ _ _ e.trace.cpu all ctx.Hv (λ move is. let before = x.before in cc) (hv_is_no_call ctx.Hv refl))
-moved_by plan past e all (Gone x) =
-    carry (ctxs_after plan past e _ _ _ x.cpu_is) (same_hands plan past e _ _ x.cpu_is) (kept_field plan past e (λ (g : GuestPart). g.pages) x.parts) (kept_field plan past e (λ (g : GuestPart). g.generation) x.parts)
-    (moved_on _ _ _ _ e.trace.cpu all ctx.Hv (λ move is. let before = x.before in cc) (hv_is_no_call ctx.Hv refl))
-moved_by plan past e all (Backs x) =
-    carry (same_ctxs plan past e _ _ x.cpu_is) (same_hands plan past e _ _ x.cpu_is) (field_after plan past e (λ (g : GuestPart). g.pages) _ _ x.parts) (same_field plan past e (λ (g : GuestPart). g.generation) _ _ x.parts refl)
-    (moved_backed _ _ _ _ e.trace.cpu all x.run.lpid x.gfn x.invalid x.at_rest)
+-- a page without sealed and pending bytes keeps what is sealed where it is Secure at rest
+keeps_secured : (page : Page) → KeepsWhatIsSealed (secured page)
+keeps_secured page = record { sealed = ((λ k. cc), (λ k. cc)); pending = ((λ k. cc), (λ k. cc)) }
+
+-- one that begins to move outward has what is pending
+keeps_begun_out : (page : Page) (n : ℕ) (bytes : List ℕ) → KeepsWhatIsSealed page → KeepsWhatIsSealed (begun_out page n bytes)
+keeps_begun_out page n bytes old = record { sealed = old.sealed; pending = ((λ k. refl), (λ k. refl)) }
+
+-- and it is what is sealed once it has moved
+keeps_ended_out : (page : Page) (n : ℕ) (hand : List ℕ) → IsMoving way.Outward page hand n → KeepsWhatIsSealed (ended_out page)
+keeps_ended_out page n hand moving = record { sealed = ((λ k. refl), (λ k. ap is_some moving.pending)); pending = ((λ k. cc), (λ k. cc)) }
+
+-- nothing is pending of a page that moves inward
+keeps_begun_in : (page : Page) (n : ℕ) → page.mover ≡ None → KeepsWhatIsSealed page → KeepsWhatIsSealed (begun_in page n)
+keeps_begun_in page n rests old =
+    record { sealed = old.sealed; pending = ((λ k. let none = old.pending.0 k in let rest = ap (option_map (λ (x : Mover). x.way)) rests in cc), (λ k. cc)) }
+
+-- a page that is refused
+keeps_refused : (page : Page) (n : ℕ) (hand : List ℕ) → IsMoving way.Inward page hand n → KeepsWhatIsSealed page → KeepsWhatIsSealed (refused_in page)
+keeps_refused page n hand moving old =
+    record { sealed = old.sealed; pending = ((λ k. let none = old.pending.0 k in let inward = ap (option_map (λ (x : Mover). x.way)) moving.mover in cc), (λ k. cc)) }
+
+module _ (plan : Plan) (past : List Event) (e : Event) (all : AllMoved plan past) where
+  -- where no part changes
+  no_parts : {c : ℕ → Ctx} {h : ℕ → List ℕ} → c ≡ ctxs plan (e ∷ past) → h ≡ hands plan (e ∷ past) → KeepsParts plan past e → AreMoved c h (pages plan past) (generations plan past) → AllMoved plan (e ∷ past)
+  no_parts one two parts = carry one two (kept_field plan past e (λ (g : GuestPart). g.pages) parts) (kept_field plan past e (λ (g : GuestPart). g.generation) parts)
+
+  -- where one part changes, and no page
+  no_pages : {c : ℕ → Ctx} {h : ℕ → List ℕ} (l : ℕ) (new : GuestPart) → c ≡ ctxs plan (e ∷ past) → h ≡ hands plan (e ∷ past) → PutsPart plan past e l new → new.pages ≡ pages plan past l →
+      new.generation ≡ generations plan past l → AreMoved c h (pages plan past) (generations plan past) → AllMoved plan (e ∷ past)
+  no_pages l new one two parts three four = carry one two (same_field plan past e (λ (g : GuestPart). g.pages) l new parts three) (same_field plan past e (λ (g : GuestPart). g.generation) l new parts four)
+
+  -- where one page changes
+  one_page : {c : ℕ → Ctx} {h : ℕ → List ℕ} (l : ℕ) (new : GuestPart) → c ≡ ctxs plan (e ∷ past) → h ≡ hands plan (e ∷ past) → PutsPart plan past e l new →
+      new.generation ≡ generations plan past l → AreMoved c h (put (pages plan past) l new.pages) (generations plan past) → AllMoved plan (e ∷ past)
+  one_page l new one two parts four = carry one two (field_after plan past e (λ (g : GuestPart). g.pages) l new parts) (same_field plan past e (λ (g : GuestPart). g.generation) l new parts four)
+
+  abbrev m : ℕ
+  m = e.trace.cpu
+
+  -- each change keeps it so
+  moved_by : Change plan past (cpu_after plan m past) e → AllMoved plan (e ∷ past)
+  moved_by (Quiet x) = no_parts (same_ctxs plan past e _ _ x.cpu_is) (same_hands plan past e _ _ x.cpu_is) x.parts all
+  moved_by (Begins x) =
+      one_page _ _ (ctxs_after plan past e _ _ _ x.cpu_is) (hands_after plan past e _ _ _ x.cpu_is) x.parts refl
+      (moved_begun _ _ _ _ m all (Outward x.move) e.bytes (begun_out (pages plan past x.move.lpid x.move.gfn) m e.bytes) x.before x.generation x.at_rest
+      (record { kind_is = x.kind_is; mover = refl; pending = refl }) (keeps_begun_out _ m e.bytes (all.keeps x.move.lpid x.move.gfn)))
+  moved_by (Copies x) = no_parts (ctxs_after plan past e _ _ _ x.cpu_is) (hands_after plan past e _ _ _ x.cpu_is) x.parts (moved_copied _ _ _ _ m all (Outward x.move) _ x.before (λ out. refl))
+  moved_by (Ends x) =
+      one_page _ _ (ctxs_after plan past e _ _ _ x.cpu_is) (same_hands plan past e _ _ x.cpu_is) x.parts refl
+      (moved_ended _ _ _ _ m all (Outward x.move) (ended_out (pages plan past x.move.lpid x.move.gfn)) x.before x.generation refl
+      (keeps_ended_out _ m _ (all.moves m (Outward x.move) x.before x.generation)))
+  moved_by (Drops x) = no_parts (ctxs_after plan past e _ _ _ x.cpu_is) (same_hands plan past e _ _ x.cpu_is) x.parts (moved_dropped _ _ _ _ m all x.work x.before x.generation)
+  moved_by (Comes x) =
+      one_page _ _ (ctxs_after plan past e _ _ _ x.cpu_is) (hands_after plan past e _ _ _ x.cpu_is) x.parts refl
+      (moved_begun _ _ _ _ m all (Inward x.move) _ (begun_in (pages plan past x.move.lpid x.move.gfn) m) x.before x.generation x.at_rest
+      (record { kind_is = x.kind_is; mover = refl; pending = tt }) (keeps_begun_in _ m x.at_rest (all.keeps x.move.lpid x.move.gfn)))
+  moved_by (Reads x) = no_parts (ctxs_after plan past e _ _ _ x.cpu_is) (hands_after plan past e _ _ _ x.cpu_is) x.parts (moved_copied _ _ _ _ m all (Inward x.move) _ x.before (λ out. cc))
+  moved_by (Accepts x) =
+      one_page _ _ (ctxs_after plan past e _ _ _ x.cpu_is) (same_hands plan past e _ _ x.cpu_is) x.parts refl
+      (moved_ended _ _ _ _ m all (Inward x.move) (secured (pages plan past x.move.lpid x.move.gfn)) x.before x.generation refl (keeps_secured (pages plan past x.move.lpid x.move.gfn)))
+  moved_by (Refuses x) =
+      one_page _ _ (ctxs_after plan past e _ _ _ x.cpu_is) (same_hands plan past e _ _ x.cpu_is) x.parts refl
+      (moved_ended _ _ _ _ m all (Inward x.move) (refused_in (pages plan past x.move.lpid x.move.gfn)) x.before x.generation refl
+      (keeps_refused _ m _ (all.moves m (Inward x.move) x.before x.generation) (all.keeps x.move.lpid x.move.gfn)))
+  moved_by (Takes x) =
+      no_pages _ _ (ctxs_after plan past e _ _ _ x.cpu_is) (same_hands plan past e _ _ x.cpu_is) x.parts refl refl (moved_on _ _ _ _ m all _ (hv_is_no_call _ x.before) (λ work is. cc))
+  moved_by (Parked x) =
+      no_pages _ _ (ctxs_after plan past e _ _ _ x.cpu_is) (same_hands plan past e _ _ x.cpu_is) x.parts refl refl
+      (moved_on _ _ _ _ m all ctx.Hv (λ work is. let before = x.before in cc) (hv_is_no_call ctx.Hv refl))
+  moved_by (Gone x) =
+      no_parts (ctxs_after plan past e _ _ _ x.cpu_is) (same_hands plan past e _ _ x.cpu_is) x.parts (moved_on _ _ _ _ m all ctx.Hv (λ work is. let before = x.before in cc) (hv_is_no_call ctx.Hv refl))
+  moved_by (Backs x) =
+      one_page _ _ (same_ctxs plan past e _ _ x.cpu_is) (same_hands plan past e _ _ x.cpu_is) x.parts refl
+      (moved_backed _ _ _ _ m all x.run.lpid x.gfn (secured (pages plan past x.run.lpid x.gfn)) x.at_rest refl (keeps_secured (pages plan past x.run.lpid x.gfn)))
 
 -- so it is after a legal history
 pub all_moved : (plan : Plan) (past : List Event) → IsLegal plan past → AllMoved plan past
 all_moved plan [] legal = record {
-  moves = λ n move is same. cc;
+  moves = λ n work is same. cc;
   moved = λ lpid gfn mover is. absurd (none_moves (plan.is_born lpid) gfn mover is);
   keeps = λ lpid gfn. none_is_sealed (plan.is_born lpid) gfn;
 } where
@@ -80,28 +130,44 @@ all_moved plan [] legal = record {
   none_moves false gfn mover is = cc
 
   none_is_sealed : (b : Bool) (gfn : ℕ) → KeepsWhatIsSealed ((start_part_of b).pages gfn)
-  none_is_sealed true gfn = record { sealed = ((λ k. cc), (λ k. cc)); pending = ((λ k. k), (λ k. k)) }
-  none_is_sealed false gfn = record { sealed = ((λ k. cc), (λ k. cc)); pending = ((λ k. k), (λ k. k)) }
+  none_is_sealed true gfn = record { sealed = ((λ k. cc), (λ k. cc)); pending = ((λ k. cc), (λ k. cc)) }
+  none_is_sealed false gfn = record { sealed = ((λ k. cc), (λ k. cc)); pending = ((λ k. cc), (λ k. cc)) }
 all_moved plan (e ∷ past) legal = moved_by plan past e (all_moved plan past legal.1) (change plan past e legal.0)
 
--- a call in progress moves the page that it names
+-- a page-out in progress moves the page that it names
 pub each_cpu_moves_its_page : EachCpuMovesItsPage
 each_cpu_moves_its_page plan past n move legal is same =
     let all = all_moved plan past legal in
-    let moving = all.moves n move is same in
+    let moving = all.moves n (Outward move) is same in
     record { kind = moving.kind_is; mover = moving.mover; pending = moving.pending }
+
+-- and so does a page-in
+pub each_cpu_moves_its_page_in : EachCpuMovesItsPageIn
+each_cpu_moves_its_page_in plan past n move legal is same =
+    let all = all_moved plan past legal in
+    let moving = all.moves n (Inward move) is same in
+    record { kind = moving.kind_is; mover = moving.mover }
+
+-- a call in progress is that of its way and its move
+work_is : (work : Work) (way : Way) → way_of work ≡ way → work ≡ work_by way (move_of work)
+work_is (Inward move) way.Inward is = refl
+work_is (Inward move) way.Outward is = cc
+work_is (Outward move) way.Inward is = cc
+work_is (Outward move) way.Outward is = refl
 
 -- a page that moves is named by a call in progress
 pub each_mover_has_its_call : EachMoverHasItsCall
 each_mover_has_its_call plan past lpid gfn mover legal is =
     let all = all_moved plan past legal in
     let call = all.moved lpid gfn mover is in
-    let moving = all.moves mover.cpu call.move call.ctx_is (call.generation_is ∙ ap (generations plan past) (sym call.lpid_is)) in
-    let moves_so : Some mover ≡ Some (record { cpu = mover.cpu; way = way.Outward }) =
-    sym is ∙ ap (λ (x : ℕ). (pages plan past x gfn).mover) (sym call.lpid_is) ∙ ap (λ (x : ℕ). (pages plan past call.move.lpid x).mover) (sym call.gfn_is) ∙ moving.mover in
-    let way_is : mover.way ≡ way.Outward = cc in
-    record { move = call.move; ctx_is = call.ctx_is; lpid_is = call.lpid_is; gfn_is = call.gfn_is; generation = call.generation_is; way_is = way_is }
+    record {
+      move = move_of call.work;
+      ctx_is = call.ctx_is ∙ ap ctx.Uv (work_is call.work mover.way call.way_is);
+      lpid_is = call.lpid_is;
+      gfn_is = call.gfn_is;
+      generation = call.generation_is;
+    }
 
--- a page has sealed bytes where it is Out, and pending ones where it moves
+-- a page has sealed bytes where it is Out, and pending ones where it moves outward
 pub each_page_keeps_what_is_sealed : EachPageKeepsWhatIsSealed
 each_page_keeps_what_is_sealed plan past lpid gfn legal = let all = all_moved plan past legal in all.keeps lpid gfn

@@ -4,19 +4,19 @@ use Rattle.pef_model.specs.declared.state.Phase.TheVariants.{Secure}
 use Rattle.pef_model.specs.declared.state.Pending.{Pending}
 use Rattle.pef_model.specs.declared.state.Pending.TheVariants as pending
 use Rattle.pef_model.specs.declared.state.Work.{Work}
-use Rattle.pef_model.specs.declared.state.Work.TheVariants.{Outward}
+use Rattle.pef_model.specs.declared.state.Work.TheVariants.{Inward, Outward}
 use Rattle.pef_model.specs.declared.state.Ctx.{Ctx}
 use Rattle.pef_model.specs.declared.state.Ctx.TheVariants as ctx
-use Rattle.pef_model.specs.declared.command.Code.TheVariants.{USuccess}
+use Rattle.pef_model.specs.declared.command.Code.TheVariants.{USuccess, UP2}
 use Rattle.pef_model.specs.declared.command.Cmd.{Cmd}
-use Rattle.pef_model.specs.declared.command.Cmd.TheVariants.{HLd, HSt, UPageout, UReturn, GLi, GLd, GSt, GIrq, Go}
+use Rattle.pef_model.specs.declared.command.Cmd.TheVariants.{UPagein, UPageout, UReturn, GLd, GSt, GIrq}
 use Rattle.pef_model.specs.declared.entry.Exit.TheVariants as exit
 use Rattle.pef_model.specs.declared.entry.Answer.{Answer}
 use Rattle.pef_model.specs.declared.entry.Answer.TheVariants.{Done, Val, Ret, Step, Enter, Exit}
 use Rattle.pef_model.specs.Plan.{Plan}
 use Rattle.pef_model.specs.Event.{Event}
 use Rattle.pef_model.specs.Target.{touches_guest}
-use Rattle.pef_model.specs.GuestPart.{GuestPart, start_part, start_part_of, page_of, is_invalid, with_secure_page, with_running_vcpu, with_parked_vcpu, with_page_leaving, with_page_out, part_after_page_out, part_after_return, part_after_access, part_after_interrupt, part_after_hypervisor, part_after_work, part_after_guest, part_after_in}
+use Rattle.pef_model.specs.GuestPart.{GuestPart, start_part, start_part_of, page_of, is_invalid, with_secure_page, with_running_vcpu, with_parked_vcpu, with_page_leaving, with_page_out, with_page_coming, with_page_refused, part_after_page_in, part_after_page_out, part_after_return, part_after_access, part_after_interrupt, part_after_hypervisor, part_after_work, part_after_guest, part_after_in}
 use Rattle.pef_model.specs.Guest.{Guest, next_guest}
 use Rattle.pef_model.specs.Deed.{may_return_in}
 use Rattle.pef_model.specs.History.{guest_after}
@@ -29,24 +29,30 @@ pub record IsKept (P : GuestPart → Type 0) (g : GuestPart) : Type 0 where
   pub parked : (vid : ℕ) (pending : Pending) → P (with_parked_vcpu g vid pending)
   pub leaving : (gfn cpu : ℕ) (bytes : List ℕ) → P (with_page_leaving g gfn cpu bytes)
   pub out : (gfn : ℕ) → P (with_page_out g gfn)
-  pub backed : (gfn : ℕ) → is_invalid (g.pages gfn) ≡ true → P (with_secure_page g gfn)
+  pub coming : (gfn cpu : ℕ) → P (with_page_coming g gfn cpu)
+  pub refused : (gfn : ℕ) → P (with_page_refused g gfn)
+  pub secure : (gfn : ℕ) → P (with_secure_page g gfn)
 
 module _ (P : GuestPart → Type 0) (plan : Plan) (g : GuestPart) (k : IsKept P g) where
   by_page_out : (gfn cpu : ℕ) (a : Answer) (bytes : List ℕ) → P (part_after_page_out g gfn cpu a bytes)
   by_page_out gfn cpu Step bytes = k.leaving gfn cpu bytes
   by_page_out gfn cpu a bytes = k.same
 
+  by_page_in : (gfn cpu : ℕ) (a : Answer) → P (part_after_page_in g gfn cpu a)
+  by_page_in gfn cpu Step = k.coming gfn cpu
+  by_page_in gfn cpu a = k.same
+
   by_return : (vid cpu : ℕ) (a : Answer) → P (part_after_return g vid cpu a)
   by_return vid cpu Enter = k.running vid cpu
   by_return vid cpu a = k.same
 
-  by_backing : (gfn : ℕ) (b : Bool) → is_invalid (g.pages gfn) ≡ b → P (if b then with_secure_page g gfn else g)
-  by_backing gfn true invalid = k.backed gfn invalid
-  by_backing gfn false invalid = k.same
+  by_backing : (gfn : ℕ) (b : Bool) → P (if b then with_secure_page g gfn else g)
+  by_backing gfn true = k.secure gfn
+  by_backing gfn false = k.same
 
   by_access : (gfn : ℕ) (a : Answer) → P (part_after_access g gfn a)
-  by_access gfn Done = by_backing gfn (is_invalid (g.pages gfn)) refl
-  by_access gfn (Val value) = by_backing gfn (is_invalid (g.pages gfn)) refl
+  by_access gfn Done = by_backing gfn (is_invalid (g.pages gfn))
+  by_access gfn (Val value) = by_backing gfn (is_invalid (g.pages gfn))
   by_access gfn a = k.same
 
   by_interrupt : (vid : ℕ) (a : Answer) → P (part_after_interrupt g vid a)
@@ -54,30 +60,23 @@ module _ (P : GuestPart → Type 0) (plan : Plan) (g : GuestPart) (k : IsKept P 
   by_interrupt vid a = k.same
 
   by_hypervisor : (cmd : Cmd) (e : Event) → P (part_after_hypervisor plan g cmd e)
-  by_hypervisor (HLd ra) e = k.same
-  by_hypervisor (HSt ra value) e = k.same
+  by_hypervisor (UPagein lpid src gpa flags order) e = by_page_in (page_of plan gpa) e.trace.cpu e.trace.answer
   by_hypervisor (UPageout lpid dest gpa flags order) e = by_page_out (page_of plan gpa) e.trace.cpu e.trace.answer e.bytes
   by_hypervisor (UReturn r0 r2 outs) e = by_return e.saw.vid e.trace.cpu e.trace.answer
-  by_hypervisor (GLi rd value) e = k.same
-  by_hypervisor (GLd rd gpa) e = k.same
-  by_hypervisor (GSt rs gpa) e = k.same
-  by_hypervisor GIrq e = k.same
-  by_hypervisor Go e = k.same
+  by_hypervisor cmd e = k.same
 
   by_work : (work : Work) (a : Answer) → P (part_after_work g work a)
+  by_work (Inward move) (Ret USuccess) = k.secure move.gfn
+  by_work (Inward move) (Ret UP2) = k.refused move.gfn
+  by_work (Inward move) a = k.same
   by_work (Outward move) (Ret USuccess) = k.out move.gfn
   by_work (Outward move) a = k.same
 
   by_guest : (vid : ℕ) (cmd : Cmd) (a : Answer) → P (part_after_guest plan g vid cmd a)
-  by_guest vid (HLd ra) a = k.same
-  by_guest vid (HSt ra value) a = k.same
-  by_guest vid (UPageout lpid dest gpa flags order) a = k.same
-  by_guest vid (UReturn r0 r2 outs) a = k.same
-  by_guest vid (GLi rd value) a = k.same
   by_guest vid (GLd rd gpa) a = by_access (page_of plan gpa) a
   by_guest vid (GSt rs gpa) a = by_access (page_of plan gpa) a
   by_guest vid GIrq a = by_interrupt vid a
-  by_guest vid Go a = k.same
+  by_guest vid cmd a = k.same
 
   by_ctx : (c : Ctx) (e : Event) → P (part_after_in c plan g e)
   by_ctx ctx.Hv e = by_hypervisor e.trace.cmd e
@@ -107,7 +106,9 @@ life_stays plan past e lpid = holds_after (KeepsLife (part_after plan past lpid)
   parked = λ vid pending. record { phase = refl; generation = refl };
   leaving = λ gfn cpu bytes. record { phase = refl; generation = refl };
   out = λ gfn. record { phase = refl; generation = refl };
-  backed = λ gfn invalid. record { phase = refl; generation = refl };
+  coming = λ gfn cpu. record { phase = refl; generation = refl };
+  refused = λ gfn. record { phase = refl; generation = refl };
+  secure = λ gfn. record { phase = refl; generation = refl };
 })
 
 -- so the phase is that of the start

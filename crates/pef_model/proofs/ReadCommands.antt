@@ -10,8 +10,8 @@ use Rattle.std.proofs.lemmas.Option.{cond_some, same_Some}
 use Rattle.pef_model.specs.declared.command.Directive.{Directive}
 use Rattle.pef_model.specs.declared.command.Directive.TheVariants.{Once, GoAll}
 use Rattle.pef_model.specs.declared.command.Cmd.{Cmd}
-use Rattle.pef_model.specs.declared.command.Cmd.TheVariants.{HLd, HSt, UPageout, UReturn, GLi, GLd, GSt, GIrq, Go}
-use Rattle.pef_model.specs.Script.{Line, load_of, store_of, return_of, guest_command_of, page_out_of, bare_directive_of, short_command_of, command_of, long_command_of, directive_in, numbered_line, line_in, before_lines, command_lines}
+use Rattle.pef_model.specs.declared.command.Cmd.TheVariants.{HLd, HSt, UPagein, UPageout, UReturn, GLi, GLd, GSt, GIrq, Go}
+use Rattle.pef_model.specs.Script.{Line, load_of, store_of, return_of, guest_command_of, page_out_of, page_in_of, bare_directive_of, short_command_of, command_of, long_command_of, directive_in, numbered_line, line_in, before_lines, command_lines}
 use Rattle.pef_model.specs.ScriptText.{CanBeWritten, DirectiveCanBeWritten, CountsFrom}
 use Rattle.pef_model.specs.Words.{words_of, numeral_in, number_in, number_below, register_at, register_in}
 
@@ -96,16 +96,19 @@ guest_written make (Some i) (Some m) written first second cmd e =
     let same : make i m ≡ cmd = cc in
     subst CanBeWritten same (written i m (first i refl) (second m refl))
 
+page_in_written : (lpid src gpa flags order : Option ℕ) → AllBelow (2 ^ 64) lpid → AllBelow (2 ^ 64) src → AllBelow (2 ^ 64) gpa → AllBelow (2 ^ 64) flags → AllBelow (2 ^ 64) order →
+    AllWritten (page_in_of lpid src gpa flags order)
+page_in_written (Some l) (Some s) (Some g) (Some f) (Some o) h1 h2 h3 h4 h5 cmd e =
+    let same : UPagein l s g f o ≡ cmd = cc in
+    subst CanBeWritten same (h1 l refl, h2 s refl, h3 g refl, h4 f refl, h5 o refl)
+page_in_written lpid src gpa flags order h1 h2 h3 h4 h5 cmd e = absurd (cc)
+
 page_out_written : (lpid dest gpa flags order : Option ℕ) → AllBelow (2 ^ 64) lpid → AllBelow (2 ^ 64) dest → AllBelow (2 ^ 64) gpa → AllBelow (2 ^ 64) flags → AllBelow (2 ^ 64) order →
     AllWritten (page_out_of lpid dest gpa flags order)
-page_out_written None dest gpa flags order h1 h2 h3 h4 h5 cmd e = absurd (cc)
-page_out_written (Some l) None gpa flags order h1 h2 h3 h4 h5 cmd e = absurd (cc)
-page_out_written (Some l) (Some d) None flags order h1 h2 h3 h4 h5 cmd e = absurd (cc)
-page_out_written (Some l) (Some d) (Some g) None order h1 h2 h3 h4 h5 cmd e = absurd (cc)
-page_out_written (Some l) (Some d) (Some g) (Some f) None h1 h2 h3 h4 h5 cmd e = absurd (cc)
 page_out_written (Some l) (Some d) (Some g) (Some f) (Some o) h1 h2 h3 h4 h5 cmd e =
     let same : UPageout l d g f o ≡ cmd = cc in
     subst CanBeWritten same (h1 l refl, h2 d refl, h3 g refl, h4 f refl, h5 o refl)
+page_out_written lpid dest gpa flags order h1 h2 h3 h4 h5 cmd e = absurd (cc)
 
 short_command_of_written : (name operand : List ℕ) → AllWritten (short_command_of name operand)
 short_command_of_written name operand = either_written (bytes_eq name (codes "h.ld")) _ None (load_written (number_in operand) (number_fits operand)) none_written
@@ -118,11 +121,14 @@ command_of_written name first second =
     (either_written (bytes_eq name (codes "g.ld")) _ _ (guest_written GLd (register_in first) (number_in second) (λ i m r n. (r, n)) (register_below first) (number_fits second))
     (either_written (bytes_eq name (codes "g.st")) _ None (guest_written GSt (register_in first) (number_in second) (λ i m r n. (r, n)) (register_below first) (number_fits second)) none_written))))
 
-long_command_of_written : (name lpid dest gpa flags order : List ℕ) → AllWritten (long_command_of name lpid dest gpa flags order)
-long_command_of_written name lpid dest gpa flags order =
-    either_written (bytes_eq name (codes "u.pageout")) _ None
-    (page_out_written (number_in lpid) (number_in dest) (number_in gpa) (number_in flags) (number_in order)
-    (number_fits lpid) (number_fits dest) (number_fits gpa) (number_fits flags) (number_fits order)) none_written
+long_command_of_written : (name lpid ra gpa flags order : List ℕ) → AllWritten (long_command_of name lpid ra gpa flags order)
+long_command_of_written name lpid ra gpa flags order =
+    either_written (bytes_eq name (codes "u.pagein")) _ _
+    (page_in_written (number_in lpid) (number_in ra) (number_in gpa) (number_in flags) (number_in order)
+    (number_fits lpid) (number_fits ra) (number_fits gpa) (number_fits flags) (number_fits order))
+    (either_written (bytes_eq name (codes "u.pageout")) _ None
+    (page_out_written (number_in lpid) (number_in ra) (number_in gpa) (number_in flags) (number_in order)
+    (number_fits lpid) (number_fits ra) (number_fits gpa) (number_fits flags) (number_fits order)) none_written)
 
 -- a directive can be written if there is one
 abbrev AllDirected : Option Directive → Type 0
@@ -155,7 +161,7 @@ directive_in_written (name ∷ operand ∷ []) = once_directed _ (short_command_
 directive_in_written (name ∷ first ∷ second ∷ []) = once_directed _ (command_of_written name first second)
 directive_in_written (a ∷ b ∷ c ∷ d ∷ []) = none_directed
 directive_in_written (a ∷ b ∷ c ∷ d ∷ e ∷ []) = none_directed
-directive_in_written (name ∷ lpid ∷ dest ∷ gpa ∷ flags ∷ order ∷ []) = once_directed _ (long_command_of_written name lpid dest gpa flags order)
+directive_in_written (name ∷ lpid ∷ ra ∷ gpa ∷ flags ∷ order ∷ []) = once_directed _ (long_command_of_written name lpid ra gpa flags order)
 directive_in_written (a ∷ b ∷ c ∷ d ∷ e ∷ f ∷ g ∷ more) = none_directed
 
 below_limit : (limit n : ℕ) (found : Option ℕ) → option_and_then (λ m. if nat_lt m limit then Some m else None) found ≡ Some n → n < limit

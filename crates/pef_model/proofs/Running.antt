@@ -7,7 +7,7 @@ use Rattle.pef_model.specs.declared.state.VState.{VState}
 use Rattle.pef_model.specs.declared.state.VState.TheVariants as vstate
 use Rattle.pef_model.specs.declared.state.Run.{Run}
 use Rattle.pef_model.specs.declared.state.Move.{Move}
-use Rattle.pef_model.specs.declared.state.Work.TheVariants.{Outward}
+use Rattle.pef_model.specs.declared.state.Work.TheVariants.{Inward, Outward}
 use Rattle.pef_model.specs.declared.state.Ctx.{Ctx}
 use Rattle.pef_model.specs.declared.state.Ctx.TheVariants as ctx
 use Rattle.pef_model.specs.Plan.{Plan}
@@ -19,7 +19,7 @@ use Rattle.pef_model.specs.History.{cpu_after, IsLegal}
 use Rattle.pef_model.specs.CountLaw.{part_after, EachCpuRunsItsVcpu, NoVcpuRunsTwice}
 use Rattle.pef_model.proofs.Puts.{put-here, put-other, put_in, IsElsewhere, put_in-here, put_in-elsewhere}
 use Rattle.pef_model.proofs.Parts.{secure_where_allowed}
-use Rattle.pef_model.proofs.Changes.{Change, Quiet, Begins, Copies, Ends, Drops, Takes, Parked, Gone, Backs, KeepsParts, PutsPart}
+use Rattle.pef_model.proofs.Changes.{Change, Quiet, Begins, Copies, Ends, Drops, Comes, Reads, Accepts, Refuses, Takes, Parked, Gone, Backs, KeepsParts, PutsPart}
 use Rattle.pef_model.proofs.ChangeOf.{change}
 use Rattle.pef_model.proofs.Fields.{ctxs, of_each, ctxs_after, same_ctxs, field_after, same_field, kept_field}
 
@@ -146,6 +146,15 @@ run_by plan past e all (Copies x) =
 run_by plan past e all (Ends x) =
     keeps_vcpus plan past e _ _ x.parts refl refl refl (carry (ctxs_after plan past e _ _ _ x.cpu_is) refl refl refl (run_on _ _ _ _ e.trace.cpu all ctx.Hv (λ run is. cc)))
 run_by plan past e all (Drops x) = keeps_guests plan past e x.parts (carry (ctxs_after plan past e _ _ _ x.cpu_is) refl refl refl (run_on _ _ _ _ e.trace.cpu all ctx.Hv (λ run is. cc)))
+run_by plan past e all (Comes x) =
+    keeps_vcpus plan past e _ _ x.parts refl refl refl (carry (ctxs_after plan past e _ _ _ x.cpu_is) refl refl refl (run_on _ _ _ _ e.trace.cpu all (ctx.Uv (Inward x.move)) (λ run is. cc)))
+run_by plan past e all (Reads x) =
+    keeps_guests plan past e x.parts
+    (carry (ctxs_after plan past e _ _ _ x.cpu_is) refl refl refl (run_on _ _ _ _ e.trace.cpu all (let copied : Move = record x.move { copied = true } in ctx.Uv (Inward copied)) (λ run is. cc)))
+run_by plan past e all (Accepts x) =
+    keeps_vcpus plan past e _ _ x.parts refl refl refl (carry (ctxs_after plan past e _ _ _ x.cpu_is) refl refl refl (run_on _ _ _ _ e.trace.cpu all ctx.Hv (λ run is. cc)))
+run_by plan past e all (Refuses x) =
+    keeps_vcpus plan past e _ _ x.parts refl refl refl (carry (ctxs_after plan past e _ _ _ x.cpu_is) refl refl refl (run_on _ _ _ _ e.trace.cpu all ctx.Hv (λ run is. cc)))
 run_by plan past e all (Takes x) =
     let cpu : CpuPart = cpu_after plan e.trace.cpu past in
     puts_vcpu plan past e _ _ x.parts refl refl

@@ -1,5 +1,7 @@
 -- What an entry makes of the public state doesn't depend on what a guest alone knows.
 use Rattle.std.proofs.Common.{◌≡◌, ℕ, Bool, true, false, List, [], ◌∷◌, map, refl, ap, sym, ◌∙◌}
+use Rattle.pef_model.specs.declared.state.Work.{Work}
+use Rattle.pef_model.specs.declared.state.Work.TheVariants.{Inward, Outward}
 use Rattle.pef_model.specs.declared.state.Ctx.{Ctx}
 use Rattle.pef_model.specs.declared.state.Ctx.TheVariants as ctx
 use Rattle.pef_model.specs.declared.command.Cmd.{Cmd}
@@ -76,15 +78,16 @@ written_open : (plan : Plan) (bytes : List ℕ) (cmd : Cmd) (a : Answer) → wri
 written_open plan bytes (GLi rd value) a = refl
 written_open plan bytes cmd a = refl
 
-copied_open : (bytes : List ℕ) (cmd : Cmd) (a : Answer) (hand : List ℕ) → copied bytes cmd a hand ≡ copied bytes (open_cmd cmd) a hand
-copied_open bytes (GLi rd value) a hand = refl
-copied_open bytes cmd a hand = refl
+copied_open : (work : Work) (bytes : List ℕ) (cmd : Cmd) (a : Answer) (hand : List ℕ) → copied work bytes cmd a hand ≡ copied work bytes (open_cmd cmd) a hand
+copied_open (Inward move) bytes cmd a hand = refl
+copied_open (Outward move) bytes (GLi rd value) a hand = refl
+copied_open (Outward move) bytes cmd a hand = refl
 
 frame_open : (plan : Plan) (bytes : List ℕ) (e : Event) → next_frame plan bytes e ≡ next_frame plan bytes (open_entry e)
 frame_open plan bytes e = by_ctx e.saw.before where
   by_ctx : (c : Ctx) → written_in c plan bytes e.trace.cmd e.trace.answer e.bytes ≡ written_in c plan bytes (open_cmd e.trace.cmd) (open_answer c e.trace.answer) e.bytes
   by_ctx ctx.Hv = written_open plan bytes e.trace.cmd e.trace.answer
-  by_ctx (ctx.Uv work) = copied_open bytes e.trace.cmd e.trace.answer e.bytes
+  by_ctx (ctx.Uv work) = copied_open work bytes e.trace.cmd e.trace.answer e.bytes
   by_ctx (ctx.Guest run) = refl
 
 pub no_secret_in_one_entry : NoSecretInOneEntry

@@ -4,7 +4,7 @@ use Rattle.std.specs.Prelude.{unwrap_or}
 use Rattle.pef_model.specs.declared.state.Ctx.{Ctx}
 use Rattle.pef_model.specs.declared.state.Ctx.TheVariants as ctx
 use Rattle.pef_model.specs.declared.command.Cmd.{Cmd}
-use Rattle.pef_model.specs.declared.command.Cmd.TheVariants.{HLd, HSt, UPageout, UReturn, GLi, GLd, GSt, GIrq, Go}
+use Rattle.pef_model.specs.declared.command.Cmd.TheVariants.{HLd, HSt, GLd, GSt, Go}
 use Rattle.pef_model.specs.declared.entry.Answer.{Answer}
 use Rattle.pef_model.specs.declared.entry.Answer.TheVariants.{Done, Val}
 use Rattle.pef_model.specs.Plan.{Plan}
@@ -66,16 +66,11 @@ decided_alike plan past lpid gpa l (ctx.Guest run) cmd a = by_command cmd a wher
       (if is_guest lpid (target_of_running run.lpid cmd) then stored_by_command plan g run.vid cmd a gpa else None) ≡ (if here then access_decides plan lpid gpa past run.vid cmd a else None)
   by_command (HLd ra) a = nothing here
   by_command (HSt ra value) a = nothing here
-  by_command (UPageout named dest at flags order) a = refl
-  by_command (UReturn r0 r2 outs) a = refl
-  by_command (GLi rd value) a = refl
   by_command (GLd rd at) (Val value) = ap (λ (o : Option ℕ). if here then o else None) (backs_alike plan past lpid at gpa)
-  by_command (GLd rd at) a = refl
   by_command (GSt rs at) Done =
       ap (λ (o : Option ℕ). if here then (if at == gpa then Some (reg plan past lpid run.vid rs) else o) else None) (backs_alike plan past lpid at gpa)
-  by_command (GSt rs at) a = refl
-  by_command GIrq a = refl
   by_command Go a = nothing here
+  by_command cmd a = refl
 
 -- the content of a page is what the newest entry says that decided it
 content_newest : (plan : Plan) (lpid gpa : ℕ) (past : List Event) → (guest_after plan lpid past).content gpa ≡ newest (decides_doubleword plan lpid gpa) 0 past
@@ -125,19 +120,11 @@ zero_by_entry plan g lpid gpa l ctx.Hv cmd a touched other = refl
 zero_by_entry plan g lpid gpa l (ctx.Uv work) cmd a touched other = refl
 zero_by_entry plan g lpid gpa l (ctx.Guest run) cmd a touched other = by_command cmd a touched other where
   by_command : (cmd : Cmd) (a : Answer) → is_guest lpid (target_of_running run.lpid cmd) ≡ true → is_store_by lpid gpa (ctx.Guest run) cmd a ≡ false → unwrap_or (stored_by_command plan g run.vid cmd a gpa) 0 ≡ 0
-  by_command (HLd ra) a t k = refl
-  by_command (HSt ra value) a t k = refl
-  by_command (UPageout named dest at flags order) a t k = refl
-  by_command (UReturn r0 r2 outs) a t k = refl
-  by_command (GLi rd value) a t k = refl
   by_command (GLd rd at) (Val value) t k = zero_by_backing plan g at gpa
-  by_command (GLd rd at) a t k = refl
   by_command (GSt rs at) Done t k =
       ap (λ (b : Bool). unwrap_or (if b then Some (slice_index (g.registers run.vid).gpr rs) else backed_by plan g at gpa) 0) (second_is_false _ _ t k)
       ∙ zero_by_backing plan g at gpa
-  by_command (GSt rs at) a t k = refl
-  by_command GIrq a t k = refl
-  by_command Go a t k = refl
+  by_command cmd a t k = refl
 
 -- so the content stays 0
 content_zero : (plan : Plan) (past : List Event) (lpid gpa : ℕ) → HasNoStore lpid gpa past → (guest_after plan lpid past).content gpa ≡ 0

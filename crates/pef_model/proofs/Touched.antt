@@ -3,11 +3,11 @@ use Rattle.std.proofs.Common.{◌≡◌, ℕ, Bool, true, false, ◌==◌, ◌&&
 use Rattle.std.specs.Prelude.{is_some}
 use Rattle.pef_model.specs.declared.state.Kind.{Kind}
 use Rattle.pef_model.specs.declared.state.Kind.TheVariants as kind
-use Rattle.pef_model.specs.declared.state.Work.TheVariants.{Outward}
+use Rattle.pef_model.specs.declared.state.Work.TheVariants.{Inward, Outward}
 use Rattle.pef_model.specs.declared.state.Ctx.{Ctx}
 use Rattle.pef_model.specs.declared.state.Ctx.TheVariants as ctx
 use Rattle.pef_model.specs.declared.command.Cmd.{Cmd}
-use Rattle.pef_model.specs.declared.command.Cmd.TheVariants.{UPageout, UReturn, GLd, GSt, Go}
+use Rattle.pef_model.specs.declared.command.Cmd.TheVariants.{UPagein, UPageout, UReturn, GLd, GSt, Go}
 use Rattle.pef_model.specs.declared.command.Code.{Code}
 use Rattle.pef_model.specs.declared.command.Code.TheVariants.{USuccess, UParameter, UInvalid}
 use Rattle.pef_model.specs.declared.entry.Answer.{Answer}
@@ -17,10 +17,11 @@ use Rattle.pef_model.specs.Plan.{Plan}
 use Rattle.pef_model.specs.Event.{Event, mark_of}
 use Rattle.pef_model.specs.Target.{Ask, Target, Alone, AtGuest, AtFrame, target_of_running, target_in, is_guest, is_number, touches_frame, touches_guest, touches_pool}
 use Rattle.pef_model.specs.Cpu.{CpuPart}
-use Rattle.pef_model.specs.GuestPart.{Page, has_place, page_of}
+use Rattle.pef_model.specs.GuestPart.{GuestPart, Page, has_place, page_of}
 use Rattle.pef_model.specs.Guest.{Guest}
 use Rattle.pef_model.specs.PageOut.{page_out_code}
-use Rattle.pef_model.specs.Deed.{Deed, answering, giving, returning, coming_back, deed_page_out_begin, may_return_in, is_waiting, NoPage, Moves, reach_of, reach_kind, reach_invalid, deed_access, deed_running, deed_gone, deed_hypervisor, deed_guest_in, deed_guest, deed_frame_in, deed_frame}
+use Rattle.pef_model.specs.PageIn.{page_in_operands, is_last_sealed}
+use Rattle.pef_model.specs.Deed.{answering, giving, returning, coming_back, deed_page_out_begin, deed_page_in_with, deed_page_in_test, may_return_in, is_waiting, NoPage, Moves, reach_of, reach_kind, reach_invalid, deed_access, deed_running, deed_gone, deed_hypervisor, deed_guest_in, deed_guest, deed_frame_in, deed_frame}
 use Rattle.pef_model.specs.History.{cpu_after, guest_after, pool_after, frame_after, ask_of, entry_of, deed_after, next_entry, next_entry_by}
 use Rattle.pef_model.specs.ReadLaw.{asks_pool, TouchedObjectsDecide, AskedIsTold}
 use Rattle.pef_model.proofs.Folds.{same_test}
@@ -55,10 +56,23 @@ running_asks plan g any free ask (GLd rd gpa) h = placed_asks ask _ (has_place p
 running_asks plan g any free ask (GSt rs gpa) h = placed_asks ask _ (has_place plan gpa) (g.part.pages (page_of plan gpa)) any free h
 running_asks plan g any free ask cmd h = refl
 
+-- so is a page-in that came back before it asked
+page_in_asks : (plan : Plan) (g : GuestPart) (any free : Bool) (ask : Ask) (lpid src gpa : ℕ) (code : Option Code) →
+    (is_some (returning ask code (deed_page_in_with plan g ask lpid src gpa any)).pool ≡ true → any ≡ free) →
+    returning ask code (deed_page_in_with plan g ask lpid src gpa any) ≡ returning ask code (deed_page_in_with plan g ask lpid src gpa free)
+page_in_asks plan g any free ask lpid src gpa (Some code) h = refl
+page_in_asks plan g true free ask lpid src gpa None h = ap (deed_page_in_with plan g ask lpid src gpa) (h refl)
+page_in_asks plan g false free ask lpid src gpa None h = ap (deed_page_in_with plan g ask lpid src gpa) (h refl)
+
+hypervisor_asks : (plan : Plan) (g : Guest) (any free : Bool) (ask : Ask) (cmd : Cmd) → (is_some (deed_hypervisor plan g any ask cmd).pool ≡ true → any ≡ free) →
+    deed_hypervisor plan g any ask cmd ≡ deed_hypervisor plan g free ask cmd
+hypervisor_asks plan g any free ask (UPagein lpid src gpa flags order) h = page_in_asks plan g.part any free ask lpid src gpa (page_in_operands plan g.part src gpa flags order) h
+hypervisor_asks plan g any free ask cmd h = refl
+
 -- what was not asked of the pool makes no difference
 deed_asks : (plan : Plan) (g : Guest) (any free : Bool) (ask : Ask) (cmd : Cmd) (c : Ctx) → (is_some (deed_guest_in c plan g any ask cmd).pool ≡ true → any ≡ free) →
     deed_guest_in c plan g any ask cmd ≡ deed_guest_in c plan g free ask cmd
-deed_asks plan g any free ask cmd ctx.Hv h = refl
+deed_asks plan g any free ask cmd ctx.Hv h = hypervisor_asks plan g any free ask cmd h
 deed_asks plan g any free ask cmd (ctx.Uv work) h = refl
 deed_asks plan g any free ask cmd (ctx.Guest run) h = by_test (run.generation == g.part.generation) h where
   by_test : (b : Bool) → (is_some (if b then deed_running plan g any ask cmd else deed_gone ask).pool ≡ true → any ≡ free) →
@@ -75,6 +89,7 @@ at_frame plan n bytes ask cmd is = by_ctx ask.before is where
 
   by_ctx : (c : Ctx) → target_in plan c ask.lpid cmd ≡ AtFrame n → is_number n (deed_frame_in c plan n bytes ask cmd).frame ≡ true
   by_ctx ctx.Hv h = same_test n
+  by_ctx (ctx.Uv (Inward move)) h = same_test n
   by_ctx (ctx.Uv (Outward move)) h = same_test n
   by_ctx (ctx.Guest run) h = running run.lpid cmd h
 
@@ -134,27 +149,47 @@ running_tells plan g any ask (GLd rd gpa) saw h = placed_tells ask _ (has_place 
 running_tells plan g any ask (GSt rs gpa) saw h = placed_tells ask _ (has_place plan gpa) (g.part.pages (page_of plan gpa)) any saw h
 running_tells plan g any ask cmd saw h = cc
 
-returning_tells : (ask : Ask) (code : Option Code) (deed : Deed) (saw : PoolSaw) → deed.pool ≡ None → (returning ask code deed).pool ≡ Some saw → saw.any ≡ false
-returning_tells ask (Some code) deed saw none h = cc
-returning_tells ask None deed saw none h = cc
+page_in_tells : (plan : Plan) (g : GuestPart) (any : Bool) (ask : Ask) (lpid src gpa : ℕ) (code : Option Code) (saw : PoolSaw) →
+    (returning ask code (deed_page_in_with plan g ask lpid src gpa any)).pool ≡ Some saw → saw.any ≡ any
+page_in_tells plan g any ask lpid src gpa (Some code) saw h = cc
+page_in_tells plan g true ask lpid src gpa None saw h = cc
+page_in_tells plan g false ask lpid src gpa None saw h = cc
 
-hypervisor_tells : (plan : Plan) (g : Guest) (ask : Ask) (cmd : Cmd) (saw : PoolSaw) → (deed_hypervisor plan g ask cmd).pool ≡ Some saw → saw.any ≡ false
-hypervisor_tells plan g ask (UPageout lpid dest gpa flags order) saw h = returning_tells ask (page_out_code plan g.part dest gpa flags order) (deed_page_out_begin plan g ask lpid dest gpa) saw refl h
-hypervisor_tells plan g ask (UReturn r0 r2 outs) saw h = by_test (may_return_in g.part.phase && is_waiting (g.part.vcpus ask.vid).state) h where
-  by_test : (b : Bool) → (if b then record (answering ask Enter) { after = ctx.Guest (record { lpid = ask.lpid; vid = ask.vid; generation = g.part.generation }) } else answering ask (Ret UInvalid)).pool ≡ Some saw → saw.any ≡ false
+-- a page-out that begins asks for no frame
+page_out_tells : (plan : Plan) (g : Guest) (any : Bool) (ask : Ask) (lpid dest gpa : ℕ) (code : Option Code) (saw : PoolSaw) →
+    (returning ask code (deed_page_out_begin plan g ask lpid dest gpa)).pool ≡ Some saw → saw.any ≡ any
+page_out_tells plan g any ask lpid dest gpa (Some code) saw h = cc
+page_out_tells plan g any ask lpid dest gpa None saw h = cc
+
+hypervisor_tells : (plan : Plan) (g : Guest) (any : Bool) (ask : Ask) (cmd : Cmd) (saw : PoolSaw) → (deed_hypervisor plan g any ask cmd).pool ≡ Some saw → saw.any ≡ any
+hypervisor_tells plan g any ask (UPagein lpid src gpa flags order) saw h = page_in_tells plan g.part any ask lpid src gpa (page_in_operands plan g.part src gpa flags order) saw h
+hypervisor_tells plan g any ask (UPageout lpid dest gpa flags order) saw h = page_out_tells plan g any ask lpid dest gpa (page_out_code plan g.part dest gpa flags order) saw h
+hypervisor_tells plan g any ask (UReturn r0 r2 outs) saw h = by_test (may_return_in g.part.phase && is_waiting (g.part.vcpus ask.vid).state) h where
+  by_test : (b : Bool) → (if b then record (answering ask Enter) { after = ctx.Guest (record { lpid = ask.lpid; vid = ask.vid; generation = g.part.generation }) } else answering ask (Ret UInvalid)).pool ≡ Some saw → saw.any ≡ any
   by_test true k = cc
   by_test false k = cc
-hypervisor_tells plan g ask cmd saw h = cc
+hypervisor_tells plan g any ask cmd saw h = cc
 
 -- the end of a page-out gives a frame back, and takes none
 end_tells : (ask : Ask) (ends : Bool) (saw : PoolSaw) → (if ends then giving (coming_back ask USuccess) 1 else coming_back ask UParameter).pool ≡ Some saw → saw.any ≡ false
 end_tells ask true saw h = cc
 end_tells ask false saw h = cc
 
+-- so does that of a page-in that is refused, and one that is accepted keeps its frame
+test_tells : (ask : Ask) (fresh : Bool) (saw : PoolSaw) → (deed_page_in_test ask fresh).pool ≡ Some saw → saw.any ≡ false
+test_tells ask true saw h = cc
+test_tells ask false saw h = cc
+
+arrival_tells : (ask : Ask) (ends fresh : Bool) (saw : PoolSaw) → (if ends then deed_page_in_test ask fresh else coming_back ask UParameter).pool ≡ Some saw → saw.any ≡ false
+arrival_tells ask true fresh saw h = test_tells ask fresh saw h
+arrival_tells ask false fresh saw h = cc
+
 pub asked_is_told : AskedIsTold
 asked_is_told plan g any ask cmd saw is = by_ctx ask.before is where
   by_ctx : (c : Ctx) → (deed_guest_in c plan g any ask cmd).pool ≡ Some saw → saw.any ≡ (if asks_pool c then any else false)
-  by_ctx ctx.Hv h = hypervisor_tells plan g ask cmd saw h
+  by_ctx ctx.Hv h = hypervisor_tells plan g any ask cmd saw h
+  by_ctx (ctx.Uv (Inward move)) h =
+      arrival_tells ask (move.generation == g.part.generation) (is_last_sealed (g.part.pages move.gfn).sealed ask.hand) saw h
   by_ctx (ctx.Uv (Outward move)) h = end_tells ask (move.generation == g.part.generation) saw h
   by_ctx (ctx.Guest run) h = by_test (run.generation == g.part.generation) h where
     by_test : (b : Bool) → (if b then deed_running plan g any ask cmd else deed_gone ask).pool ≡ Some saw → saw.any ≡ any

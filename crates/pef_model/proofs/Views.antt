@@ -24,12 +24,11 @@ use Rattle.pef_model.specs.Report.{command_name}
 use Rattle.pef_model.specs.SecretLaw.{open_cmd, open_answer, open_answer_of_guest, SecretsStayIn}
 use Rattle.pef_model.specs.View.{Step, Sight, if_hypervisor, either_of, writes_of, sight, view}
 use Rattle.pef_model.specs.Alike.{AgreeButWords, AreAlikeOpen, AllAlikeOpen, SealedBytesAgree, begins_sealing, first, AlikeShowTheSame, OpenIsAlike, UnsealedIsAlike}
-use Rattle.pef_model.proofs.NextValues.{these_fields_decide}
+use Rattle.pef_model.proofs.NextValues.{cpu_by_is, part_by_is}
 use Rattle.pef_model.proofs.Opened.{name_open, writes_open}
 use Rattle.pef_model.proofs.Secrets.{no_secret_in_one_entry, agree_more, part_after}
 use Rattle.pef_model.proofs.Deeds.{IsShut}
 use Rattle.pef_model.proofs.AlikeEntries.{IsNext, unstamped, opened, Same, entries_shut, entries_agree}
-use Rattle.pef_model.specs.Seal.{vault_image, stream_image, image as image_by}
 
 -- a step of a guest after which the hypervisor runs gives no value
 running_gives_none : (plan : Plan) (past : List Event) (run : Run) (l v : ℕ) (last : Answer) (hand : List ℕ) (cmd : Cmd) →
@@ -102,10 +101,10 @@ module _ (plan : Plan) (past history : List Event) (e f : Event) (same : Same pl
 
   -- stamps count for no object
   cpu_unstamped : (x : Event) (cpu : CpuPart) → next_cpu cpu x ≡ next_cpu cpu (unstamped x)
-  cpu_unstamped x cpu = (these_fields_decide plan x (unstamped x)).cpu cpu (record { cmd = refl; answer = refl; before = refl; after = refl; bytes = λ h. refl })
+  cpu_unstamped x cpu = cpu_by_is cpu x ∙ sym (cpu_by_is cpu (unstamped x))
 
   part_unstamped : (x : Event) (g : GuestPart) → next_part plan g x ≡ next_part plan g (unstamped x)
-  part_unstamped x g = (these_fields_decide plan x (unstamped x)).part g (record { cmd = refl; answer = refl; before = refl; vid = λ h. refl; cpu = λ h. refl; bytes = λ h. refl })
+  part_unstamped x g = part_by_is plan g x ∙ sym (part_by_is plan g (unstamped x))
 
   cpu_more : (n : ℕ) → cpu_after plan n (e ∷ past) ≡ cpu_after plan n (f ∷ history)
   cpu_more n =

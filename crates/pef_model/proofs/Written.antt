@@ -1,13 +1,8 @@
 -- Each normal frame is what the writes of the view leave.
-use Rattle.std.proofs.Common.{◌≡◌, ℕ, ◌*◌, ◌%◌, ◌^◌, ◌-◌, ◌<◌, ◌≤◌, List, [], ◌∷◌, ◌++◌, length, take, Bool, true, false, refl, ap, sym, ◌∙◌, ◌==◌, if◌then◌else◌, Option, Some, arith}
-use Rattle.std.specs.List.{AllByRecursion}
+use Rattle.std.proofs.Common.{◌≡◌, ℕ, List, [], ◌∷◌, ◌++◌, length, take, Bool, true, false, refl, ap, sym, ◌∙◌, ◌==◌, if◌then◌else◌, Option, Some, arith}
 use Rattle.std.proofs.Math.ListN.{drop_of_length-le}
-use Rattle.std.proofs.Math.Nat.{mul_assoc, mul-div_cancel, mul-mod_left}
-use Rattle.std.proofs.lemmas.Bool.{lt-ltb}
 use Rattle.std.proofs.lemmas.List.{append-nil, drop-drop}
-use Rattle.std.proofs.lemmas.Nat.{pow_pos}
 use Rattle.byteorder.specs.Endian.{big_bytes}
-use Rattle.pef_model.specs.declared.config.Config.{Config}
 use Rattle.pef_model.specs.declared.state.Move.{Move}
 use Rattle.pef_model.specs.declared.state.Work.TheVariants.{Outward}
 use Rattle.pef_model.specs.declared.state.Ctx.{Ctx}
@@ -16,38 +11,15 @@ use Rattle.pef_model.specs.declared.command.Cmd.{Cmd}
 use Rattle.pef_model.specs.declared.command.Cmd.TheVariants.{HSt, Go}
 use Rattle.pef_model.specs.declared.entry.Answer.{Answer}
 use Rattle.pef_model.specs.declared.entry.Answer.TheVariants.{Done, Step}
-use Rattle.pef_model.specs.Plan.{Plan, plan_of, IsInRange}
-use Rattle.pef_model.specs.Event.{Event}
+use Rattle.pef_model.specs.Plan.{Plan, plan_of}
 use Rattle.pef_model.specs.Doubleword.{with_doubleword}
-use Rattle.pef_model.specs.Target.{frame_of, has_real_place, is_number}
+use Rattle.pef_model.specs.Target.{frame_of, is_number}
 use Rattle.pef_model.specs.Memory.{offset_of, written_in}
-use Rattle.pef_model.specs.History.{frame_after, IsLegal}
-use Rattle.pef_model.specs.SearchLaw.{IsCommand}
+use Rattle.pef_model.specs.History.{frame_after}
 use Rattle.pef_model.specs.View.{after_writes, overwritten, writes_of}
 use Rattle.pef_model.specs.NormalLaw.{WritesMakeFrames}
-use Rattle.pef_model.proofs.Places.{doublewords_of}
-use Rattle.pef_model.proofs.Hands.{hands_fill, copy_is_placed}
-use Rattle.pef_model.proofs.Normal.{store_is_placed, frame_holds}
-
--- a frame's number is that of its first address
-frame_of_first : (plan : Plan) (n : ℕ) → frame_of plan (n * 2 ^ plan.shift) ≡ n
-frame_of_first plan n = mul-div_cancel n (pow_pos plan.shift)
-
--- which has a place where there is such a frame
-first_has_place : (plan : Plan) (n : ℕ) → 8 ≤ plan.shift → n < plan.normal → has_real_place plan (n * 2 ^ plan.shift) ≡ true
-first_has_place plan n least few =
-    let size = doublewords_of plan.shift least in
-    let aligned : n * 2 ^ plan.shift % 8 ≡ 0 =
-    ap (λ (x : ℕ). n * x % 8) size ∙ ap (λ (x : ℕ). x % 8) (sym (mul_assoc n (2 ^ (plan.shift - 3)) 8)) ∙ mul-mod_left (n * 2 ^ (plan.shift - 3)) 8 in
-    rw (aligned, frame_of_first plan n) (lt-ltb n plan.normal few)
-
--- so each frame has the size of a page
-length-frame : (config : Config) (past : List Event) (n : ℕ) → IsInRange config → IsLegal (plan_of config) past → AllByRecursion (λ (e : Event). IsCommand e.trace.cmd) past → n < config.normal →
-    length (frame_after (plan_of config) n past) ≡ 2 ^ config.shift
-length-frame config past n range legal commands few =
-    let first : ℕ = n * 2 ^ config.shift in
-    let holds = frame_holds config past first range legal commands (first_has_place (plan_of config) n range.shift.0 few) in
-    ap (λ (k : ℕ). length (frame_after (plan_of config) k past)) (sym (frame_of_first (plan_of config) n)) ∙ holds.size
+use Rattle.pef_model.proofs.Placed.{store_is_placed, copy_is_placed}
+use Rattle.pef_model.proofs.Hands.{all_fill}
 
 -- a doubleword that is put overwrites eight bytes
 doubleword_overwrites : (old : List ℕ) (offset value : ℕ) → overwritten old offset (big_bytes 8 value) ≡ with_doubleword old offset value
@@ -88,5 +60,5 @@ writes_make_frames config (e ∷ past) n range legal commands few =
     (λ at value before cmd done_is. let placed = store_is_placed plan past e at value legal.0 before cmd done_is in placed.frame)
     (λ move before cmd step_is.
     let copied = copy_is_placed plan past e move legal.0 before cmd step_is in
-    let full : length e.bytes ≡ 2 ^ config.shift = ap length copied.bytes ∙ hands_fill config past range legal.1 e.trace.cpu in
-    (copied.frame, length-frame config past n range legal.1 commands.1 few ∙ sym full))
+    let fill = all_fill config past range legal.1 in
+    (copied.frame, fill.frames n ∙ sym (ap length copied.bytes ∙ fill.hands e.trace.cpu)))

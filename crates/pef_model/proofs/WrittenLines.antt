@@ -12,8 +12,8 @@ use Rattle.std.proofs.lemmas.List.Splits.{slice_split-cons_yes, slice_split-cons
 use Rattle.pef_model.specs.declared.command.Directive.{Directive}
 use Rattle.pef_model.specs.declared.command.Directive.TheVariants.{Once, GoAll}
 use Rattle.pef_model.specs.declared.command.Cmd.{Cmd}
-use Rattle.pef_model.specs.declared.command.Cmd.TheVariants.{HLd, HSt, UPageout, UReturn, GLi, GLd, GSt, GIrq, Go}
-use Rattle.pef_model.specs.Script.{Line, directive_in, load_of, store_of, return_of, guest_command_of, page_out_of, numbered_line, line_in, before_lines, command_lines}
+use Rattle.pef_model.specs.declared.command.Cmd.TheVariants.{HLd, HSt, UPagein, UPageout, UReturn, GLi, GLd, GSt, GIrq, Go}
+use Rattle.pef_model.specs.Script.{Line, directive_in, load_of, store_of, return_of, guest_command_of, page_out_of, page_in_of, numbered_line, line_in, before_lines, command_lines}
 use Rattle.pef_model.specs.ScriptText.{number_text, register_text, command_text, directive_text, line_words, words_text, CanBeWritten, DirectiveCanBeWritten, CountsFrom}
 use Rattle.pef_model.specs.Words.{words_of, number_in, register_in, lines_of}
 use Rattle.pef_model.proofs.ScriptLines.{onto_lines, lines_first}
@@ -126,6 +126,17 @@ command_again hex (HSt ra value) h = record {
   reads = ap (λ first. option_map Once (store_of first (number_in (number_text hex value)))) (number_reads hex ra h.0)
       ∙ ap (λ second. option_map Once (store_of (Some ra) second)) (number_reads hex value h.1);
   above = (above_tested 32 (codes "h.st") refl, (number_above hex ra h.0, (number_above hex value h.1, tt)));
+}
+command_again hex (UPagein lpid src gpa flags order) h = record {
+  reads = ap (λ word. option_map Once (page_in_of word (number_in (number_text hex src)) (number_in (number_text hex gpa)) (number_in (number_text hex flags)) (number_in (number_text hex order)))) (number_reads hex lpid h.0)
+      ∙ ap (λ word. option_map Once (page_in_of (Some lpid) word (number_in (number_text hex gpa)) (number_in (number_text hex flags)) (number_in (number_text hex order)))) (number_reads hex src h.1)
+      ∙ ap (λ word. option_map Once (page_in_of (Some lpid) (Some src) word (number_in (number_text hex flags)) (number_in (number_text hex order)))) (number_reads hex gpa h.2)
+      ∙ ap (λ word. option_map Once (page_in_of (Some lpid) (Some src) (Some gpa) word (number_in (number_text hex order)))) (number_reads hex flags h.3)
+      ∙ ap (λ word. option_map Once (page_in_of (Some lpid) (Some src) (Some gpa) (Some flags) word)) (number_reads hex order h.4);
+  above = (
+    above_tested 32 (codes "u.pagein") refl,
+    (number_above hex lpid h.0, (number_above hex src h.1, (number_above hex gpa h.2, (number_above hex flags h.3, (number_above hex order h.4, tt))))),
+  );
 }
 command_again hex (UPageout lpid dest gpa flags order) h = record {
   reads = ap (λ word. option_map Once (page_out_of word (number_in (number_text hex dest)) (number_in (number_text hex gpa)) (number_in (number_text hex flags)) (number_in (number_text hex order)))) (number_reads hex lpid h.0)

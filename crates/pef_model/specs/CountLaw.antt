@@ -1,5 +1,5 @@
 -- Laws of whole histories: each vCPU runs on one CPU, and the frames are counted.
-use Rattle.std.specs.Prelude.{◌≡◌, ◌≢◌, ℕ, zero, suc, ◌+◌, ◌<◌, ◌==◌, true, if◌then◌else◌, List, ◌∷◌, filter, length, take}
+use Rattle.std.specs.Prelude.{◌≡◌, ◌≢◌, ℕ, zero, suc, ◌+◌, ◌<◌, ◌==◌, Bool, true, ◌||◌, is_some, if◌then◌else◌, List, ◌∷◌, filter, length, take}
 use Rattle.std.specs.List.{count_by}
 use Rattle.pef_model.specs.declared.state.Phase.TheVariants.{Secure}
 use Rattle.pef_model.specs.declared.state.VState.TheVariants.{Running}
@@ -7,7 +7,7 @@ use Rattle.pef_model.specs.declared.state.Run.{Run}
 use Rattle.pef_model.specs.declared.state.Ctx.TheVariants as ctx
 use Rattle.pef_model.specs.Plan.{Plan}
 use Rattle.pef_model.specs.Event.{Event}
-use Rattle.pef_model.specs.GuestPart.{GuestPart, is_secure}
+use Rattle.pef_model.specs.GuestPart.{Page, GuestPart, is_secure}
 use Rattle.pef_model.specs.Guest.{start_guest}
 use Rattle.pef_model.specs.Deed.{may_return_in}
 use Rattle.pef_model.specs.History.{cpu_after, guest_after, pool_after, IsLegal}
@@ -41,7 +41,7 @@ NoVcpuRunsTwice =
 -- an order has each Secure page of its guest once, and no other page
 abbrev pub OrderHasSecurePages : Type 0
 OrderHasSecurePages =
-    (plan : Plan) (past : List Event) (lpid gfn : ℕ) →
+    (plan : Plan) (past : List Event) (lpid gfn : ℕ) → IsLegal plan past →
     count_by (λ p. p == gfn) (part_after plan past lpid).order ≡ (if is_secure ((part_after plan past lpid).pages gfn) then 1 else 0)
 
 -- the pages of a guest's order that are still Secure after an entry, in their order
@@ -54,23 +54,25 @@ OrderGrows =
     (plan : Plan) (past : List Event) (e : Event) (lpid : ℕ) →
     take (length (still_secure plan past e lpid)) (part_after plan (e ∷ past) lpid).order ≡ still_secure plan past e lpid
 
--- how many Secure pages a guest has
-abbrev pub secure_pages : Plan → List Event → ℕ → ℕ
-secure_pages plan past lpid = length (part_after plan past lpid).order
+-- whether a page has a secure frame: it is Secure, or moves inward
+abbrev pub has_secure_frame : Page → Bool
+has_secure_frame page = is_secure page || is_some page.mover
 
--- the sum of f 1 to f n
-abbrev pub sum_to : ℕ → (ℕ → ℕ) → ℕ
-sum_to zero f = 0
-sum_to (suc n) f = sum_to n f + f (n + 1)
+-- the sum of f 0 to f (n - 1)
+abbrev pub sum_below : ℕ → (ℕ → ℕ) → ℕ
+sum_below zero f = 0
+sum_below (suc n) f = sum_below n f + f n
 
--- each secure frame is free or holds a Secure page
+-- how many pages of a guest have a secure frame
+abbrev pub frames_held : Plan → List Event → ℕ → ℕ
+frames_held plan past lpid = sum_below plan.pages (λ gfn. if has_secure_frame ((part_after plan past lpid).pages gfn) then 1 else 0)
+
+-- each secure frame is free or a page's
 pub record CountsFrames (plan : Plan) (past : List Event) : Type 0 where
-  -- the free frames and the Secure pages of all guests are as many as the secure frames
-  pub all : 0 < plan.guests → pool_after plan past + sum_to plan.guests (secure_pages plan past) ≡ plan.secure
-  -- the free frames and the Secure pages of guest 1 are as many
-  pub first : pool_after plan past + secure_pages plan past 1 ≡ plan.secure
-  -- every other guest is as at the start
+  -- the free frames and those of all guests' pages are as many as the secure frames
+  pub all : pool_after plan past + sum_below plan.guests (λ i. frames_held plan past (i + 1)) ≡ plan.secure
+  -- every other guest than 1 is as at the start
   pub others : (lpid : ℕ) → lpid ≢ 1 → guest_after plan lpid past ≡ start_guest plan lpid
 
 abbrev pub FramesAreCounted : Type 0
-FramesAreCounted = (plan : Plan) (past : List Event) → IsLegal plan past → CountsFrames plan past
+FramesAreCounted = (plan : Plan) (past : List Event) → 0 < plan.guests → IsLegal plan past → CountsFrames plan past

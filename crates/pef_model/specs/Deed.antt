@@ -8,13 +8,13 @@ use Rattle.pef_model.specs.declared.state.VState.{VState}
 use Rattle.pef_model.specs.declared.state.VState.TheVariants as vstate
 use Rattle.pef_model.specs.declared.state.Move.{Move}
 use Rattle.pef_model.specs.declared.state.Work.{Work}
-use Rattle.pef_model.specs.declared.state.Work.TheVariants.{Outward}
+use Rattle.pef_model.specs.declared.state.Work.TheVariants.{Inward, Outward}
 use Rattle.pef_model.specs.declared.state.Ctx.{Ctx}
 use Rattle.pef_model.specs.declared.state.Ctx.TheVariants as ctx
 use Rattle.pef_model.specs.declared.command.Code.{Code}
-use Rattle.pef_model.specs.declared.command.Code.TheVariants.{USuccess, UParameter, UPermission, UInvalid}
+use Rattle.pef_model.specs.declared.command.Code.TheVariants.{USuccess, UParameter, UP2, UBusy, UPermission, UInvalid}
 use Rattle.pef_model.specs.declared.command.Cmd.{Cmd}
-use Rattle.pef_model.specs.declared.command.Cmd.TheVariants.{HLd, HSt, UPageout, UReturn, GLi, GLd, GSt, GIrq, Go}
+use Rattle.pef_model.specs.declared.command.Cmd.TheVariants.{HLd, HSt, UPagein, UPageout, UReturn, GLi, GLd, GSt, GIrq, Go}
 use Rattle.pef_model.specs.declared.entry.Exit.TheVariants as exit
 use Rattle.pef_model.specs.declared.entry.Answer.{Answer}
 use Rattle.pef_model.specs.declared.entry.Answer.TheVariants as answer
@@ -25,6 +25,7 @@ use Rattle.pef_model.specs.GuestPart.{Page, GuestPart, page_of, has_place}
 use Rattle.pef_model.specs.Guest.{Guest, private_doubleword}
 use Rattle.pef_model.specs.Memory.{offset_of}
 use Rattle.pef_model.specs.PageOut.{page_out_code, sealed_page}
+use Rattle.pef_model.specs.PageIn.{page_in_operands, is_last_sealed}
 use Rattle.pef_model.specs.Doubleword.{doubleword}
 
 -- what a step does at its target: the answer, the context after it, the values that the guest lets out, the pool, the frame, the bytes
@@ -53,6 +54,7 @@ giving deed count = record deed { pool = Some (record { any = false; taken = 0; 
 abbrev pub answer_alone : Ctx → Cmd → Answer
 answer_alone ctx.Hv (HLd ra) = answer.Hole
 answer_alone ctx.Hv (HSt ra value) = answer.Hole
+answer_alone ctx.Hv (UPagein lpid src gpa flags order) = answer.Ret UParameter
 answer_alone ctx.Hv (UPageout lpid dest gpa flags order) = answer.Ret UParameter
 answer_alone before cmd = answer.Context
 
@@ -74,14 +76,19 @@ deed_address plan n bytes ask cmd = record (answering ask (answer_frame plan byt
 abbrev pub deed_page_out_copy : Move → ℕ → Ask → Deed
 deed_page_out_copy move n ask = record (answering ask answer.Step) { after = ctx.Uv (Outward (record move { copied = true })); frame = Some n; bytes = ask.hand }
 
--- a step of a call in progress at a normal frame
-abbrev pub deed_copy : Work → ℕ → Ask → Deed
-deed_copy (Outward move) n ask = deed_page_out_copy move n ask
+-- the copy of a page-in: the normal frame is read into the hand, once
+abbrev pub deed_page_in_copy : Move → ℕ → List ℕ → Ask → Deed
+deed_page_in_copy move n bytes ask = record (answering ask answer.Step) { after = ctx.Uv (Inward (record move { copied = true })); frame = Some n; bytes = bytes }
+
+-- a step of a call in progress at a normal frame with these bytes
+abbrev pub deed_copy : Work → ℕ → List ℕ → Ask → Deed
+deed_copy (Inward move) n bytes ask = deed_page_in_copy move n bytes ask
+deed_copy (Outward move) n bytes ask = deed_page_out_copy move n ask
 
 -- a command at a normal frame with these bytes, by the CPU's context
 abbrev pub deed_frame_in : Ctx → Plan → ℕ → List ℕ → Ask → Cmd → Deed
 deed_frame_in ctx.Hv plan n bytes ask cmd = deed_address plan n bytes ask cmd
-deed_frame_in (ctx.Uv work) plan n bytes ask cmd = deed_copy work n ask
+deed_frame_in (ctx.Uv work) plan n bytes ask cmd = deed_copy work n bytes ask
 deed_frame_in (ctx.Guest run) plan n bytes ask cmd = answering ask answer.Context
 
 -- a command at a normal frame with these bytes
@@ -104,6 +111,21 @@ returning ask (Some code) deed = answering ask (answer.Ret code)
 abbrev pub deed_page_out : Plan → Guest → Ask → ℕ → ℕ → ℕ → ℕ → ℕ → Deed
 deed_page_out plan g ask lpid dest gpa flags order = returning ask (page_out_code plan g.part dest gpa flags order) (deed_page_out_begin plan g ask lpid dest gpa)
 
+-- a page-in begins: it takes a free frame, and its CPU has the call in progress
+abbrev pub deed_page_in_begin : Plan → GuestPart → Ask → ℕ → ℕ → ℕ → Deed
+deed_page_in_begin plan g ask lpid src gpa = taking (record (answering ask answer.Step) {
+  after = ctx.Uv (Inward (record { lpid = lpid; generation = g.generation; gfn = page_of plan gpa; frame = frame_of plan src; copied = false }));
+}) true
+
+-- a page-in whose operands are right begins where a frame is free; any: one is
+abbrev pub deed_page_in_with : Plan → GuestPart → Ask → ℕ → ℕ → ℕ → Bool → Deed
+deed_page_in_with plan g ask lpid src gpa true = deed_page_in_begin plan g ask lpid src gpa
+deed_page_in_with plan g ask lpid src gpa false = taking (answering ask (answer.Ret UBusy)) false
+
+-- UV_PAGE_IN of the hypervisor
+abbrev pub deed_page_in : Plan → GuestPart → Bool → Ask → ℕ → ℕ → ℕ → ℕ → ℕ → Deed
+deed_page_in plan g any ask lpid src gpa flags order = returning ask (page_in_operands plan g src gpa flags order) (deed_page_in_with plan g ask lpid src gpa any)
+
 -- a call in progress comes back to the hypervisor with a code; its bytes are the hand
 abbrev pub coming_back : Ask → Code → Deed
 coming_back ask code = record (answering ask (answer.Ret code)) { after = ctx.Hv; bytes = ask.hand }
@@ -112,8 +134,18 @@ coming_back ask code = record (answering ask (answer.Ret code)) { after = ctx.Hv
 abbrev pub deed_page_out_end : GuestPart → Ask → Move → Deed
 deed_page_out_end g ask move = if move.generation == g.generation then giving (coming_back ask USuccess) 1 else coming_back ask UParameter
 
+-- the end of a page-in under the guest's generation: the page is Secure where the hand has what was last sealed of it, and else the frame goes back
+abbrev pub deed_page_in_test : Ask → Bool → Deed
+deed_page_in_test ask true = coming_back ask USuccess
+deed_page_in_test ask false = giving (coming_back ask UP2) 1
+
+-- the end of a page-in
+abbrev pub deed_page_in_end : GuestPart → Ask → Move → Deed
+deed_page_in_end g ask move = if move.generation == g.generation then deed_page_in_test ask (is_last_sealed (g.pages move.gfn).sealed ask.hand) else coming_back ask UParameter
+
 -- a step of a call in progress at a guest
 abbrev pub deed_work : Work → GuestPart → Ask → Deed
+deed_work (Inward move) g ask = deed_page_in_end g ask move
 deed_work (Outward move) g ask = deed_page_out_end g ask move
 
 -- whether UV_RETURN may take up a vCPU in this phase
@@ -182,6 +214,7 @@ deed_interrupt ask = record (answering ask (answer.Exit exit.Irq)) { after = ctx
 abbrev pub deed_running : Plan → Guest → Bool → Ask → Cmd → Deed
 deed_running plan g any ask (HLd ra) = answering ask answer.Context
 deed_running plan g any ask (HSt ra value) = answering ask answer.Context
+deed_running plan g any ask (UPagein lpid src gpa flags order) = record (answering ask (answer.Ret UPermission)) { shown = lpid ∷ src ∷ gpa ∷ flags ∷ order ∷ [] }
 deed_running plan g any ask (UPageout lpid dest gpa flags order) = record (answering ask (answer.Ret UPermission)) { shown = lpid ∷ dest ∷ gpa ∷ flags ∷ order ∷ [] }
 deed_running plan g any ask (UReturn r0 r2 outs) = record (answering ask (answer.Ret UInvalid)) { shown = r0 ∷ r2 ∷ outs }
 deed_running plan g any ask (GLi rd value) = answering ask answer.Done
@@ -195,20 +228,21 @@ abbrev pub deed_gone : Ask → Deed
 deed_gone ask = record (answering ask answer.Gone) { after = ctx.Hv }
 
 -- a command of the hypervisor at a guest
-abbrev pub deed_hypervisor : Plan → Guest → Ask → Cmd → Deed
-deed_hypervisor plan g ask (HLd ra) = answering ask answer.Context
-deed_hypervisor plan g ask (HSt ra value) = answering ask answer.Context
-deed_hypervisor plan g ask (UPageout lpid dest gpa flags order) = deed_page_out plan g ask lpid dest gpa flags order
-deed_hypervisor plan g ask (UReturn r0 r2 outs) = deed_return g.part ask
-deed_hypervisor plan g ask (GLi rd value) = deed_alone ask (GLi rd value)
-deed_hypervisor plan g ask (GLd rd gpa) = deed_alone ask (GLd rd gpa)
-deed_hypervisor plan g ask (GSt rs gpa) = deed_alone ask (GSt rs gpa)
-deed_hypervisor plan g ask GIrq = deed_alone ask GIrq
-deed_hypervisor plan g ask Go = deed_alone ask Go
+abbrev pub deed_hypervisor : Plan → Guest → Bool → Ask → Cmd → Deed
+deed_hypervisor plan g any ask (HLd ra) = answering ask answer.Context
+deed_hypervisor plan g any ask (HSt ra value) = answering ask answer.Context
+deed_hypervisor plan g any ask (UPagein lpid src gpa flags order) = deed_page_in plan g.part any ask lpid src gpa flags order
+deed_hypervisor plan g any ask (UPageout lpid dest gpa flags order) = deed_page_out plan g ask lpid dest gpa flags order
+deed_hypervisor plan g any ask (UReturn r0 r2 outs) = deed_return g.part ask
+deed_hypervisor plan g any ask (GLi rd value) = deed_alone ask (GLi rd value)
+deed_hypervisor plan g any ask (GLd rd gpa) = deed_alone ask (GLd rd gpa)
+deed_hypervisor plan g any ask (GSt rs gpa) = deed_alone ask (GSt rs gpa)
+deed_hypervisor plan g any ask GIrq = deed_alone ask GIrq
+deed_hypervisor plan g any ask Go = deed_alone ask Go
 
 -- a command at a guest, by the CPU's context
 abbrev pub deed_guest_in : Ctx → Plan → Guest → Bool → Ask → Cmd → Deed
-deed_guest_in ctx.Hv plan g any ask cmd = deed_hypervisor plan g ask cmd
+deed_guest_in ctx.Hv plan g any ask cmd = deed_hypervisor plan g any ask cmd
 deed_guest_in (ctx.Uv work) plan g any ask cmd = deed_work work g.part ask
 deed_guest_in (ctx.Guest run) plan g any ask cmd = if run.generation == g.part.generation then deed_running plan g any ask cmd else deed_gone ask
 

@@ -4,12 +4,12 @@ use Rattle.pef_model.specs.declared.state.Ctx.{Ctx}
 use Rattle.pef_model.specs.declared.state.Ctx.TheVariants as ctx
 use Rattle.pef_model.specs.declared.state.Regs.{Regs}
 use Rattle.pef_model.specs.declared.command.Cmd.{Cmd}
-use Rattle.pef_model.specs.declared.command.Cmd.TheVariants.{UPageout, UReturn, GLi, GLd, GSt}
+use Rattle.pef_model.specs.declared.command.Cmd.TheVariants.{UPagein, UPageout, UReturn, GLi, GLd, GSt}
 use Rattle.pef_model.specs.declared.entry.Answer.{Answer}
 use Rattle.pef_model.specs.declared.entry.Answer.TheVariants as answer
 use Rattle.pef_model.specs.Plan.{Plan}
 use Rattle.pef_model.specs.Event.{Event}
-use Rattle.pef_model.specs.Registers.{fresh_registers, load_return, load_page_out, with_code}
+use Rattle.pef_model.specs.Registers.{fresh_registers, load_return, load_page_in, load_page_out, with_code}
 use Rattle.pef_model.specs.GuestPart.{GuestPart, start_part, page_of, is_invalid, put, next_part}
 
 -- a guest whole: its public part, the doubleword at each address, the registers of each vCPU
@@ -52,6 +52,7 @@ at_next_instruction regs gpr = record regs { gpr = gpr; nip = (regs.nip + 4) % 2
 
 -- a vCPU's registers after a command of its own, by its answer: one that answers Hole or Gone keeps them
 abbrev pub registers_after_command : Regs → Cmd → Answer → Regs
+registers_after_command regs (UPagein lpid src gpa flags order) (answer.Ret code) = at_next_instruction regs (with_code (load_page_in regs.gpr lpid src gpa flags order) code)
 registers_after_command regs (UPageout lpid dest gpa flags order) (answer.Ret code) = at_next_instruction regs (with_code (load_page_out regs.gpr lpid dest gpa flags order) code)
 registers_after_command regs (UReturn r0 r2 outs) (answer.Ret code) = at_next_instruction regs (with_code (load_return regs.gpr r0 r2 outs) code)
 registers_after_command regs (GLi rd value) answer.Done = at_next_instruction regs (slice_set regs.gpr rd value)

@@ -10,13 +10,14 @@ use Rattle.pef_model.specs.declared.state.Pending.{Pending}
 use Rattle.pef_model.specs.declared.state.Pending.TheVariants as pending
 use Rattle.pef_model.specs.declared.state.VState.{VState}
 use Rattle.pef_model.specs.declared.state.VState.TheVariants as vstate
+use Rattle.pef_model.specs.declared.state.Move.{Move}
 use Rattle.pef_model.specs.declared.state.Work.{Work}
-use Rattle.pef_model.specs.declared.state.Work.TheVariants.{Outward}
+use Rattle.pef_model.specs.declared.state.Work.TheVariants.{Inward, Outward}
 use Rattle.pef_model.specs.declared.state.Ctx.{Ctx}
 use Rattle.pef_model.specs.declared.state.Ctx.TheVariants as ctx
 use Rattle.pef_model.specs.declared.command.Cmd.{Cmd}
-use Rattle.pef_model.specs.declared.command.Cmd.TheVariants.{HLd, HSt, UPageout, UReturn, GLi, GLd, GSt, GIrq, Go}
-use Rattle.pef_model.specs.declared.command.Code.TheVariants.{USuccess}
+use Rattle.pef_model.specs.declared.command.Cmd.TheVariants.{HLd, HSt, UPagein, UPageout, UReturn, GLi, GLd, GSt, GIrq, Go}
+use Rattle.pef_model.specs.declared.command.Code.TheVariants.{USuccess, UP2}
 use Rattle.pef_model.specs.declared.entry.Exit.TheVariants as exit
 use Rattle.pef_model.specs.declared.entry.Answer.{Answer}
 use Rattle.pef_model.specs.declared.entry.Answer.TheVariants as answer
@@ -131,6 +132,14 @@ with_running_vcpu g vid cpu = record g { vcpus = put g.vcpus vid (record { state
 abbrev pub with_parked_vcpu : GuestPart → ℕ → Pending → GuestPart
 with_parked_vcpu g vid pending = record g { vcpus = put g.vcpus vid (record { state = vstate.Parked pending; generation = (g.vcpus vid).generation }) }
 
+-- a page that a CPU begins to move inward; what was last sealed of it stays until it has come in
+abbrev pub begun_in : Page → ℕ → Page
+begun_in page cpu = record page { mover = Some (record { cpu = cpu; way = way.Inward }) }
+
+-- a page that was refused as it came in: it is as before, at rest
+abbrev pub refused_in : Page → Page
+refused_in page = record page { mover = None }
+
 -- a page begins to move outward; it keeps its place in the order
 abbrev pub with_page_leaving : GuestPart → ℕ → ℕ → List ℕ → GuestPart
 with_page_leaving g gfn cpu bytes = record g { pages = put g.pages gfn (begun_out (g.pages gfn) cpu bytes) }
@@ -143,6 +152,19 @@ with_page_out g gfn = record g { pages = put g.pages gfn (ended_out (g.pages gfn
 abbrev pub part_after_page_out : GuestPart → ℕ → ℕ → Answer → List ℕ → GuestPart
 part_after_page_out g gfn cpu answer.Step bytes = with_page_leaving g gfn cpu bytes
 part_after_page_out g gfn cpu other bytes = g
+
+-- a page begins to move inward
+abbrev pub with_page_coming : GuestPart → ℕ → ℕ → GuestPart
+with_page_coming g gfn cpu = record g { pages = put g.pages gfn (begun_in (g.pages gfn) cpu) }
+
+-- a page was refused
+abbrev pub with_page_refused : GuestPart → ℕ → GuestPart
+with_page_refused g gfn = record g { pages = put g.pages gfn (refused_in (g.pages gfn)) }
+
+-- after an answer of UV_PAGE_IN in the hypervisor: where it is accepted a page begins to move
+abbrev pub part_after_page_in : GuestPart → ℕ → ℕ → Answer → GuestPart
+part_after_page_in g gfn cpu answer.Step = with_page_coming g gfn cpu
+part_after_page_in g gfn cpu other = g
 
 -- after an answer of UV_RETURN in the hypervisor
 abbrev pub part_after_return : GuestPart → ℕ → ℕ → Answer → GuestPart
@@ -164,6 +186,7 @@ part_after_interrupt g vid other = g
 abbrev pub part_after_hypervisor : Plan → GuestPart → Cmd → Event → GuestPart
 part_after_hypervisor plan g (HLd ra) e = g
 part_after_hypervisor plan g (HSt ra value) e = g
+part_after_hypervisor plan g (UPagein lpid src gpa flags order) e = part_after_page_in g (page_of plan gpa) e.trace.cpu e.trace.answer
 part_after_hypervisor plan g (UPageout lpid dest gpa flags order) e = part_after_page_out g (page_of plan gpa) e.trace.cpu e.trace.answer e.bytes
 part_after_hypervisor plan g (UReturn r0 r2 outs) e = part_after_return g e.saw.vid e.trace.cpu e.trace.answer
 part_after_hypervisor plan g (GLi rd value) e = g
@@ -172,8 +195,11 @@ part_after_hypervisor plan g (GSt rs gpa) e = g
 part_after_hypervisor plan g GIrq e = g
 part_after_hypervisor plan g Go e = g
 
--- after a step of a call in progress: a page that moves outward has moved where the call comes back with U_SUCCESS
+-- after a step of a call in progress: a page has moved where the call comes back with U_SUCCESS, and was refused at U_P2
 abbrev pub part_after_work : GuestPart → Work → Answer → GuestPart
+part_after_work g (Inward move) (answer.Ret USuccess) = with_secure_page g move.gfn
+part_after_work g (Inward move) (answer.Ret UP2) = with_page_refused g move.gfn
+part_after_work g (Inward move) other = g
 part_after_work g (Outward move) (answer.Ret USuccess) = with_page_out g move.gfn
 part_after_work g (Outward move) other = g
 
@@ -181,6 +207,7 @@ part_after_work g (Outward move) other = g
 abbrev pub part_after_guest : Plan → GuestPart → ℕ → Cmd → Answer → GuestPart
 part_after_guest plan g vid (HLd ra) a = g
 part_after_guest plan g vid (HSt ra value) a = g
+part_after_guest plan g vid (UPagein lpid src gpa flags order) a = g
 part_after_guest plan g vid (UPageout lpid dest gpa flags order) a = g
 part_after_guest plan g vid (UReturn r0 r2 outs) a = g
 part_after_guest plan g vid (GLi rd value) a = g

@@ -9,6 +9,7 @@ pub mod Guest
 pub mod GuestPart
 pub mod Memory
 pub mod PageOut
+pub mod PageIn
 pub mod Deed
 pub mod History
 pub mod Words
@@ -24,6 +25,8 @@ pub mod SearchLaw
 pub mod StepLaw
 pub mod Authority
 pub mod MoveLaw
+pub mod Sound
+pub mod FreshLaw
 pub mod CountLaw
 pub mod ScriptText
 pub mod GrammarLaw

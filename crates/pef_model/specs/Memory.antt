@@ -1,5 +1,7 @@
 -- The pool of secure frames, and the normal frames.
 use Rattle.std.specs.Prelude.{ℕ, ◌+◌, ◌-◌, ◌%◌, ◌^◌, List, Option, Some, None, replicate}
+use Rattle.pef_model.specs.declared.state.Work.{Work}
+use Rattle.pef_model.specs.declared.state.Work.TheVariants.{Outward}
 use Rattle.pef_model.specs.declared.state.Ctx.{Ctx}
 use Rattle.pef_model.specs.declared.state.Ctx.TheVariants as ctx
 use Rattle.pef_model.specs.declared.command.Cmd.{Cmd}
@@ -33,15 +35,15 @@ abbrev pub written : Plan → List ℕ → Cmd → Answer → List ℕ
 written plan bytes (HSt ra value) answer.Done = with_doubleword bytes (offset_of plan ra) value
 written plan bytes cmd a = bytes
 
--- a frame after a step of a call in progress: a copy writes the whole hand
-abbrev pub copied : List ℕ → Cmd → Answer → List ℕ → List ℕ
-copied bytes Go answer.Step hand = hand
-copied bytes cmd a hand = bytes
+-- a frame after a step of a call in progress: the copy of a page-out writes the whole hand
+abbrev pub copied : Work → List ℕ → Cmd → Answer → List ℕ → List ℕ
+copied (Outward move) bytes Go answer.Step hand = hand
+copied work bytes cmd a hand = bytes
 
 -- by the context before the entry
 abbrev pub written_in : Ctx → Plan → List ℕ → Cmd → Answer → List ℕ → List ℕ
 written_in ctx.Hv plan bytes cmd a hand = written plan bytes cmd a
-written_in (ctx.Uv work) plan bytes cmd a hand = copied bytes cmd a hand
+written_in (ctx.Uv work) plan bytes cmd a hand = copied work bytes cmd a hand
 written_in (ctx.Guest run) plan bytes cmd a hand = bytes
 
 -- a normal frame's bytes after an entry that touches it

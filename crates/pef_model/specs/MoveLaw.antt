@@ -1,13 +1,15 @@
 -- Laws of pages on the move, and of what is sealed.
-use Rattle.std.specs.Prelude.{◌≡◌, ℕ, ◌+◌, ◌/◌, ◌%◌, ◌^◌, ◌<◌, ◌↔◌, ◌==◌, Bool, false, ◌&&◌, if◌then◌else◌, List, [], ◌∷◌, length, Option, Some, None, IsSome}
+use Rattle.std.specs.Prelude.{◌≡◌, ℕ, ◌+◌, ◌/◌, ◌%◌, ◌^◌, ◌<◌, ◌↔◌, ◌==◌, Bool, false, ◌&&◌, if◌then◌else◌, List, [], ◌∷◌, length, Option, Some, None, IsSome, option_map}
 use Rattle.std.specs.List.{count_by}
 use Rattle.pef_model.specs.declared.config.Config.{Config}
 use Rattle.pef_model.specs.declared.state.Tag.{Tag}
 use Rattle.pef_model.specs.declared.state.Kind.TheVariants.{Secure, Out}
+use Rattle.pef_model.specs.declared.state.Way.{Way}
 use Rattle.pef_model.specs.declared.state.Way.TheVariants as way
 use Rattle.pef_model.specs.declared.state.Mover.{Mover}
 use Rattle.pef_model.specs.declared.state.Move.{Move}
-use Rattle.pef_model.specs.declared.state.Work.TheVariants.{Outward}
+use Rattle.pef_model.specs.declared.state.Work.{Work}
+use Rattle.pef_model.specs.declared.state.Work.TheVariants.{Inward, Outward}
 use Rattle.pef_model.specs.declared.state.Ctx.{Ctx}
 use Rattle.pef_model.specs.declared.state.Ctx.TheVariants as ctx
 use Rattle.pef_model.specs.declared.command.Cmd.{Cmd}
@@ -20,13 +22,15 @@ use Rattle.pef_model.specs.Doubleword.{doubleword}
 use Rattle.pef_model.specs.Seal.{image}
 use Rattle.pef_model.specs.GuestPart.{Page, page_of}
 use Rattle.pef_model.specs.PageOut.{tag_of, page_bytes}
+use Rattle.pef_model.specs.Authority.{authority_of}
 use Rattle.pef_model.specs.History.{cpu_after, guest_after, last_store, Extends, IsLegal}
+use Rattle.pef_model.specs.SearchLaw.{IsCommand}
 
 -- a page of a guest after a history
 abbrev pub page_after : Plan → List Event → ℕ → ℕ → Page
 page_after plan past lpid gfn = (guest_after plan lpid past).part.pages gfn
 
--- a CPU moves the page that its call in progress names
+-- a CPU moves the page outward that its call in progress names
 pub record MovesItsPage (plan : Plan) (past : List Event) (n : ℕ) (move : Move) : Type 0 where
   -- the page is still Secure, and this CPU moves it outward
   pub kind : (page_after plan past move.lpid move.gfn).kind ≡ Secure
@@ -39,14 +43,28 @@ EachCpuMovesItsPage =
     (plan : Plan) (past : List Event) (n : ℕ) (move : Move) → IsLegal plan past → (cpu_after plan n past).ctx ≡ ctx.Uv (Outward move) →
     move.generation ≡ (guest_after plan move.lpid past).part.generation → MovesItsPage plan past n move
 
+-- a CPU moves the page inward that its call in progress names: the page is still Out
+pub record MovesItsPageIn (plan : Plan) (past : List Event) (n : ℕ) (move : Move) : Type 0 where
+  pub kind : (page_after plan past move.lpid move.gfn).kind ≡ Out
+  pub mover : (page_after plan past move.lpid move.gfn).mover ≡ Some (record { cpu = n; way = way.Inward })
+
+abbrev pub EachCpuMovesItsPageIn : Type 0
+EachCpuMovesItsPageIn =
+    (plan : Plan) (past : List Event) (n : ℕ) (move : Move) → IsLegal plan past → (cpu_after plan n past).ctx ≡ ctx.Uv (Inward move) →
+    move.generation ≡ (guest_after plan move.lpid past).part.generation → MovesItsPageIn plan past n move
+
+-- the work of moving a page this way
+abbrev pub work_by : Way → Move → Work
+work_by way.Inward move = Inward move
+work_by way.Outward move = Outward move
+
 -- a page's mover has a call in progress that names the page
 pub record IsMovedBy (plan : Plan) (past : List Event) (lpid gfn : ℕ) (mover : Mover) : Type 0 where
   pub move : Move
-  pub ctx_is : (cpu_after plan mover.cpu past).ctx ≡ ctx.Uv (Outward move)
+  pub ctx_is : (cpu_after plan mover.cpu past).ctx ≡ ctx.Uv (work_by mover.way move)
   pub lpid_is : move.lpid ≡ lpid
   pub gfn_is : move.gfn ≡ gfn
   pub generation : move.generation ≡ (guest_after plan lpid past).part.generation
-  pub way_is : mover.way ≡ way.Outward
 
 abbrev pub EachMoverHasItsCall : Type 0
 EachMoverHasItsCall =
@@ -56,8 +74,8 @@ EachMoverHasItsCall =
 pub record KeepsWhatIsSealed (page : Page) : Type 0 where
   -- last sealed bytes exactly where it is Out
   pub sealed : IsSome page.sealed ↔ (page.kind ≡ Out)
-  -- pending bytes exactly where it moves
-  pub pending : IsSome page.pending ↔ IsSome page.mover
+  -- pending bytes exactly where it moves outward
+  pub pending : IsSome page.pending ↔ (option_map (λ (mover : Mover). mover.way) page.mover ≡ Some way.Outward)
 
 abbrev pub EachPageKeepsWhatIsSealed : Type 0
 EachPageKeepsWhatIsSealed = (plan : Plan) (past : List Event) (lpid gfn : ℕ) → IsLegal plan past → KeepsWhatIsSealed (page_after plan past lpid gfn)

@@ -2,7 +2,8 @@
 use Rattle.std.specs.Prelude.{◌≡◌, ℕ, Bool, true, false, if◌then◌else◌, List, Option, Some, None}
 use Rattle.std.specs.List.{filter}
 use Rattle.pef_model.specs.declared.command.Cmd.{Cmd}
-use Rattle.pef_model.specs.declared.command.Cmd.TheVariants.{HLd, HSt, UPageout, UReturn, GLi, GLd, GSt, GIrq, Go}
+use Rattle.pef_model.specs.declared.command.Cmd.TheVariants.{HLd, HSt, UPagein, UPageout, UReturn, GLi, GLd, GSt, GIrq, Go}
+use Rattle.pef_model.specs.declared.state.Work.TheVariants.{Outward}
 use Rattle.pef_model.specs.declared.state.Ctx.{Ctx}
 use Rattle.pef_model.specs.declared.state.Ctx.TheVariants as ctx
 use Rattle.pef_model.specs.declared.entry.Answer.{Answer}
@@ -17,7 +18,7 @@ use Rattle.pef_model.specs.Guest.{Guest, next_guest}
 use Rattle.pef_model.specs.Memory.{next_pool, next_frame}
 use Rattle.pef_model.specs.Deed.{deed_guest}
 use Rattle.pef_model.specs.History.{cpu_after, guest_after, pool_after, frame_after, last_store, reg, Extends}
-use Rattle.pef_model.specs.SecretLaw.{is_sealing}
+use Rattle.pef_model.specs.SecretLaw.{is_sealing, takes_bytes}
 
 -- the entries of a history that touch an object decide its value; so last_store and reg read only their guest's entries
 pub record OwnEntriesDecide (plan : Plan) (past : List Event) : Type 0 where
@@ -36,6 +37,7 @@ EachOwnEntriesDecide = (plan : Plan) (past : List Event) → OwnEntriesDecide pl
 abbrev pub IsReturn : Cmd → Type 0
 IsReturn (HLd ra) = ⊥
 IsReturn (HSt ra value) = ⊥
+IsReturn (UPagein lpid src gpa flags order) = ⊥
 IsReturn (UPageout lpid dest gpa flags order) = ⊥
 IsReturn (UReturn r0 r2 outs) = Unit {0}
 IsReturn (GLi rd value) = ⊥
@@ -50,13 +52,13 @@ GivesCpu Step = Unit {0}
 GivesCpu Enter = Unit {0}
 GivesCpu a = ⊥
 
--- two entries agree in what a CPU's record reads of them: the bytes where a page-out begins
+-- two entries agree in what a CPU's record reads of them: the bytes where the hand takes them
 pub record AgreeForCpu (e f : Event) : Type 0 where
   pub cmd : e.trace.cmd ≡ f.trace.cmd
   pub answer : e.trace.answer ≡ f.trace.answer
   pub before : e.saw.before ≡ f.saw.before
   pub after : e.saw.after ≡ f.saw.after
-  pub bytes : is_sealing e.saw.before e.trace.cmd e.trace.answer ≡ true → e.bytes ≡ f.bytes
+  pub bytes : takes_bytes e.saw.before e.trace.cmd e.trace.answer ≡ true → e.bytes ≡ f.bytes
 
 -- two entries agree in what a guest reads of them: the vCPU at UV_RETURN alone, the CPU where a vCPU runs or a page moves from then on, the bytes where a page-out begins
 pub record AgreeForGuest (e f : Event) : Type 0 where
@@ -67,12 +69,12 @@ pub record AgreeForGuest (e f : Event) : Type 0 where
   pub cpu : GivesCpu e.trace.answer → e.trace.cpu ≡ f.trace.cpu
   pub bytes : is_sealing e.saw.before e.trace.cmd e.trace.answer ≡ true → e.bytes ≡ f.bytes
 
--- whether a step is one of a call in progress that isn't its end
+-- whether a step is the copy of a page-out
 abbrev pub is_copying : Ctx → Cmd → Answer → Bool
-is_copying (ctx.Uv work) Go Step = true
+is_copying (ctx.Uv (Outward move)) Go Step = true
 is_copying before cmd a = false
 
--- two entries agree in what a normal frame reads of them: the bytes where a page is copied
+-- two entries agree in what a normal frame reads of them: the bytes where a page is copied into it
 pub record AgreeForFrame (e f : Event) : Type 0 where
   pub cmd : e.trace.cmd ≡ f.trace.cmd
   pub answer : e.trace.answer ≡ f.trace.answer
@@ -112,9 +114,9 @@ abbrev pub UnaskedMakesNoDifference : Type 0
 UnaskedMakesNoDifference =
     (plan : Plan) (g : Guest) (ask : Ask) (cmd : Cmd) → tells_free (deed_guest plan g true ask cmd).pool ≡ false → deed_guest plan g false ask cmd ≡ deed_guest plan g true ask cmd
 
--- whether a step may need a free frame: one of a guest may, and a page-out's doesn't
+-- whether a step may need a free frame: the steps of a call in progress don't
 abbrev pub asks_pool : Ctx → Bool
-asks_pool ctx.Hv = false
+asks_pool ctx.Hv = true
 asks_pool (ctx.Uv work) = false
 asks_pool (ctx.Guest run) = true
 

@@ -1,6 +1,6 @@
 -- Registers as lists of 32, and what a call loads into them.
 use Rattle.std.specs.Prelude.{ℕ, ◌+◌, List, [], ◌∷◌, ◌++◌, length, take, drop, slice_set, replicate}
-use Rattle.pef_model.specs.declared.command.TheConstants.{UV_PAGE_OUT, UV_RETURN, EXTERNAL_INTERRUPT}
+use Rattle.pef_model.specs.declared.command.TheConstants.{UV_PAGE_IN, UV_PAGE_OUT, UV_RETURN, EXTERNAL_INTERRUPT}
 use Rattle.pef_model.specs.declared.command.Code.{Code}
 use Rattle.pef_model.specs.declared.command.Code.TheVariants.{USuccess, UParameter, UP2, UP3, UP4, UP5, UFunction, UBusy, UPermission, UInvalid}
 use Rattle.pef_model.specs.declared.state.Regs.{Regs}
@@ -41,6 +41,10 @@ abbrev pub load_call : List ℕ → ℕ → List ℕ → List ℕ
 load_call gpr number operands = with_operands (slice_set gpr 3 number) where
   with_operands : List ℕ → List ℕ
   with_operands loaded = take 4 loaded ++ (operands ++ drop (4 + length operands) loaded)
+
+-- UV_PAGE_IN loads its number, and five operands
+abbrev pub load_page_in : List ℕ → ℕ → ℕ → ℕ → ℕ → ℕ → List ℕ
+load_page_in gpr lpid src gpa flags order = load_call gpr UV_PAGE_IN (lpid ∷ src ∷ gpa ∷ flags ∷ order ∷ [])
 
 -- UV_PAGE_OUT loads its number, and five operands
 abbrev pub load_page_out : List ℕ → ℕ → ℕ → ℕ → ℕ → ℕ → List ℕ

@@ -7,7 +7,7 @@ use Rattle.sha2.specs.Sha256.{sha256}
 use Rattle.pef_model.specs.declared.command.Code.{Code}
 use Rattle.pef_model.specs.declared.command.Code.TheVariants.{USuccess, UParameter, UP2, UP3, UP4, UP5, UFunction, UBusy, UPermission, UInvalid}
 use Rattle.pef_model.specs.declared.command.Cmd.{Cmd}
-use Rattle.pef_model.specs.declared.command.Cmd.TheVariants.{HLd, HSt, UPageout, UReturn, GLi, GLd, GSt, GIrq, Go}
+use Rattle.pef_model.specs.declared.command.Cmd.TheVariants.{HLd, HSt, UPagein, UPageout, UReturn, GLi, GLd, GSt, GIrq, Go}
 use Rattle.pef_model.specs.declared.entry.Exit.TheVariants as exit
 use Rattle.pef_model.specs.declared.entry.Answer.{Answer}
 use Rattle.pef_model.specs.declared.entry.Answer.TheVariants.{Done, Val, Ret, Step, Enter, Exit, Again, Gone, Hole, Context, Nothing}
@@ -23,6 +23,7 @@ value_text value = codes "0x" ++ digits 16 false value
 abbrev pub command_name : Cmd → List ℕ
 command_name (HLd ra) = codes "h.ld"
 command_name (HSt ra value) = codes "h.st"
+command_name (UPagein lpid src gpa flags order) = codes "u.pagein"
 command_name (UPageout lpid dest gpa flags order) = codes "u.pageout"
 command_name (UReturn r0 r2 outs) = codes "u.return"
 command_name (GLi rd value) = codes "g.li"

@@ -1,13 +1,14 @@
 -- Laws of runs and reports.
-use Rattle.std.specs.Prelude.{◌≡◌, ℕ, ◌<◌, true, List, [], ◌∷◌, ◌++◌, length, replicate, map, codes, Option, Some, None}
+use Rattle.std.specs.Prelude.{◌≡◌, ℕ, ◌+◌, ◌<◌, true, List, [], ◌∷◌, ◌++◌, length, reverse, replicate, map, codes, Option, Some, None}
 use Rattle.std.specs.List.{AllByRecursion}
 use Rattle.pef_model.specs.declared.config.Config.{Config}
 use Rattle.pef_model.specs.declared.command.Directive.TheVariants.{Once, GoAll}
 use Rattle.pef_model.specs.declared.command.Cmd.{Cmd}
-use Rattle.pef_model.specs.declared.command.Code.TheVariants.{USuccess}
-use Rattle.pef_model.specs.declared.command.Cmd.TheVariants.{UPageout, UReturn, GLi, GLd, GSt, GIrq}
+use Rattle.pef_model.specs.declared.command.Code.TheVariants.{USuccess, UP2}
+use Rattle.pef_model.specs.declared.command.Cmd.TheVariants.{HLd, HSt, UPagein, UPageout, UReturn, GLi, GLd, GSt, GIrq, Go}
 use Rattle.pef_model.specs.declared.entry.Exit.TheVariants.{Irq}
-use Rattle.pef_model.specs.declared.entry.Answer.TheVariants.{Done, Ret, Step, Enter, Exit}
+use Rattle.pef_model.specs.declared.entry.Answer.{Answer}
+use Rattle.pef_model.specs.declared.entry.Answer.TheVariants.{Done, Val, Ret, Step, Enter, Exit}
 use Rattle.pef_model.specs.Plan.{Plan, plan_of, default_config}
 use Rattle.pef_model.specs.Event.{Event}
 use Rattle.pef_model.specs.Script.{Line, Script, IsScript, script_of}
@@ -85,6 +86,56 @@ page_out_script config value = record {
 -- what its entries answer, the newest first: go* gives two
 abbrev pub GoesOut : Type 0
 GoesOut = map (λ (e : Event). e.trace.answer) (run_of (page_out_script small_config 7)) ≡ Ret USuccess ∷ Step ∷ Step ∷ Exit Irq ∷ Done ∷ Done ∷ Enter ∷ []
+
+-- a page is moved inward from a normal frame, in two lines
+abbrev pub page_in_at : ℕ → ℕ → List Line
+page_in_at number src = line_at number 0 (UPagein 1 src 0x0 0 8) ∷ go_all_at (number + 1) 0 ∷ []
+
+-- a page is moved outward into a normal frame, in two lines
+abbrev pub page_out_at : ℕ → ℕ → List Line
+page_out_at number dest = line_at number 0 (UPageout 1 dest 0x0 0 8) ∷ go_all_at (number + 1) 0 ∷ []
+
+-- the guest stores 7 and leaves
+abbrev pub store_lines : List Line
+store_lines = line_at 1 0 (return_with 0) ∷ line_at 2 0 (GLi 20 7) ∷ line_at 3 0 (GSt 20 0x0) ∷ line_at 4 0 GIrq ∷ []
+
+-- what the entries of lines answer under a vault, the oldest first
+abbrev pub answers_of : List Line → List Answer
+answers_of lines = reverse (map (λ (e : Event). e.trace.answer) (run_of (record { config = record small_config { vault = true }; lines = lines })))
+
+-- the answers of a page's move that is accepted, and of one inward that is refused
+abbrev pub moved : List Answer
+moved = Step ∷ Step ∷ Ret USuccess ∷ []
+
+abbrev pub refused : List Answer
+refused = Step ∷ Step ∷ Ret UP2 ∷ []
+
+abbrev pub stored : List Answer
+stored = Enter ∷ Done ∷ Done ∷ Exit Irq ∷ []
+
+-- a page goes out and comes in, and the guest loads 7
+abbrev pub OutAndIn : Type 0
+OutAndIn =
+    answers_of (store_lines ++ (page_out_at 5 0x0 ++ (page_in_at 7 0x0 ++ (line_at 9 0 (return_with 0) ∷ line_at 10 0 (GLd 6 0x0) ∷ []))))
+    ≡ stored ++ (moved ++ (moved ++ (Enter ∷ Val 7 ∷ [])))
+
+-- a page goes out twice: its older image is refused, and its newer one comes in
+abbrev pub AnOlderImage : Type 0
+AnOlderImage =
+    answers_of (store_lines ++ (page_out_at 5 0x0 ++ (page_in_at 7 0x0 ++ (page_out_at 9 0x100 ++ (page_in_at 11 0x0 ++ page_in_at 13 0x100)))))
+    ≡ stored ++ (moved ++ (moved ++ (moved ++ (refused ++ moved))))
+
+-- a normal frame that is changed after the copy changes nothing: what was copied is compared, and comes in
+abbrev pub ChangeAfterCopy : Type 0
+ChangeAfterCopy =
+    answers_of (store_lines ++ (page_out_at 5 0x0 ++ (line_at 7 0 (UPagein 1 0x0 0x0 0 8) ∷ line_at 8 0 Go ∷ line_at 9 1 (HSt 0x0 1) ∷ line_at 10 0 Go ∷ line_at 11 0 (return_with 0) ∷ line_at 12 0 (GLd 6 0x0) ∷ [])))
+    ≡ stored ++ (moved ++ (Step ∷ Step ∷ Done ∷ Ret USuccess ∷ Enter ∷ Val 7 ∷ []))
+
+-- a normal frame that is changed before the copy is refused, and comes in once the change is undone
+abbrev pub OneBitBeforeCopy : Type 0
+OneBitBeforeCopy =
+    answers_of (store_lines ++ (page_out_at 5 0x0 ++ (line_at 7 0 (HLd 0x0) ∷ line_at 8 0 (HSt 0x0 0) ∷ page_in_at 9 0x0) ++ (line_at 11 0 (HSt 0x0 1) ∷ page_in_at 12 0x0) ++ (line_at 14 0 (return_with 0) ∷ line_at 15 0 (GLd 6 0x0) ∷ [])))
+    ≡ stored ++ (moved ++ (Val 1 ∷ Done ∷ refused) ++ (Done ∷ moved) ++ (Enter ∷ Val 7 ∷ []))
 
 -- go* ends: its newest entry is one with which it ends, it ended with none before, and it made fewer than the most
 abbrev pub EachGoAllEnds : Type 0

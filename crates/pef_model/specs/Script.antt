@@ -7,7 +7,7 @@ use Rattle.pef_model.specs.declared.config.Config.{Config}
 use Rattle.pef_model.specs.declared.command.Directive.{Directive}
 use Rattle.pef_model.specs.declared.command.Directive.TheVariants.{Once, GoAll}
 use Rattle.pef_model.specs.declared.command.Cmd.{Cmd}
-use Rattle.pef_model.specs.declared.command.Cmd.TheVariants.{HLd, HSt, UPageout, UReturn, GLi, GLd, GSt, GIrq, Go}
+use Rattle.pef_model.specs.declared.command.Cmd.TheVariants.{HLd, HSt, UPagein, UPageout, UReturn, GLi, GLd, GSt, GIrq, Go}
 use Rattle.pef_model.specs.Header.{Header, header_of}
 use Rattle.pef_model.specs.Plan.{IsInRange}
 use Rattle.pef_model.specs.Words.{lines_of, words_of, number_in, number_below, register_in}
@@ -76,17 +76,24 @@ abbrev pub page_out_of : Option ℕ → Option ℕ → Option ℕ → Option ℕ
 page_out_of (Some lpid) (Some dest) (Some gpa) (Some flags) (Some order) = Some (UPageout lpid dest gpa flags order)
 page_out_of lpid dest gpa flags order = None
 
+-- UV_PAGE_IN with its five operands
+abbrev pub page_in_of : Option ℕ → Option ℕ → Option ℕ → Option ℕ → Option ℕ → Option Cmd
+page_in_of (Some lpid) (Some src) (Some gpa) (Some flags) (Some order) = Some (UPagein lpid src gpa flags order)
+page_in_of lpid src gpa flags order = None
+
 -- a command, by its name and five operands
 abbrev pub long_command_of : List ℕ → List ℕ → List ℕ → List ℕ → List ℕ → List ℕ → Option Cmd
-long_command_of name lpid dest gpa flags order =
-    if bytes_eq name (codes "u.pageout") then page_out_of (number_in lpid) (number_in dest) (number_in gpa) (number_in flags) (number_in order) else None
+long_command_of name lpid ra gpa flags order =
+    if bytes_eq name (codes "u.pagein") then page_in_of (number_in lpid) (number_in ra) (number_in gpa) (number_in flags) (number_in order)
+    else if bytes_eq name (codes "u.pageout") then page_out_of (number_in lpid) (number_in ra) (number_in gpa) (number_in flags) (number_in order)
+    else None
 
 -- a directive, by its name and operands
 abbrev pub directive_in : List (List ℕ) → Option Directive
 directive_in (name ∷ []) = bare_directive_of name
 directive_in (name ∷ operand ∷ []) = option_map Once (short_command_of name operand)
 directive_in (name ∷ first ∷ second ∷ []) = option_map Once (command_of name first second)
-directive_in (name ∷ lpid ∷ dest ∷ gpa ∷ flags ∷ order ∷ []) = option_map Once (long_command_of name lpid dest gpa flags order)
+directive_in (name ∷ lpid ∷ ra ∷ gpa ∷ flags ∷ order ∷ []) = option_map Once (long_command_of name lpid ra gpa flags order)
 directive_in words = None
 
 -- a line of a CPU and its directive

@@ -6,7 +6,7 @@ use Rattle.pef_model.specs.declared.config.Config.{Config}
 use Rattle.pef_model.specs.declared.command.Directive.{Directive}
 use Rattle.pef_model.specs.declared.command.Directive.TheVariants.{Once, GoAll}
 use Rattle.pef_model.specs.declared.command.Cmd.{Cmd}
-use Rattle.pef_model.specs.declared.command.Cmd.TheVariants.{HLd, HSt, UPageout, UReturn, GLi, GLd, GSt, GIrq, Go}
+use Rattle.pef_model.specs.declared.command.Cmd.TheVariants.{HLd, HSt, UPagein, UPageout, UReturn, GLi, GLd, GSt, GIrq, Go}
 use Rattle.pef_model.specs.Plan.{IsInRange}
 use Rattle.pef_model.specs.Script.{Line, Script}
 
@@ -26,6 +26,8 @@ seal_text vault = if vault then codes "vault" else codes "stream"
 abbrev pub command_text : Bool → Cmd → List (List ℕ)
 command_text hex (HLd ra) = codes "h.ld" ∷ number_text hex ra ∷ []
 command_text hex (HSt ra value) = codes "h.st" ∷ number_text hex ra ∷ number_text hex value ∷ []
+command_text hex (UPagein lpid src gpa flags order) =
+    codes "u.pagein" ∷ number_text hex lpid ∷ number_text hex src ∷ number_text hex gpa ∷ number_text hex flags ∷ number_text hex order ∷ []
 command_text hex (UPageout lpid dest gpa flags order) =
     codes "u.pageout" ∷ number_text hex lpid ∷ number_text hex dest ∷ number_text hex gpa ∷ number_text hex flags ∷ number_text hex order ∷ []
 command_text hex (UReturn r0 r2 outs) = codes "u.return" ∷ number_text hex r0 ∷ number_text hex r2 ∷ []
@@ -70,6 +72,7 @@ script_text hex script = flat_map words_text (header_words hex script.config ++ 
 abbrev pub CanBeWritten : Cmd → Type 0
 CanBeWritten (HLd ra) = ra < 2 ^ 64
 CanBeWritten (HSt ra value) = (ra < 2 ^ 64) × (value < 2 ^ 64)
+CanBeWritten (UPagein lpid src gpa flags order) = (lpid < 2 ^ 64) × (src < 2 ^ 64) × (gpa < 2 ^ 64) × (flags < 2 ^ 64) × (order < 2 ^ 64)
 CanBeWritten (UPageout lpid dest gpa flags order) = (lpid < 2 ^ 64) × (dest < 2 ^ 64) × (gpa < 2 ^ 64) × (flags < 2 ^ 64) × (order < 2 ^ 64)
 CanBeWritten (UReturn r0 r2 outs) = (r0 < 2 ^ 64) × (r2 < 2 ^ 64) × (outs ≡ replicate 9 0)
 CanBeWritten (GLi rd value) = (rd < 32) × (value < 2 ^ 64)

@@ -5,7 +5,7 @@ use Rattle.pef_model.specs.declared.state.Run.{Run}
 use Rattle.pef_model.specs.declared.state.Ctx.{Ctx}
 use Rattle.pef_model.specs.declared.state.Ctx.TheVariants as ctx
 use Rattle.pef_model.specs.declared.command.Cmd.{Cmd}
-use Rattle.pef_model.specs.declared.command.Cmd.TheVariants.{HLd, HSt, UPageout, UReturn, GLi, GLd, GSt, GIrq, Go}
+use Rattle.pef_model.specs.declared.command.Cmd.TheVariants.{HLd, HSt, UPagein, UPageout, UReturn, GLi, GLd, GSt, GIrq, Go}
 use Rattle.pef_model.specs.declared.entry.Answer.{Answer}
 use Rattle.pef_model.specs.declared.entry.Answer.TheVariants as answer
 use Rattle.pef_model.specs.Plan.{Plan}
@@ -52,12 +52,12 @@ loaded_value r0 r2 outs code r =
     else if nat_le 4 r && nat_lt r 13 then Some (slice_index outs (r - 4))
     else None
 
--- the value that UV_PAGE_OUT gives a register: R3 has this, R4 to R8 the operands
-abbrev pub value_of_page_out : ℕ → ℕ → ℕ → ℕ → ℕ → ℕ → ℕ → Option ℕ
-value_of_page_out lpid dest gpa flags order code r =
+-- the value that a call which moves a page gives a register: R3 has this, R4 to R8 the operands
+abbrev pub value_of_page_call : ℕ → ℕ → ℕ → ℕ → ℕ → ℕ → ℕ → Option ℕ
+value_of_page_call lpid ra gpa flags order code r =
     if r == 3 then Some code
     else if r == 4 then Some lpid
-    else if r == 5 then Some dest
+    else if r == 5 then Some ra
     else if r == 6 then Some gpa
     else if r == 7 then Some flags
     else if r == 8 then Some order
@@ -65,7 +65,8 @@ value_of_page_out lpid dest gpa flags order code r =
 
 -- the value that a command of a vCPU gives one of its registers
 abbrev pub assigned_by_command : Cmd → Answer → ℕ → Option ℕ
-assigned_by_command (UPageout lpid dest gpa flags order) (answer.Ret code) r = value_of_page_out lpid dest gpa flags order (number_of code) r
+assigned_by_command (UPagein lpid src gpa flags order) (answer.Ret code) r = value_of_page_call lpid src gpa flags order (number_of code) r
+assigned_by_command (UPageout lpid dest gpa flags order) (answer.Ret code) r = value_of_page_call lpid dest gpa flags order (number_of code) r
 assigned_by_command (UReturn r0 r2 outs) (answer.Ret code) r = loaded_value r0 r2 outs (number_of code) r
 assigned_by_command (GLi rd value) answer.Done r = if r == rd then Some value else None
 assigned_by_command (GLd rd gpa) (answer.Val value) r = if r == rd then Some value else None
@@ -85,6 +86,7 @@ decides_register plan lpid vid r past e = if touches_guest plan lpid e then assi
 abbrev pub IsCommand : Cmd → Type 0
 IsCommand (HLd ra) = Unit {0}
 IsCommand (HSt ra value) = value < 2 ^ 64
+IsCommand (UPagein lpid src gpa flags order) = Unit {0}
 IsCommand (UPageout lpid dest gpa flags order) = Unit {0}
 IsCommand (UReturn r0 r2 outs) = length outs ≡ 9
 IsCommand (GLi rd value) = rd < 32

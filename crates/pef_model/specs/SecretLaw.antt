@@ -1,11 +1,12 @@
 -- The law that the public state has no secret but what the sealed bytes of page-outs tell.
 use Rattle.std.specs.Prelude.{◌≡◌, ℕ, Bool, true, false, List, map}
+use Rattle.pef_model.specs.declared.state.Work.TheVariants.{Inward, Outward}
 use Rattle.pef_model.specs.declared.state.Ctx.{Ctx}
 use Rattle.pef_model.specs.declared.state.Ctx.TheVariants as ctx
 use Rattle.pef_model.specs.declared.command.Directive.{Directive}
 use Rattle.pef_model.specs.declared.command.Directive.TheVariants.{Once, GoAll}
 use Rattle.pef_model.specs.declared.command.Cmd.{Cmd}
-use Rattle.pef_model.specs.declared.command.Cmd.TheVariants.{HLd, HSt, UPageout, UReturn, GLi, GLd, GSt, GIrq, Go}
+use Rattle.pef_model.specs.declared.command.Cmd.TheVariants.{HLd, HSt, UPagein, UPageout, UReturn, GLi, GLd, GSt, GIrq, Go}
 use Rattle.pef_model.specs.declared.entry.Answer.{Answer}
 use Rattle.pef_model.specs.declared.entry.Answer.TheVariants as answer
 use Rattle.pef_model.specs.Plan.{Plan}
@@ -22,6 +23,7 @@ use Rattle.pef_model.specs.Memory.{next_pool, next_frame}
 abbrev pub open_cmd : Cmd → Cmd
 open_cmd (HLd ra) = HLd ra
 open_cmd (HSt ra value) = HSt ra value
+open_cmd (UPagein lpid src gpa flags order) = UPagein lpid src gpa flags order
 open_cmd (UPageout lpid dest gpa flags order) = UPageout lpid dest gpa flags order
 open_cmd (UReturn r0 r2 outs) = UReturn r0 r2 outs
 open_cmd (GLi rd value) = GLi rd 0
@@ -39,6 +41,12 @@ open_directive GoAll = GoAll
 abbrev pub is_sealing : Ctx → Cmd → Answer → Bool
 is_sealing ctx.Hv (UPageout lpid dest gpa flags order) answer.Step = true
 is_sealing before cmd a = false
+
+-- whether a step puts its bytes into the CPU's hand: the begin of a page-out, and the copy of a page-in
+abbrev pub takes_bytes : Ctx → Cmd → Answer → Bool
+takes_bytes (ctx.Uv (Inward move)) cmd answer.Step = true
+takes_bytes (ctx.Uv (Outward move)) cmd a = false
+takes_bytes before cmd a = is_sealing before cmd a
 
 -- a guest's answer without the value that it alone knows
 abbrev pub open_answer_of_guest : Answer → Answer

@@ -5,9 +5,9 @@ use Rattle.pef_model.specs.declared.state.Run.{Run}
 use Rattle.pef_model.specs.declared.state.Regs.{Regs}
 use Rattle.pef_model.specs.declared.state.Ctx.{Ctx}
 use Rattle.pef_model.specs.declared.state.Ctx.TheVariants as ctx
-use Rattle.pef_model.specs.declared.command.TheConstants.{UV_PAGE_OUT, UV_RETURN, EXTERNAL_INTERRUPT}
+use Rattle.pef_model.specs.declared.command.TheConstants.{UV_PAGE_IN, UV_PAGE_OUT, UV_RETURN, EXTERNAL_INTERRUPT}
 use Rattle.pef_model.specs.declared.command.Cmd.{Cmd}
-use Rattle.pef_model.specs.declared.command.Cmd.TheVariants.{HLd, UPageout, UReturn}
+use Rattle.pef_model.specs.declared.command.Cmd.TheVariants.{HLd, UPagein, UPageout, UReturn}
 use Rattle.pef_model.specs.declared.entry.Exit.TheVariants as exit
 use Rattle.pef_model.specs.declared.entry.Answer.{Answer}
 use Rattle.pef_model.specs.declared.entry.Answer.TheVariants as answer
@@ -16,8 +16,8 @@ use Rattle.pef_model.specs.Event.{Event}
 use Rattle.pef_model.specs.Registers.{number_of}
 use Rattle.pef_model.specs.View.{is_hypervisor}
 use Rattle.pef_model.specs.History.{cpu_after, guest_after, Extends}
-use Rattle.pef_model.specs.SearchLaw.{loaded_value, value_of_page_out, IsCommand}
-use Rattle.pef_model.specs.SecretLaw.{is_sealing}
+use Rattle.pef_model.specs.SearchLaw.{loaded_value, value_of_page_call, IsCommand}
+use Rattle.pef_model.specs.SecretLaw.{takes_bytes}
 
 -- whether the hypervisor keeps an answer as its last: it isn't Context, and the hypervisor ran before the step or runs after it
 abbrev pub is_kept : Ctx → Answer → Ctx → Bool
@@ -29,10 +29,10 @@ abbrev pub given_by_return : ℕ → ℕ → List ℕ → Answer → ℕ → Opt
 given_by_return r0 r2 outs (answer.Ret code) r = loaded_value r0 r2 outs (number_of code) r
 given_by_return r0 r2 outs a r = loaded_value r0 r2 outs UV_RETURN r
 
--- the value that UV_PAGE_OUT of the hypervisor gives one of its registers: R3 has the code where the call came back at once, and else its number
-abbrev pub given_by_page_out : ℕ → ℕ → ℕ → ℕ → ℕ → Answer → ℕ → Option ℕ
-given_by_page_out lpid dest gpa flags order (answer.Ret code) r = value_of_page_out lpid dest gpa flags order (number_of code) r
-given_by_page_out lpid dest gpa flags order a r = value_of_page_out lpid dest gpa flags order UV_PAGE_OUT r
+-- the value that a call which moves a page gives one of the hypervisor's registers: R3 has the code where the call came back at once, and else its number
+abbrev pub given_by_page_call : ℕ → ℕ → ℕ → ℕ → ℕ → ℕ → Answer → ℕ → Option ℕ
+given_by_page_call number lpid ra gpa flags order (answer.Ret code) r = value_of_page_call lpid ra gpa flags order (number_of code) r
+given_by_page_call number lpid ra gpa flags order a r = value_of_page_call lpid ra gpa flags order number r
 
 -- the value that a load of the hypervisor gives one of its registers: R3 has what was loaded
 abbrev pub given_by_load : Answer → ℕ → Option ℕ
@@ -42,7 +42,8 @@ given_by_load a r = None
 -- the value that a command of the hypervisor gives one of its registers: a load that was refused and a store give none
 abbrev pub given_by_command : Cmd → Answer → ℕ → Option ℕ
 given_by_command (HLd ra) a r = given_by_load a r
-given_by_command (UPageout lpid dest gpa flags order) a r = given_by_page_out lpid dest gpa flags order a r
+given_by_command (UPagein lpid src gpa flags order) a r = given_by_page_call UV_PAGE_IN lpid src gpa flags order a r
+given_by_command (UPageout lpid dest gpa flags order) a r = given_by_page_call UV_PAGE_OUT lpid dest gpa flags order a r
 given_by_command (UReturn r0 r2 outs) a r = given_by_return r0 r2 outs a r
 given_by_command cmd a r = None
 
@@ -79,6 +80,7 @@ selected_vid before a old = old
 
 -- what a step lets out: a guest's call that came back its operands, every other step nothing
 abbrev pub let_out : Ctx → Cmd → Answer → List ℕ
+let_out (ctx.Guest run) (UPagein lpid src gpa flags order) (answer.Ret code) = lpid ∷ src ∷ gpa ∷ flags ∷ order ∷ []
 let_out (ctx.Guest run) (UPageout lpid dest gpa flags order) (answer.Ret code) = lpid ∷ dest ∷ gpa ∷ flags ∷ order ∷ []
 let_out (ctx.Guest run) (UReturn r0 r2 outs) (answer.Ret code) = r0 ∷ r2 ∷ outs
 let_out before cmd a = []
@@ -97,8 +99,8 @@ pub record LeavesCpu (plan : Plan) (past : List Event) (e : Event) : Type 0 wher
   pub lpid : (cpu_after plan e.trace.cpu (e ∷ past)).lpid ≡ selected_lpid e.saw.before e.trace.answer (cpu_after plan e.trace.cpu past).lpid
   -- and so does the selected vCPU
   pub vid : (cpu_after plan e.trace.cpu (e ∷ past)).vid ≡ selected_vid e.saw.before e.trace.answer (cpu_after plan e.trace.cpu past).vid
-  -- the hand has the entry's bytes where a page-out begins, and else stays
-  pub hand : (cpu_after plan e.trace.cpu (e ∷ past)).hand ≡ (if is_sealing e.saw.before e.trace.cmd e.trace.answer then e.bytes else (cpu_after plan e.trace.cpu past).hand)
+  -- the hand has the entry's bytes where a page-out begins or a page-in copies, and else stays
+  pub hand : (cpu_after plan e.trace.cpu (e ∷ past)).hand ≡ (if takes_bytes e.saw.before e.trace.cmd e.trace.answer then e.bytes else (cpu_after plan e.trace.cpu past).hand)
   -- the entry shows what the step lets out
   pub shown : e.saw.shown ≡ let_out e.saw.before e.trace.cmd e.trace.answer
 

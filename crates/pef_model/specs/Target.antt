@@ -2,18 +2,23 @@
 use Rattle.std.specs.Prelude.{ℕ, ◌/◌, ◌%◌, ◌^◌, ◌==◌, nat_lt, nat_le, Bool, true, false, ◌&&◌, if◌then◌else◌, List, [], Option, Some, None, is_some}
 use Rattle.pef_model.specs.declared.state.Move.{Move}
 use Rattle.pef_model.specs.declared.state.Work.{Work}
-use Rattle.pef_model.specs.declared.state.Work.TheVariants.{Outward}
+use Rattle.pef_model.specs.declared.state.Work.TheVariants.{Inward, Outward}
 use Rattle.pef_model.specs.declared.state.Ctx.{Ctx}
 use Rattle.pef_model.specs.declared.state.Ctx.TheVariants as ctx
 use Rattle.pef_model.specs.declared.command.Cmd.{Cmd}
-use Rattle.pef_model.specs.declared.command.Cmd.TheVariants.{HLd, HSt, UPageout, UReturn, GLi, GLd, GSt, GIrq, Go}
+use Rattle.pef_model.specs.declared.command.Cmd.TheVariants.{HLd, HSt, UPagein, UPageout, UReturn, GLi, GLd, GSt, GIrq, Go}
 use Rattle.pef_model.specs.declared.entry.Answer.{Answer}
 use Rattle.pef_model.specs.Plan.{Plan}
 use Rattle.pef_model.specs.Event.{Event}
 
--- whether a step uses the page in its CPU's hand: those of a call in progress do
+-- whether the next step of a call in progress uses the page in its CPU's hand: those of a page-out do, and the end of a page-in
+abbrev pub work_uses_hand : Work → Bool
+work_uses_hand (Inward move) = move.copied
+work_uses_hand (Outward move) = true
+
+-- whether a step uses the page in its CPU's hand
 abbrev pub uses_hand : Ctx → Cmd → Bool
-uses_hand (ctx.Uv work) Go = true
+uses_hand (ctx.Uv work) Go = work_uses_hand work
 uses_hand before cmd = false
 
 -- what a step learns of its CPU: the context, the selected vCPU, the last answer, and the hand where it uses it
@@ -56,10 +61,11 @@ target_of_address plan ra = if has_real_place plan ra then AtFrame (frame_of pla
 abbrev pub target_of_number : Plan → ℕ → Target
 target_of_number plan lpid = if nat_le 1 lpid && nat_le lpid plan.guests then AtGuest lpid else Alone
 
--- in the hypervisor UV_RETURN aims at the selected guest, UV_PAGE_OUT at the one that it names, a load or store at its frame, and every other command at nothing
+-- in the hypervisor UV_RETURN aims at the selected guest, a page's move at the one that it names, a load or store at its frame, and every other command at nothing
 abbrev pub target_of_hypervisor : Plan → ℕ → Cmd → Target
 target_of_hypervisor plan lpid (HLd ra) = target_of_address plan ra
 target_of_hypervisor plan lpid (HSt ra value) = target_of_address plan ra
+target_of_hypervisor plan lpid (UPagein named src gpa flags order) = target_of_number plan named
 target_of_hypervisor plan lpid (UPageout named dest gpa flags order) = target_of_number plan named
 target_of_hypervisor plan lpid (UReturn r0 r2 outs) = AtGuest lpid
 target_of_hypervisor plan lpid (GLi rd value) = Alone
@@ -72,6 +78,7 @@ target_of_hypervisor plan lpid Go = Alone
 abbrev pub target_of_running : ℕ → Cmd → Target
 target_of_running lpid (HLd ra) = Alone
 target_of_running lpid (HSt ra value) = Alone
+target_of_running lpid (UPagein named src gpa flags order) = AtGuest lpid
 target_of_running lpid (UPageout named dest gpa flags order) = AtGuest lpid
 target_of_running lpid (UReturn r0 r2 outs) = AtGuest lpid
 target_of_running lpid (GLi rd value) = AtGuest lpid
@@ -80,21 +87,32 @@ target_of_running lpid (GSt rs gpa) = AtGuest lpid
 target_of_running lpid GIrq = AtGuest lpid
 target_of_running lpid Go = Alone
 
--- a page on the move outward aims at its normal frame until it is copied there, and then at its guest
-abbrev pub target_of_outward : Move → Target
-target_of_outward move = if move.copied then AtGuest move.lpid else AtFrame move.frame
+-- a page on the move aims at its normal frame until it is copied, and then at its guest
+abbrev pub target_of_move : Move → Target
+target_of_move move = if move.copied then AtGuest move.lpid else AtFrame move.frame
 
 -- the next step of a call in progress aims as its work says, and every other command at nothing
 abbrev pub target_of_work : Work → Cmd → Target
 target_of_work (Outward move) (HLd ra) = Alone
 target_of_work (Outward move) (HSt ra value) = Alone
+target_of_work (Outward move) (UPagein named src gpa flags order) = Alone
 target_of_work (Outward move) (UPageout named dest gpa flags order) = Alone
 target_of_work (Outward move) (UReturn r0 r2 outs) = Alone
 target_of_work (Outward move) (GLi rd value) = Alone
 target_of_work (Outward move) (GLd rd gpa) = Alone
 target_of_work (Outward move) (GSt rs gpa) = Alone
 target_of_work (Outward move) GIrq = Alone
-target_of_work (Outward move) Go = target_of_outward move
+target_of_work (Outward move) Go = target_of_move move
+target_of_work (Inward move) (HLd ra) = Alone
+target_of_work (Inward move) (HSt ra value) = Alone
+target_of_work (Inward move) (UPagein named src gpa flags order) = Alone
+target_of_work (Inward move) (UPageout named dest gpa flags order) = Alone
+target_of_work (Inward move) (UReturn r0 r2 outs) = Alone
+target_of_work (Inward move) (GLi rd value) = Alone
+target_of_work (Inward move) (GLd rd gpa) = Alone
+target_of_work (Inward move) (GSt rs gpa) = Alone
+target_of_work (Inward move) GIrq = Alone
+target_of_work (Inward move) Go = target_of_move move
 
 -- the target of a step
 abbrev pub target_in : Plan → Ctx → ℕ → Cmd → Target

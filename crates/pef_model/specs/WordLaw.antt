@@ -2,7 +2,7 @@
 use Rattle.std.specs.Prelude.{◌≡◌, true, [], ◌∷◌, codes, Option, Some, None}
 use Rattle.pef_model.specs.declared.config.Config.{Config}
 use Rattle.pef_model.specs.declared.command.Directive.TheVariants.{Once, GoAll}
-use Rattle.pef_model.specs.declared.command.Cmd.TheVariants.{UPageout, GLd, GIrq, Go}
+use Rattle.pef_model.specs.declared.command.Cmd.TheVariants.{UPagein, UPageout, GLd, GIrq, Go}
 use Rattle.pef_model.specs.Header.{born_one}
 use Rattle.pef_model.specs.Script.{Script, script_of}
 use Rattle.pef_model.specs.Words.{number_in, register_in}
@@ -100,8 +100,11 @@ pub record HeadersAtTheEdge : Type 0 where
   pub interrupt : script_of (codes "pef 1\ncpus 2\nborn 1\nbegin\n1 g.irq\n")
       ≡ Some (record { config = record born_one { cpus = 2 }; lines = record { number = 5; cpu = 1; directive = Once GIrq } ∷ [] })
 
--- a page-out with its five operands, and `go` and `go*` with none
+-- a page-in and a page-out with their five operands, and `go` and `go*` with none
 pub record CallsAtTheEdge : Type 0 where
+  pub page_in : script_of (codes "pef 1\nborn 1\nbegin\n0 u.pagein 1 0x100 0 0 8\n")
+      ≡ Some (record { config = born_one; lines = record { number = 4; cpu = 0; directive = Once (UPagein 1 256 0 0 8) } ∷ [] })
+  pub page_in_with_four : script_of (codes "pef 1\nborn 1\nbegin\n0 u.pagein 1 0x100 0 0\n") ≡ None
   pub page_out : script_of (codes "pef 1\nborn 1\nbegin\n0 u.pageout 1 0x100 0 0 8\n")
       ≡ Some (record { config = born_one; lines = record { number = 4; cpu = 0; directive = Once (UPageout 1 256 0 0 8) } ∷ [] })
   pub four_operands : script_of (codes "pef 1\nborn 1\nbegin\n0 u.pageout 1 0x100 0 0\n") ≡ None

@@ -5,11 +5,18 @@ ghost use Rattle.pef_model.specs.Registers.{number_of};
 
 use std::marker::Model;
 
+/// The number of the ultracall UV_PAGE_IN, which its caller puts into R3. This project's own.
+pub const UV_PAGE_IN: u64 = 4;
+
 /// The number of the ultracall UV_PAGE_OUT, which its caller puts into R3. This project's own.
 pub const UV_PAGE_OUT: u64 = 5;
 
 /// The number of the ultracall UV_RETURN, which its caller puts into R3. This project's own.
 pub const UV_RETURN: u64 = 8;
+
+/// The greatest flags of UV_PAGE_IN: the manual's CACHE_INHIBITED 1, CACHE_ENABLED 2 and WRITE_PROTECTION 4 are accepted and
+/// have no effect.
+pub const PAGE_IN_FLAGS: u64 = 7;
 
 /// The flag of UV_PAGE_OUT that asks for a copy of a page which stays. This project's own number.
 pub const UV_SNAPSHOT: u64 = 1;
@@ -114,6 +121,15 @@ pub enum Cmd {
     HSt {
         ra: u64,
         value: u64,
+    },
+    /// The ultracall UV_PAGE_IN: the page at a guest address, in bytes, of the guest of a number, from 1, comes in from the
+    /// normal frame at a real address, in bytes; the order is a page's size as a power of two.
+    UPagein {
+        lpid: u64,
+        src: u64,
+        gpa: u64,
+        flags: u64,
+        order: u64,
     },
     /// The ultracall UV_PAGE_OUT: the page at a guest address, in bytes, of the guest of a number, from 1, moves into the
     /// normal frame at a real address, in bytes; the order is a page's size as a power of two.

@@ -4,6 +4,7 @@
 pub mod command;
 pub mod config;
 pub mod entry;
+pub mod fresh_laws;
 pub mod grammar_laws;
 pub mod laws;
 pub mod move_laws;
@@ -11,7 +12,8 @@ pub mod state;
 pub mod step_laws;
 
 pub use command::{
-    Cmd, Code, Directive, EXTERNAL_INTERRUPT, Reg, UV_PAGE_OUT, UV_RETURN, UV_SNAPSHOT,
+    Cmd, Code, Directive, EXTERNAL_INTERRUPT, PAGE_IN_FLAGS, Reg, UV_PAGE_IN, UV_PAGE_OUT,
+    UV_RETURN, UV_SNAPSHOT,
 };
 pub use config::{Config, EntropyWord, EntropyWords, Lpids};
 pub use entry::{Answer, Entry, Exit, Exposed, History, PoolSaw, Saw, Trace};

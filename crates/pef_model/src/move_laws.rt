@@ -1,6 +1,6 @@
 //! The laws of pages on the move: each is the contract of a function that does nothing.
 
-ghost use Rattle.pef_model.specs.MoveLaw.{EachCpuMovesItsPage, EachMoverHasItsCall, EachPageKeepsWhatIsSealed, LastSealedIsBegun, VersionsCountPageOuts, PageOutSealsLastStore, PageHasEachDoubleword, PageHasItsLength, SealedPagesFill};
+ghost use Rattle.pef_model.specs.MoveLaw.{EachCpuMovesItsPage, EachCpuMovesItsPageIn, EachMoverHasItsCall, EachPageKeepsWhatIsSealed, LastSealedIsBegun, VersionsCountPageOuts, PageOutSealsLastStore, PageHasEachDoubleword, PageHasItsLength, SealedPagesFill};
 
 /// A CPU with a page-out in progress moves the page that its call names, and has in its hand what is pending of it.
 pub fn each_cpu_moves_its_page()
@@ -45,4 +45,9 @@ pub fn page_has_its_length()
 /// A configuration's sealed pages have as many bytes as its pages.
 pub fn sealed_pages_fill()
     ensures { SealedPagesFill }
+{}
+
+/// A CPU with a page-in in progress moves the page that its call names, which is still Out.
+pub fn each_cpu_moves_its_page_in()
+    ensures { EachCpuMovesItsPageIn }
 {}

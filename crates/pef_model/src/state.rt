@@ -118,6 +118,8 @@ pub struct Move {
 /// What is left to do of a call that a CPU has in progress.
 #[derive(Clone, Copy, Debug, PartialEq, Eq)]
 pub enum Work {
+    /// UV_PAGE_IN: the page moves into its secure frame.
+    Inward(Move),
     /// UV_PAGE_OUT: the page moves into normal memory.
     Outward(Move),
 }

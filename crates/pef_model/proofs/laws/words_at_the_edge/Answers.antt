@@ -85,6 +85,8 @@ returns c = record {
     interrupt = refl;
   };
   calls = record {
+    page_in = refl;
+    page_in_with_four = refl;
     page_out = refl;
     four_operands = refl;
     six_operands = refl;
