@@ -1,7 +1,7 @@
 -- A step does what its row of the model says, whatever guest and CPU of the model are shown before it.
 use Rattle.std.specs.Prelude.{◌≡◌, ℕ, List, []}
 use Rattle.pef_model.specs.declared.state.Move.{Move}
-use Rattle.pef_model.specs.declared.state.Work.TheVariants.{Outward}
+use Rattle.pef_model.specs.declared.state.Work.TheVariants.{Inward, Outward}
 use Rattle.pef_model.specs.declared.state.Ctx.TheVariants as ctx
 use Rattle.pef_model.specs.declared.state.Tag.{Tag}
 use Rattle.pef_model.specs.declared.entry.Answer.{Answer}
@@ -22,6 +22,14 @@ ask_hypervisor c = record { before = ctx.Hv; lpid = c.lpid; vid = c.vid; last = 
 -- what a step learns of a CPU of the model with a page-out in progress
 abbrev pub ask_outward : Move → CpuPart → Ask
 ask_outward move c = record { before = ctx.Uv (Outward move); lpid = c.lpid; vid = c.vid; last = c.last; hand = c.hand }
+
+-- what the copy of a page-in learns of its CPU: not the hand, which it writes
+abbrev pub ask_reading : Move → CpuPart → Ask
+ask_reading move c = record { before = ctx.Uv (Inward move); lpid = c.lpid; vid = c.vid; last = c.last; hand = [] }
+
+-- what the end of a page-in learns of its CPU
+abbrev pub ask_inward : Move → CpuPart → Ask
+ask_inward move c = record { before = ctx.Uv (Inward move); lpid = c.lpid; vid = c.vid; last = c.last; hand = c.hand }
 
 -- a step at a guest answers what its entry does, and leaves the guest and the CPU as the entry does
 pub record Row {S : Type 0} (stands : S → Tag → List ℕ → List ℕ → Type 0) (image : S → Tag → List ℕ → List ℕ) (plan : Plan) (g : GuestWhole) (c : CpuPart) (e : Event) (new : Guest S) (cpu : Cpu) (answer : Answer) : Type 0 where

@@ -1,5 +1,5 @@
 -- What a CPU and a guest show of the objects of the model.
-use Rattle.std.specs.Prelude.{◌≡◌, ℕ, ◌%◌, ◌<◌, List, length, Option, Some, None, option_map, slice_index_or, IsSome}
+use Rattle.std.specs.Prelude.{◌≡◌, ◌↔◌, ℕ, ◌%◌, ◌^◌, ◌<◌, List, length, Option, Some, None, option_map, slice_index_or, IsSome}
 use Rattle.sha2.specs.Sha256.{sha256}
 use Rattle.pef_model.specs.declared.state.Kind.TheVariants as kind
 use Rattle.pef_model.specs.declared.state.Digest32.{Digest32}
@@ -12,7 +12,7 @@ use Rattle.pef_model.specs.Doubleword.{doubleword}
 use Rattle.pef_model.specs.Cpu.{CpuPart}
 use Rattle.pef_model.specs.GuestPart.{Page, VcpuPart, page_of}
 use Rattle.pef_model.specs.PageOut.{tag_of, private_page}
-use Rattle.pef_model.specs.Guest.{Guest as GuestWhole}
+use Rattle.pef_model.specs.Guest.{Guest as GuestWhole, private_doubleword}
 use Rattle.pef_model.specs.Memory.{offset_of}
 use Rattle.pef_frames.specs.Frame.{FrameState}
 use Rattle.pef_pages.specs.declared.cell.Cell.{Cell}
@@ -91,8 +91,10 @@ module _ {S : Type 0} (stands : S → Tag → List ℕ → List ℕ → Type 0) 
     -- for that the sealer gives the page of the last stores, under the tag of its version
     pub stands_for : (gfn : ℕ) (sealed : List ℕ) → gfn < plan.pages → sealed_of (g.part.pages gfn) ≡ Some sealed →
         stands guest.sealer (tag_of g.part guest.lpid gfn (g.part.pages gfn).version) (private_page plan g gfn) sealed
-    -- a page on its way out has the bytes that are to be what was sealed of it
-    pub pendings : (gfn : ℕ) → gfn < plan.pages → way_of (mover_at guest.pages gfn) ≡ Some Outward → IsSome (g.part.pages gfn).pending
+    -- and each of the last stores there has 64 bits
+    pub words : (gpa : ℕ) (sealed : List ℕ) → gpa % 8 ≡ 0 → page_of plan gpa < plan.pages → sealed_of (g.part.pages (page_of plan gpa)) ≡ Some sealed → private_doubleword plan g gpa < 2 ^ 64
+    -- a page has the bytes that are to be what was sealed of it exactly where it is on its way out
+    pub pendings : (gfn : ℕ) → gfn < plan.pages → (way_of (mover_at guest.pages gfn) ≡ Some Outward) ↔ IsSome (g.part.pages gfn).pending
 
   -- a guest is that of the model, with what it keeps to itself
   pub record Shows (plan : Plan) (guest : Guest S) (g : GuestWhole) : Type 0 where

@@ -3,6 +3,7 @@
 ghost use Rattle.std.specs.Prelude.{◌≡◌, ◌≢◌, ◌↔◌, ℕ, List, length, replicate, IfOk};
 ghost use Rattle.pef_model.specs.declared.state.Tag.{Tag};
 
+use pef_frames::NormalFrame;
 use pef_model::Tag;
 use pef_seal::Seal;
 use std::alloc::{AllocError, Global};
@@ -36,6 +37,14 @@ impl Hand {
         ensures { result.now ≡ self.now }
     {
         &self.bytes
+    }
+
+    /// Takes what a normal frame holds.
+    pub fn take_copy(&mut self, frame: &NormalFrame)
+        requires { length frame.now ≡ length self.old }
+        ensures { self.new ≡ frame.now }
+    {
+        frame.copy_to(&mut self.bytes);
     }
 
     /// Takes the sealed page of a plain one, under a tag.

@@ -5,7 +5,7 @@ ghost use Rattle.pef_model.specs.Registers.{load_return, load_call, with_code, n
 ghost use Rattle.pef_model.specs.Guest.{at_next_instruction, entered_at};
 ghost use Rattle.pef_guest.specs.Loads.{LoadsCall};
 
-use pef_model::{Code, Reg, Regs, UV_PAGE_OUT, UV_RETURN};
+use pef_model::{Code, Reg, Regs, UV_PAGE_IN, UV_PAGE_OUT, UV_RETURN};
 
 /// Loads what a caller of UV_RETURN loads: the call's number into R3, its values into R0, R2 and R4 to R12.
 #[tactic(auto, using(crate::proofs::Loading::loads_call))]
@@ -17,6 +17,16 @@ pub fn load_return(gpr: &mut [u64; 32], r0: u64, r2: u64, outs: &[u64; 9])
     gpr[2] = r2;
     gpr[3] = UV_RETURN;
     gpr[4..13].copy_from_slice(outs);
+}
+
+/// Loads what a caller of UV_PAGE_IN loads: the call's number into R3, its operands into R4 to R8.
+#[tactic(auto, using(crate::proofs::Loading::loads_five))]
+pub fn load_page_in(gpr: &mut [u64; 32], operands: [u64; 5])
+    ensures gpr { gpr.new ≡ load_call gpr.old UV_PAGE_IN operands }
+    ensures rest { LoadsCall gpr.old gpr.new }
+{
+    gpr[3] = UV_PAGE_IN;
+    gpr[4..9].copy_from_slice(&operands);
 }
 
 /// Loads what a caller of UV_PAGE_OUT loads: the call's number into R3, its operands into R4 to R8.

@@ -4,6 +4,7 @@ ghost use Rattle.std.specs.Prelude.{◌≡◌, ◌<◌, IfOk};
 ghost use Rattle.pef_model.specs.Plan.{IsInRange};
 
 use super::*;
+use pef_frames::NormalFrame;
 use pef_model::{
     Answer, Code, Config, Ctx, Exit, Kind, Move, Pending, Phase, Reg, Regs, Run, Tag, VState, Work,
 };
@@ -191,6 +192,29 @@ fn a_hand_takes_a_sealed_page(rt: HostRuntime) -> Result<(), Fail> {
     assert_eq!(rt; hand.bytes(), want.as_slice());
     assert_ne!(rt; want, plain);
     Ok(())
+}
+
+#[test]
+fn a_hand_takes_a_copy_of_a_normal_frame(rt: HostRuntime) -> Result<(), Fail> {
+    let mut hand = Hand::build(rt.alloc(), 256)?;
+    let mut frame = NormalFrame::build(rt.alloc(), 256)?;
+    frame.copy_from(&[0x5a; 256]);
+    hand.take_copy(&frame);
+    assert_eq!(rt; hand.bytes(), [0x5a; 256].as_slice());
+    frame.copy_from(&[0; 256]);
+    assert_eq!(rt; hand.bytes(), [0x5a; 256].as_slice());
+    Ok(())
+}
+
+#[test]
+fn a_page_in_loads_its_operands(rt: HostRuntime) {
+    let mut gpr = registers_from(40);
+    registers::load_page_in(&mut gpr, [2, 0x300, 0x100, 7, 8]);
+    let want = [
+        40, 41, 42, 4, 2, 0x300, 0x100, 7, 8, 49, 50, 51, 52, 53, 54, 55, 56, 57, 58, 59, 60, 61,
+        62, 63, 64, 65, 66, 67, 68, 69, 70, 71,
+    ];
+    assert_eq!(rt; gpr, want);
 }
 
 #[test]

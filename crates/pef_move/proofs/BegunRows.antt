@@ -1,5 +1,5 @@
 -- The rows of UV_PAGE_OUT: a page begins to move, or the call comes back.
-use Rattle.std.proofs.Common.{◌≡◌, ℕ, ◌+◌, ◌/◌, ◌^◌, ◌<◌, ◌≤◌, Bool, false, if◌then◌else◌, List, Option, Some, None, refl, ap, sym, subst, ◌∙◌}
+use Rattle.std.proofs.Common.{◌≡◌, ℕ, ◌+◌, ◌/◌, ◌%◌, ◌^◌, ◌<◌, ◌≤◌, Bool, false, if◌then◌else◌, List, Option, Some, None, refl, ap, sym, subst, ◌∙◌}
 use Rattle.pef_model.specs.declared.state.Kind.{Kind}
 use Rattle.pef_model.specs.declared.state.Kind.TheVariants as kind
 use Rattle.pef_model.specs.declared.state.Ctx.TheVariants as ctx
@@ -22,8 +22,10 @@ use Rattle.pef_model.specs.Guest.{Guest as GuestWhole, private_doubleword}
 use Rattle.pef_model.specs.PageOut.{tag_of, private_page, sealed_page, page_out_code}
 use Rattle.pef_model.specs.Deed.{deed_page_out, deed_page_out_begin, returning}
 use Rattle.pef_model.specs.History.{entry_of}
+use Rattle.pef_model.specs.Memory.{offset_of}
+use Rattle.pef_num.proofs.PutBytes.{doubleword_fits}
 use Rattle.pef_pages.specs.declared.cell.Cell.TheVariants as cell
-use Rattle.pef_pages.specs.Cells.{kind_of, mover_of, frame_in}
+use Rattle.pef_pages.specs.Cells.{kind_of, mover_of, way_of, frame_in}
 use Rattle.pef_guest.specs.declared.cpu.Cpu.{Cpu}
 use Rattle.pef_guest.specs.declared.guest.Guest.{Guest}
 use Rattle.pef_guest.specs.Shows.{HoldsPage, ShowsCpu, Shows, kept_in, digest_by}
@@ -42,7 +44,7 @@ secure_is_there : (one : PagePart) → one.kind ≡ kind.Secure → is_invalid o
 secure_is_there one secure = ap (λ (k : Kind). is_invalid (record one { kind = k })) secure
 
 -- registers that were put where they were are as they were
-same_registers : (registers : ℕ → Regs) (at vid : ℕ) → put registers at (registers at) vid ≡ registers vid
+pub same_registers : (registers : ℕ → Regs) (at vid : ℕ) → put registers at (registers at) vid ≡ registers vid
 same_registers registers at = put_same registers at (registers at) (λ r. r) refl
 
 module _ {S : Type 0} (stands : S → Tag → List ℕ → List ℕ → Type 0) (image : S → Tag → List ℕ → List ℕ) (takes : S → ℕ → ℕ → Type 0) (plan : Plan) (g : GuestWhole) (c : CpuPart) (mark : Mark) (old : Guest S) (cpu : Cpu) (call : PageCall)
@@ -101,12 +103,20 @@ module _ {S : Type 0} (stands : S → Tag → List ℕ → List ℕ → Type 0) 
     holds : HoldsPage plan g route.gfn begun.frame
     holds = shows.pages.holds route.gfn begun.frame is.kind_is begun.there
 
+    -- the page isn't Invalid, so its doublewords are the last stores
+    last_store : (gpa : ℕ) → page_of plan gpa ≡ route.gfn → private_doubleword plan g gpa ≡ g.content gpa
+    last_store gpa at = ap (λ (b : Bool). if b then 0 else g.content gpa) (ap (λ (n : ℕ). is_invalid (g.part.pages n)) at ∙ secure_is_there (g.part.pages route.gfn) secure)
+
+    -- each doubleword of its frame has 64 bits
+    words : (gpa : ℕ) → gpa % 8 ≡ 0 → page_of plan gpa ≡ route.gfn → private_doubleword plan g gpa < 2 ^ 64
+    words gpa aligned at = subst (λ (value : ℕ). value < 2 ^ 64) (holds gpa aligned at ∙ sym (last_store gpa at)) (doubleword_fits begun.frame.bytes (offset_of plan gpa) begun.bytes)
+
     -- its frame has the page of the last stores
     plain : begun.frame.bytes ≡ private_page plan g route.gfn
     plain =
         page_bytes-is plan.shift route.gfn (private_doubleword plan g) begun.frame.bytes (subst (λ (shift : ℕ). 8 ≤ shift) shows.shift whole.shift.0)
         ((whole.frames route.gfn begun.frame begun.there).length_is ∙ ap (λ (shift : ℕ). 2 ^ shift) shows.shift) begun.bytes
-        (λ gpa aligned at. holds gpa aligned at ∙ sym (ap (λ (b : Bool). if b then 0 else g.content gpa) (ap (λ (n : ℕ). is_invalid (g.part.pages n)) at ∙ secure_is_there (g.part.pages route.gfn) secure)))
+        (λ gpa aligned at. holds gpa aligned at ∙ sym (last_store gpa at))
 
     -- the tag is the model's
     tag : next_tag (record old { steps = old.steps + 1 }) route.gfn ≡ tag_of g.part old.lpid route.gfn ((g.part.pages route.gfn).version + 1)
@@ -134,12 +144,13 @@ module _ {S : Type 0} (stands : S → Tag → List ℕ → List ℕ → Type 0) 
       mover_is = ap mover_of moves ∙ ap (λ (n : ℕ). Some (record { cpu = n; way = way.Outward })) (sym marked);
       version_is = ap (λ (n : ℕ). n + 1) (shows.sealed.versions route.gfn below);
       digest_is = ap kept_in moves ∙ ap (λ (bytes : List ℕ). Some (digest_by bytes)) hand_is;
-      pending_is = λ outward. refl;
+      pending_is = (λ outward. refl, λ pending. ap way_of (ap mover_of moves));
       order_is = shows.pages.order;
       invalid_is = refl;
       frame_is = λ frame k e. subst (HoldsPage plan g route.gfn) (let there = ap frame_in moves in let same : begun.frame ≡ frame = cc in same) holds;
       images = begun.same_image;
       stands_here = λ sealed e. subst (stands new.sealer (tag_of g.part old.lpid route.gfn ((g.part.pages route.gfn).version + 1)) (private_page plan g route.gfn)) (let same : cpu_new.hand ≡ sealed = (let h = hand_is in cc) in same) given_back;
+      words_here = λ sealed e. words;
       stands_there = λ one page sealed other. (begun.others one page sealed other).1;
     }
 

@@ -1,5 +1,5 @@
 -- A page that has moved outward: its guest stays whole, its frame is free, and the model's page is Out.
-use Rattle.std.proofs.Common.{◌≡◌, ℕ, ◌+◌, ◌<◌, ◌≤◌, ◌==◌, not, Bool, true, if◌then◌else◌, List, length, count_by, filter, Option, Some, None, IsSome, option_map, ◌⊎◌, inl, inr, arith, refl, ap, sym, subst, ◌∙◌}
+use Rattle.std.proofs.Common.{◌≡◌, ℕ, ◌+◌, ◌<◌, ◌≤◌, ◌==◌, not, Bool, true, false, if◌then◌else◌, List, length, count_by, filter, Option, Some, None, IsSome, option_map, ◌⊎◌, inl, inr, arith, refl, ap, sym, subst, ◌∙◌}
 use Rattle.std.proofs.lemmas.List.{get_or_past}
 use Rattle.std.proofs.lemmas.Bool.{cases_lt}
 use Rattle.std.proofs.lemmas.Bool.Decides.{nat_tests}
@@ -36,7 +36,7 @@ use Rattle.pef_pages.proofs.Frames.{frames-set}
 use Rattle.pef_guest.specs.declared.cpu.Cpu.{Cpu}
 use Rattle.pef_guest.specs.declared.guest.Guest.{Guest}
 use Rattle.pef_guest.specs.Keeps.{KeepsFrames, times_held}
-use Rattle.pef_guest.specs.Shows.{ShowsCpu, Shows, kept_in, first_there, digest_by}
+use Rattle.pef_guest.specs.Shows.{ShowsCpu, Shows, kept_in, first_there, sealed_of, digest_by}
 use Rattle.pef_guest.specs.Whole.{IsWhole}
 use Rattle.pef_guest.specs.Rows.{RowWithPool, ask_outward}
 use Rattle.pef_move.proofs.OnePage.{IsShownPage, shows_with}
@@ -48,7 +48,7 @@ pub record IsOnWay {F : Type 0} (c : Cell F) (frame : F) (cpu : ℕ) : Type 0 wh
   pub is : c ≡ cell.MovesOut frame cpu digest
 
 -- the CPU of a mover
-abbrev cpu_of : Option Mover → ℕ
+abbrev pub cpu_of : Option Mover → ℕ
 cpu_of None = 0
 cpu_of (Some mover) = mover.cpu
 
@@ -77,11 +77,11 @@ some_bytes None there = cc
 some_bytes (Some bytes) there = (bytes, refl)
 
 -- a page without a frame has none, and no mover
-no_frame : (F : Type 0) (digest : Option Digest32) → frame_in {F = F} (without_frame digest) ≡ None
+pub no_frame : (F : Type 0) (digest : Option Digest32) → frame_in {F = F} (without_frame digest) ≡ None
 no_frame F None = refl
 no_frame F (Some digest) = refl
 
-no_mover : (F : Type 0) (digest : Option Digest32) → mover_of {F = F} (without_frame digest) ≡ None
+pub no_mover : (F : Type 0) (digest : Option Digest32) → mover_of {F = F} (without_frame digest) ≡ None
 no_mover F None = refl
 no_mover F (Some digest) = refl
 
@@ -150,12 +150,13 @@ module _ {S : Type 0} (takes : S → ℕ → ℕ → Type 0) (old : Guest S) (cp
       mover_is = ap mover_of out;
       version_is = shows.sealed.versions gfn within;
       digest_is = ap kept_in out ∙ sym (ap (λ (one : Option (List ℕ)). option_map digest_by (first_there None one)) pending);
-      pending_is = λ outward. absurd (let none = ap mover_of out in cc);
+      pending_is = (λ outward. absurd (let none = ap mover_of out in cc), λ there. absurd (let no : false ≡ true = there in cc));
       order_is = ap (filter (λ n. not (n == gfn))) shows.pages.order;
       invalid_is = sym (ap (λ (k : Kind). is_invalid (record (g.part.pages gfn) { kind = k })) secure);
       frame_is = λ one k. absurd (let o = ap kind_of out in cc);
       images = refl;
       stands_here = λ sealed e. shows.sealed.stands_for gfn sealed within (ap (λ (one : Option (List ℕ)). first_there one (g.part.pages gfn).sealed) pending ∙ sym pending ∙ e);
+      words_here = λ sealed e gpa aligned at. shows.sealed.words gpa bytes aligned (subst (λ (n : ℕ). n < plan.pages) (sym at) within) (ap (λ (n : ℕ). sealed_of (g.part.pages n)) at ∙ ap (λ (one : Option (List ℕ)). first_there one (g.part.pages gfn).sealed) pending);
       stands_there = λ tag plain sealed other it. it;
     }
 

@@ -5,3 +5,9 @@ pub mod Wholes
 pub mod Begun
 pub mod BegunRows
 pub mod Ended
+pub mod CodesIn
+pub mod Coming
+pub mod ComingRows
+pub mod OnWayIn
+pub mod Come
+pub mod ComeRows

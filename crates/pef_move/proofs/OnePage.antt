@@ -1,5 +1,5 @@
 -- A guest of which one page changes: what it shows of the model's guest with that page changed.
-use Rattle.std.proofs.Common.{◌≡◌, ◌≢◌, ℕ, ◌<◌, ◌==◌, Bool, false, if◌then◌else◌, List, length, slice_set, Some, IsSome, option_map, ◌⊎◌, inl, inr, arith, ap, sym, subst, ◌∙◌}
+use Rattle.std.proofs.Common.{◌≡◌, ◌≢◌, ℕ, ◌%◌, ◌^◌, ◌<◌, ◌==◌, ◌↔◌, Bool, false, if◌then◌else◌, List, length, slice_set, Option, Some, IsSome, option_map, ◌⊎◌, inl, inr, arith, ap, sym, subst, ◌∙◌}
 use Rattle.std.proofs.lemmas.List.{length-set, get_or-set_same, get_or-set_other}
 use Rattle.std.proofs.lemmas.Bool.{cases_eq}
 use Rattle.std.proofs.lemmas.Bool.Decides.{nat_tests}
@@ -9,13 +9,13 @@ use Rattle.pef_model.specs.declared.state.Way.TheVariants.{Outward}
 use Rattle.pef_model.specs.declared.state.Regs.{Regs}
 use Rattle.pef_model.specs.Plan.{Plan}
 use Rattle.pef_model.specs.GuestPart.{Page as PagePart, page_of, is_invalid, put}
-use Rattle.pef_model.specs.Guest.{Guest as GuestWhole}
+use Rattle.pef_model.specs.Guest.{Guest as GuestWhole, private_doubleword}
 use Rattle.pef_model.specs.PageOut.{tag_of, page_bytes, private_page}
 use Rattle.pef_model.proofs.Folds.{same_test}
 use Rattle.pef_frames.specs.Frame.{FrameState}
 use Rattle.pef_pages.specs.declared.page.Page.{Page}
 use Rattle.pef_pages.specs.Cells.{kind_of, mover_of, way_of, frame_in}
-use Rattle.pef_pages.specs.Pages.{PagesState, invalid_page, page_at, with_page}
+use Rattle.pef_pages.specs.Pages.{PagesState, invalid_page, page_at, mover_at, with_page}
 use Rattle.pef_guest.specs.declared.guest.Guest.{Guest}
 use Rattle.pef_guest.specs.Shows.{HoldsPage, ShowsVcpu, vcpu_at, kept_in, sealed_of, digest_by, Shows}
 
@@ -63,13 +63,15 @@ module _ {S : Type 0} (stands : S → Tag → List ℕ → List ℕ → Type 0) 
     pub mover_is : mover_of page.cell ≡ part.mover
     pub version_is : page.version ≡ part.version
     pub digest_is : kept_in page.cell ≡ option_map digest_by (sealed_of part)
-    pub pending_is : way_of (mover_of page.cell) ≡ Some Outward → IsSome part.pending
+    pub pending_is : (way_of (mover_of page.cell) ≡ Some Outward) ↔ IsSome part.pending
     pub order_is : order ≡ order_part
     pub invalid_is : is_invalid part ≡ is_invalid (g.part.pages gfn)
     -- the frame of a Secure page is the one that it had
     pub frame_is : (frame : FrameState) → kind_of page.cell ≡ kind.Secure → frame_in page.cell ≡ Some frame → HoldsPage plan g gfn frame
     pub images : image sealer ≡ image old.sealer
     pub stands_here : (sealed : List ℕ) → sealed_of part ≡ Some sealed → stands sealer (tag_of g.part old.lpid gfn part.version) (private_page plan g gfn) sealed
+    -- each of its last stores has 64 bits
+    pub words_here : (sealed : List ℕ) → sealed_of part ≡ Some sealed → (gpa : ℕ) → gpa % 8 ≡ 0 → page_of plan gpa ≡ gfn → private_doubleword plan g gpa < 2 ^ 64
     pub stands_there : (tag : Tag) (plain sealed : List ℕ) → tag.gfn ≢ gfn → stands old.sealer tag plain sealed → stands sealer tag plain sealed
 
   module _ (shows : Shows stands image plan old g) (below : gfn < length old.pages.pages) (is : IsShownPage) (same : (vid : ℕ) → registers vid ≡ g.registers vid) where
@@ -83,7 +85,7 @@ module _ {S : Type 0} (stands : S → Tag → List ℕ → List ℕ → Type 0) 
       mover_is : n < plan.pages → mover_of one.cell ≡ (next.part.pages n).mover
       version_is : n < plan.pages → one.version ≡ (next.part.pages n).version
       digest_is : n < plan.pages → kept_in one.cell ≡ option_map digest_by (sealed_of (next.part.pages n))
-      pending_is : n < plan.pages → way_of (mover_of one.cell) ≡ Some Outward → IsSome (next.part.pages n).pending
+      pending_is : n < plan.pages → (way_of (mover_of one.cell) ≡ Some Outward) ↔ IsSome (next.part.pages n).pending
       holds : (frame : FrameState) → kind_of one.cell ≡ kind.Secure → frame_in one.cell ≡ Some frame → HoldsPage plan next n frame
       stands_for : (sealed : List ℕ) → n < plan.pages → sealed_of (next.part.pages n) ≡ Some sealed →
           stands sealer (tag_of next.part old.lpid n (next.part.pages n).version) (private_page plan next n) sealed
@@ -99,7 +101,7 @@ module _ {S : Type 0} (stands : S → Tag → List ℕ → List ℕ → Type 0) 
           mover_is = λ less. is.mover_is ∙ sym (ap (λ (p : PagePart). p.mover) put);
           version_is = λ less. is.version_is ∙ sym (ap (λ (p : PagePart). p.version) put);
           digest_is = λ less. is.digest_is ∙ sym (ap (λ (p : PagePart). option_map digest_by (sealed_of p)) put);
-          pending_is = λ less outward. subst IsSome (sym (ap (λ (p : PagePart). p.pending) put)) (is.pending_is outward);
+          pending_is = λ less. subst (λ (pending : Option (List ℕ)). (way_of (mover_of page.cell) ≡ Some Outward) ↔ IsSome pending) (sym (ap (λ (p : PagePart). p.pending) put)) is.pending_is;
           holds = is.frame_is;
           stands_for = λ sealed less e. rw (put, stays gfn) (is.stands_here sealed (sym (ap sealed_of put) ∙ e));
         }
@@ -112,10 +114,21 @@ module _ {S : Type 0} (stands : S → Tag → List ℕ → List ℕ → Type 0) 
           mover_is = λ less. shows.pages.movers n less ∙ sym (ap (λ (p : PagePart). p.mover) put);
           version_is = λ less. shows.sealed.versions n less ∙ sym (ap (λ (p : PagePart). p.version) put);
           digest_is = λ less. shows.sealed.digests n less ∙ sym (ap (λ (p : PagePart). option_map digest_by (sealed_of p)) put);
-          pending_is = λ less outward. subst IsSome (sym (ap (λ (p : PagePart). p.pending) put)) (shows.sealed.pendings n less outward);
+          pending_is = λ less. subst (λ (pending : Option (List ℕ)). (way_of (mover_at old.pages n) ≡ Some Outward) ↔ IsSome pending) (sym (ap (λ (p : PagePart). p.pending) put)) (shows.sealed.pendings n less);
           holds = shows.pages.holds n;
           stands_for = λ sealed less e. rw (put, stays n) (is.stands_there (tag_of g.part old.lpid n (g.part.pages n).version) (private_page plan g n) sealed other (shows.sealed.stands_for n sealed less (sym (ap sealed_of put) ∙ e)));
         }
+
+    -- the model's doublewords are as before
+    same_doubleword : (gpa : ℕ) → private_doubleword plan next gpa ≡ private_doubleword plan g gpa
+    same_doubleword gpa = ap (λ (none : Bool). if none then 0 else g.content gpa) (put_same g.part.pages gfn part is_invalid is.invalid_is (page_of plan gpa))
+
+    -- so each last store of a page of which something is sealed has 64 bits
+    words : (gpa : ℕ) (sealed : List ℕ) → gpa % 8 ≡ 0 → page_of plan gpa < plan.pages → sealed_of (next.part.pages (page_of plan gpa)) ≡ Some sealed → private_doubleword plan next gpa < 2 ^ 64
+    words gpa sealed aligned less e = subst (λ (value : ℕ). value < 2 ^ 64) (sym (same_doubleword gpa)) (by_case (cases_eq (page_of plan gpa) gfn)) where
+      by_case : (page_of plan gpa ≡ gfn) ⊎ (page_of plan gpa ≢ gfn) → private_doubleword plan g gpa < 2 ^ 64
+      by_case (inl at) = is.words_here sealed (sym (ap sealed_of (ap next.part.pages at ∙ put_here g.part.pages gfn part)) ∙ e) gpa aligned at
+      by_case (inr other) = shows.sealed.words gpa sealed aligned less (sym (ap sealed_of (put_there g.part.pages gfn part (page_of plan gpa) other)) ∙ e)
 
     each : (n : ℕ) → Fits n (page_at (with_page old.pages gfn page) n)
     each = each_with_page Fits old.pages gfn page below here there
@@ -139,6 +152,7 @@ module _ {S : Type 0} (stands : S → Tag → List ℕ → List ℕ → Type 0) 
         versions = λ n. (each n).version_is;
         digests = λ n. (each n).digest_is;
         stands_for = λ n sealed. (each n).stands_for sealed;
+        words = words;
         pendings = λ n. (each n).pending_is;
       };
       count = shows.count;
@@ -155,7 +169,7 @@ shows_counted stands image plan old g steps registers shows same = record {
   phase = shows.phase;
   generation = shows.generation;
   pages = record { count = shows.pages.count; kinds = shows.pages.kinds; movers = shows.pages.movers; order = shows.pages.order; holds = shows.pages.holds };
-  sealed = record { images = shows.sealed.images; versions = shows.sealed.versions; digests = shows.sealed.digests; stands_for = shows.sealed.stands_for; pendings = shows.sealed.pendings };
+  sealed = record { images = shows.sealed.images; versions = shows.sealed.versions; digests = shows.sealed.digests; stands_for = shows.sealed.stands_for; words = shows.sealed.words; pendings = shows.sealed.pendings };
   count = shows.count;
   vcpus = λ vid less. subst (ShowsVcpu (vcpu_at old vid) (g.part.vcpus vid)) (sym (same vid)) (shows.vcpus vid less);
 }

@@ -1,2 +1,4 @@
 pub mod PageOut
 pub mod Route
+pub mod PageIn
+pub mod Unseal

@@ -1,12 +1,12 @@
 -- The steps of a page-out do what their rows of the model say, whatever guest, CPU and frame of the model are shown.
-use Rattle.std.specs.Prelude.{◌≡◌, ℕ, ◌<◌, List, length, Some}
+use Rattle.std.specs.Prelude.{◌≡◌, ◌≢◌, ℕ, ◌<◌, false, List, length, Some}
 use Rattle.pef_model.specs.declared.state.Ctx.{Ctx}
 use Rattle.pef_model.specs.declared.state.Ctx.TheVariants as ctx
 use Rattle.pef_model.specs.declared.state.Way.TheVariants.{Outward as IsOutward}
 use Rattle.pef_model.specs.declared.state.Move.{Move}
 use Rattle.pef_model.specs.declared.state.Work.TheVariants.{Outward}
 use Rattle.pef_model.specs.declared.state.Tag.{Tag}
-use Rattle.pef_model.specs.declared.command.Code.TheVariants.{USuccess}
+use Rattle.pef_model.specs.declared.command.Code.TheVariants.{UParameter}
 use Rattle.pef_model.specs.declared.command.Cmd.TheVariants.{UPageout, Go}
 use Rattle.pef_model.specs.declared.entry.Answer.{Answer}
 use Rattle.pef_model.specs.declared.entry.Answer.TheVariants as answer
@@ -33,12 +33,13 @@ pub record IsBegun {S : Type 0} (guest : Guest S) (cpu : Cpu) (move : Move) : Ty
   pub generation : move.generation ≡ guest.generation
   pub mover : mover_at guest.pages move.gfn ≡ Some (record { cpu = cpu.number; way = IsOutward })
   pub frame : move.frame < guest.normal
+  pub copied : move.copied ≡ false
 
 -- a context after UV_PAGE_OUT: the hypervisor runs, or a page is on its way out
-abbrev pub Leaves : {S : Type 0} → Guest S → Cpu → Ctx → Type 0
-Leaves guest cpu ctx.Hv = Unit {0}
-Leaves guest cpu (ctx.Uv (Outward move)) = IsBegun guest cpu move
-Leaves guest cpu (ctx.Guest run) = ⊥
+abbrev pub BeginsOrBack : {S : Type 0} → Guest S → Cpu → Ctx → Type 0
+BeginsOrBack guest cpu ctx.Hv = Unit {0}
+BeginsOrBack guest cpu (ctx.Uv (Outward move)) = IsBegun guest cpu move
+BeginsOrBack guest cpu other = ⊥
 
 -- what UV_PAGE_OUT keeps of a CPU
 pub record KeepsCpu (old new : Cpu) : Type 0 where
@@ -74,20 +75,21 @@ CopiesPageOut move cpu cpu_new frame frame_new answer =
     (plan : Plan) (c : CpuPart) (mark : Mark) (n : ℕ) → ShowsCpu cpu c →
     RowCopy plan c (entry_of (ask_outward move c) mark Go (deed_page_out_copy move n (ask_outward move c))) cpu_new frame frame_new answer
 
--- a page whose move is of the guest's generation is moved by the CPU, and the pool has room for its frame
-abbrev pub IsReady : {S : Type 0} → Guest S → Cpu → PoolState → Move → Type 0
-IsReady guest cpu pool move =
-    move.generation ≡ guest.generation → (mover_at guest.pages move.gfn ≡ Some (record { cpu = cpu.number; way = IsOutward })) × (length pool.free < pool.count)
-
 -- a call in progress comes back with a code: of its CPU the context, R3 and the last answer change
 abbrev pub ComesBackWith : Cpu → Cpu → Answer → Type 0
 ComesBackWith old new (answer.Ret code) = new ≡ record old { ctx = ctx.Hv; gpr = with_code old.gpr code; last = answer.Ret code }
 ComesBackWith old new other = ⊥
 
--- an end under an older generation changes the CPU alone, and counts of steps
-abbrev pub EndsOld : {S : Type 0} → Guest S → Guest S → PoolState → PoolState → Answer → Type 0
-EndsOld old new pool pool_new (answer.Ret USuccess) = Unit {0}
-EndsOld old new pool pool_new other = SameGuest old new × (pool_new ≡ pool)
+-- a page whose move is of the guest's generation is moved by the CPU, and the pool has room for its frame
+abbrev pub IsReady : {S : Type 0} → Guest S → Cpu → PoolState → Move → Type 0
+IsReady guest cpu pool move =
+    move.generation ≡ guest.generation → (mover_at guest.pages move.gfn ≡ Some (record { cpu = cpu.number; way = IsOutward })) × (length pool.free < pool.count)
+
+-- an end under another generation comes back with U_PARAMETER, and changes the CPU alone, and a count of steps
+abbrev pub EndsOld : {S : Type 0} → Move → Guest S → Guest S → Cpu → Cpu → PoolState → PoolState → Answer → Type 0
+EndsOld move old new cpu cpu_new pool pool_new a =
+    move.generation ≢ old.generation →
+    (a ≡ answer.Ret UParameter) × (cpu_new ≡ record cpu { ctx = ctx.Hv; gpr = with_code cpu.gpr UParameter; last = answer.Ret UParameter }) × SameGuest old new × (pool_new ≡ pool)
 
 -- the end of a page-out
 abbrev pub EndsPageOut : {S : Type 0} → (S → Tag → List ℕ → List ℕ → Type 0) → (S → Tag → List ℕ → List ℕ) → Move → Guest S → Guest S → Cpu → Cpu → PoolState → PoolState → Answer → Type 0

@@ -1,4 +1,4 @@
--- What a page-out is to move, and what its begin does.
+-- What a call is to move, and what the begin of a page-out does.
 use Rattle.std.specs.Prelude.{◌≡◌, ◌≢◌, ◌↔◌, ℕ, ◌+◌, ◌-◌, ◌/◌, ◌^◌, ◌<◌, false, List, length, Option, Some, None, Result, Ok, Err}
 use Rattle.pef_model.specs.declared.state.Phase.TheVariants as phase
 use Rattle.pef_model.specs.declared.state.Kind.TheVariants as kind
@@ -12,6 +12,7 @@ use Rattle.pef_model.specs.Plan.{Plan}
 use Rattle.pef_model.specs.GuestPart.{Page as PagePart, GuestPart, new_vcpu}
 use Rattle.pef_pages.specs.declared.page.Page.{Page}
 use Rattle.pef_model.specs.PageOut.{page_out_code}
+use Rattle.pef_model.specs.PageIn.{page_in_operands}
 use Rattle.pef_num.specs.DoublewordLaw.{AreBytes}
 use Rattle.pef_frames.specs.Frame.{FrameState}
 use Rattle.pef_pages.specs.Cells.{begun_out}
@@ -69,6 +70,19 @@ module _ {S : Type 0} where
     pub kind_is : kind_at guest.pages route.gfn ≡ kind.Secure
     pub rests : mover_at guest.pages route.gfn ≡ None
     pub phase_is : guest.phase ≡ phase.Secure
+
+  -- the code with which UV_PAGE_IN comes back by its operands, by what the guest knows
+  abbrev pub operands_for : Guest S → PageCall → Option Code
+  operands_for guest call = page_in_operands (plan_by guest) (part_by guest) call.ra call.gpa call.flags call.order
+
+  -- a page is Out and at rest, and the frame is a normal one
+  pub record IsRouteIn (guest : Guest S) (call : PageCall) (route : Route) : Type 0 where
+    pub gfn_is : route.gfn ≡ call.gpa / 2 ^ guest.shift
+    pub frame_is : route.frame ≡ call.ra / 2 ^ guest.shift
+    pub below : route.gfn < length guest.pages.pages
+    pub normal : route.frame < guest.normal
+    pub kind_is : kind_at guest.pages route.gfn ≡ kind.Out
+    pub rests : mover_at guest.pages route.gfn ≡ None
 
   -- a page can be sealed into a hand, and begin to move
   pub record CanBegin (takes : S → ℕ → ℕ → Type 0) (guest : Guest S) (hand : List ℕ) (gfn : ℕ) : Type 0 where

@@ -2,10 +2,14 @@
 #![tactic(auto)]
 
 mod page_call;
+mod page_in;
 mod page_out;
 mod route;
 #[cfg(test)]
 mod tests;
+#[cfg(test)]
+mod tests_in;
 
 pub use page_call::PageCall;
+pub use page_in::{page_in_begin, page_in_copy, page_in_end, page_in_of_none};
 pub use page_out::{page_out_begin, page_out_copy, page_out_end, page_out_of_none};

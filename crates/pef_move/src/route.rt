@@ -3,16 +3,17 @@
 ghost use Rattle.std.specs.Prelude.{◌≡◌, ◌==◌, ◌&&◌, ◌/◌, ◌%◌, ◌^◌, ◌<◌, nat_lt, if◌then◌else◌, length, IfOk, IfSome};
 ghost use Rattle.pef_model.specs.Plan.{IsWithin};
 ghost use Rattle.pef_model.specs.PageOut.{may_page_out_in, has_page, can_go_out, is_shared};
+ghost use Rattle.pef_model.specs.PageIn.{may_page_in_in, can_come_in};
 ghost use Rattle.pef_pages.specs.Pages.{kind_at};
-ghost use Rattle.pef_move.specs.Route.{plan_by, code_for, code_of, IsRoute};
+ghost use Rattle.pef_move.specs.Route.{plan_by, code_for, operands_for, code_of, IsRoute, IsRouteIn};
 
 use crate::page_call::PageCall;
 use pef_guest::Guest;
-use pef_model::{Code, Kind, Phase, UV_SNAPSHOT};
+use pef_model::{Code, Kind, PAGE_IN_FLAGS, Phase, UV_SNAPSHOT};
 use pef_num::frame_of;
 use pef_seal::Seal;
 
-/// What a page-out moves: the page, and the normal frame into which it goes.
+/// What a call moves: the page, and the normal frame into which it goes, or from which it comes.
 #[derive(Clone, Copy)]
 pub(crate) struct Route {
     /// The page's number, from 0.
@@ -53,9 +54,37 @@ pub(crate) fn route_of<S: Seal>(guest: &Guest<S>, call: &PageCall) -> Result<Rou
     Ok(Route { gfn, frame })
 }
 
-/// Whether UV_PAGE_OUT is for a guest in this phase: one that is Starting or Secure.
+/// What a page-in is to move, or the code with which the call comes back by its operands.
+pub(crate) fn route_in<S: Seal>(guest: &Guest<S>, call: &PageCall) -> Result<Route, Code>
+    requires { IsWithin 8 16 guest.now.shift }
+    ensures code { code_of result ≡ operands_for guest.now call.now }
+    ensures route { IfOk result (IsRouteIn guest.now call.now) }
+{
+    if !is_for(guest.phase) {
+        return Err(Code::UParameter);
+    }
+    let Some(frame) = frame_below(call.ra, guest.shift, guest.normal) else {
+        return Err(Code::UP2);
+    };
+    let Some(gfn) = page_to_come_in(guest, call.gpa) else {
+        return Err(Code::UP3);
+    };
+    if call.flags > PAGE_IN_FLAGS {
+        return Err(Code::UP4);
+    }
+    if call.order != u64::from(guest.shift) {
+        return Err(Code::UP5);
+    }
+    if guest.pages.mover(gfn).is_some() {
+        return Err(Code::UBusy);
+    }
+    Ok(Route { gfn, frame })
+}
+
+/// Whether a call that moves a page is for a guest in this phase: one that is Starting or Secure.
 fn is_for(phase: Phase) -> bool
-    ensures { result ≡ may_page_out_in phase }
+    ensures out { result ≡ may_page_out_in phase }
+    ensures inward { result ≡ may_page_in_in phase }
 {
     match phase {
         Phase::Starting | Phase::Secure => true,
@@ -82,6 +111,26 @@ fn page_to_go_out<S: Seal>(guest: &Guest<S>, gpa: u64) -> Option<u32>
 {
     let gfn = frame_below(gpa, guest.shift, guest.pages.count())?;
     can_go_out(guest.pages.kind(gfn)).then_some(gfn)
+}
+
+/// The page that begins at a guest address, where there is one that is Out.
+fn page_to_come_in<S: Seal>(guest: &Guest<S>, gpa: u64) -> Option<u32>
+    requires { IsWithin 8 16 guest.now.shift }
+    ensures number { result ≡ (if has_page (plan_by guest.now) gpa && can_come_in (kind_at guest.now.pages (gpa / 2 ^ guest.now.shift)) then Some (gpa / 2 ^ guest.now.shift) else None) }
+    ensures below { IfSome result (λ gfn. gfn < length guest.now.pages.pages) }
+{
+    let gfn = frame_below(gpa, guest.shift, guest.pages.count())?;
+    can_come_in(guest.pages.kind(gfn)).then_some(gfn)
+}
+
+/// Whether a page of this kind can come in: it is Out.
+fn can_come_in(kind: Kind) -> bool
+    ensures { result ≡ can_come_in kind }
+{
+    match kind {
+        Kind::Out => true,
+        Kind::Invalid | Kind::Secure | Kind::Shared { .. } => false,
+    }
 }
 
 /// Whether a page of this kind can go out, or need not: it is neither Invalid nor Out.

@@ -63,7 +63,11 @@ fn config(alloc: Global) -> Result<Config, AllocError>
 }
 
 // Guest 2 in a phase: page 0 is Secure and zero, page 1 is Shared, page 2 is Invalid.
-fn guest_in(alloc: Global, pool: &mut Pool, phase: Phase) -> Result<Guest<StreamSeal>, AllocError>
+pub(crate) fn guest_in(
+    alloc: Global,
+    pool: &mut Pool,
+    phase: Phase,
+) -> Result<Guest<StreamSeal>, AllocError>
     requires phase { IsOutside phase → ⊥ }
     requires pool { pool.old ≡ full_pool 4 256 }
     ensures whole { IfOk result (IsWhole ⟦<StreamSeal as Seal>⟧.takes) }
@@ -89,11 +93,12 @@ fn guest_in(alloc: Global, pool: &mut Pool, phase: Phase) -> Result<Guest<Stream
 }
 
 // Guest 2 in a phase in which nothing is private.
-fn guest_outside(alloc: Global, phase: Phase) -> Result<Guest<StreamSeal>, AllocError>
+pub(crate) fn guest_outside(alloc: Global, phase: Phase) -> Result<Guest<StreamSeal>, AllocError>
     requires phase { IsOutside phase }
     ensures whole { IfOk result (IsWhole ⟦<StreamSeal as Seal>⟧.takes) }
     ensures lpid { IfOk result (λ guest. guest.lpid ≡ 2) }
     ensures shift { IfOk result (λ guest. guest.shift ≡ 8) }
+    ensures secure { IfOk result (λ guest. guest.secure ≡ 4) }
     ensures steps { IfOk result (λ guest. guest.steps ≡ 0) }
     ensures pages { IfOk result (λ guest. length guest.pages.pages ≡ 3) }
 {
@@ -103,8 +108,8 @@ fn guest_outside(alloc: Global, phase: Phase) -> Result<Guest<StreamSeal>, Alloc
     Ok(guest)
 }
 
-// UV_PAGE_OUT of guest 2, to the normal frame at 0x300.
-fn call(gpa: u64) -> PageCall
+// A call on a page of guest 2, and the normal frame at 0x300.
+pub(crate) fn call(gpa: u64) -> PageCall
     ensures { result.lpid ≡ 2 }
 {
     PageCall {
@@ -117,12 +122,12 @@ fn call(gpa: u64) -> PageCall
 }
 
 // The page-out that a CPU has in progress.
-fn outward_of(cpu: &Cpu) -> Option<Move>
+pub(crate) fn outward_of(cpu: &Cpu) -> Option<Move>
     ensures { IfSome result (λ outward. cpu.now.ctx ≡ Ctx.Uv (Work.Outward outward)) }
 {
     match cpu.ctx {
         Ctx::Uv(Work::Outward(outward)) => Some(outward),
-        Ctx::Hv | Ctx::Guest(_) => None,
+        Ctx::Hv | Ctx::Uv(Work::Inward(_)) | Ctx::Guest(_) => None,
     }
 }
 

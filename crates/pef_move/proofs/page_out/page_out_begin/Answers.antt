@@ -2,7 +2,7 @@ use Rattle.std.proofs.Common.{◌≡◌, ℕ, List, [], ◌∷◌, ap, ◌∙◌
 use Rattle.pef_model.specs.declared.command.TheConstants.{UV_PAGE_OUT}
 use Rattle.pef_model.specs.Registers.{load_call, load_page_out}
 use Rattle.pef_move.specs.declared.page_call.PageCall.{PageCall}
-use Rattle.pef_move.proofs.Begun.{whole, keeps, frames, movers, leaves}
+use Rattle.pef_move.proofs.Begun.{whole, keeps, frames, movers, leaves, sealers}
 use Rattle.pef_move.proofs.BegunRows.{row_refused, row_begun}
 use Rattle.pef_move.proofs.page_out.page_out_begin.Goals as goal
 
@@ -25,6 +25,9 @@ returns-in-Ok-clause-movers g c = movers g.S.Seal.stands g.S.Seal.image g.S.Seal
 
 pub returns-in-Ok-clause-leaves : goal.returns-in-Ok-clause-leaves
 returns-in-Ok-clause-leaves g c = leaves g.S.Seal.stands g.S.Seal.image g.S.Seal.takes c.args.guest.now c.begin.new.guest c.args.cpu.now c.begin.new.cpu c.load_page_out.new.gpr c.args.call.now c.in-Ok.route c.in-Ok.ensures.route c.begin.ensures.begun
+
+pub returns-in-Ok-clause-sealer : goal.returns-in-Ok-clause-sealer
+returns-in-Ok-clause-sealer g c = sealers g.S.Seal.stands g.S.Seal.image g.S.Seal.takes c.args.guest.now c.begin.new.guest c.args.cpu.now c.begin.new.cpu c.load_page_out.new.gpr c.args.call.now c.in-Ok.route c.in-Ok.ensures.route c.begin.ensures.begun
 
 -- The code is the model's, and what is sealed is what the model seals.
 pub returns-in-Ok-clause-row : goal.returns-in-Ok-clause-row

@@ -24,7 +24,7 @@ pub returns-clause-row : goal.returns-clause-row
 returns-clause-row g c plan whole part mark shows shows_cpu =
     let moves = (c.requires.ready c.if-outward-guest.false).0 in
     let below = moving_below c.args.guest.now.pages c.args.outward.gfn _ moves in
-    let pending = some_bytes (whole.part.pages c.args.outward.gfn).pending (shows.sealed.pendings c.args.outward.gfn (subst (λ (count : ℕ). c.args.outward.gfn < count) shows.pages.count below) (ap way_of moves)) in
+    let pending = some_bytes (whole.part.pages c.args.outward.gfn).pending ((shows.sealed.pendings c.args.outward.gfn (subst (λ (count : ℕ). c.args.outward.gfn < count) shows.pages.count below)).0 (ap way_of moves)) in
     rw (c.end_out-frame.ensures.pages, c.give.ensures, c.come_back-2.ensures.answer, c.come_back-2.ensures.cpu)
     (row_ended g.S.Seal.takes c.args.guest.now c.args.cpu.now c.args.outward c.end_out-frame.result (moving_below c.args.guest.now.pages c.args.outward.gfn _ moves) moves c.end_out-frame.ensures.frame
     g.S.Seal.stands g.S.Seal.image plan whole shows pending.0 pending.1 part mark c.args.pool.now shows_cpu c.if-outward-guest.false)

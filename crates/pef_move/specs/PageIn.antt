@@ -1,0 +1,100 @@
+-- The steps of a page-in do what their rows of the model say, whatever guest, CPU and frame of the model are shown, but for a digest collision.
+use Rattle.std.specs.Prelude.{◌≡◌, ◌≢◌, ℕ, ◌<◌, nat_lt, false, List, length, Some}
+use Rattle.pef_model.specs.declared.state.Ctx.{Ctx}
+use Rattle.pef_model.specs.declared.state.Ctx.TheVariants as ctx
+use Rattle.pef_model.specs.declared.state.Way.TheVariants.{Inward as IsInward}
+use Rattle.pef_model.specs.declared.state.Move.{Move}
+use Rattle.pef_model.specs.declared.state.Work.TheVariants.{Inward}
+use Rattle.pef_model.specs.declared.state.Tag.{Tag}
+use Rattle.pef_model.specs.declared.command.Code.TheVariants.{UParameter, UP2}
+use Rattle.pef_model.specs.declared.command.Cmd.TheVariants.{UPagein, Go}
+use Rattle.pef_model.specs.declared.entry.Answer.{Answer}
+use Rattle.pef_model.specs.declared.entry.Answer.TheVariants as answer
+use Rattle.pef_model.specs.Plan.{Plan}
+use Rattle.pef_model.specs.Event.{Event, Mark}
+use Rattle.pef_model.specs.Registers.{load_page_in, with_code}
+use Rattle.pef_model.specs.Cpu.{CpuPart, next_cpu}
+use Rattle.pef_model.specs.Guest.{Guest as GuestWhole}
+use Rattle.pef_model.specs.Deed.{deed_page_in, deed_page_in_copy, deed_page_in_end}
+use Rattle.pef_model.specs.History.{entry_of}
+use Rattle.pef_model.specs.Sound.{collides_with}
+use Rattle.pef_frames.specs.Frame.{FrameState}
+use Rattle.pef_frames.specs.Pool.{PoolState, with_free}
+use Rattle.pef_pages.specs.Pages.{mover_at, frame_at, kind_at, digest_at, ended_in}
+use Rattle.pef_guest.specs.declared.cpu.Cpu.{Cpu}
+use Rattle.pef_guest.specs.declared.guest.Guest.{Guest}
+use Rattle.pef_guest.specs.Shows.{ShowsCpu, Shows}
+use Rattle.pef_guest.specs.Refused.{RefusesCpu, SameGuest}
+use Rattle.pef_guest.specs.Rows.{RowWithPool, ask_hypervisor, ask_reading, ask_inward}
+use Rattle.pef_move.specs.declared.page_call.PageCall.{PageCall}
+
+-- a page is on its way in by a CPU, from a normal frame of the machine, and not copied yet
+pub record IsComing {S : Type 0} (guest : Guest S) (cpu : Cpu) (move : Move) : Type 0 where
+  pub lpid : move.lpid ≡ guest.lpid
+  pub generation : move.generation ≡ guest.generation
+  pub mover : mover_at guest.pages move.gfn ≡ Some (record { cpu = cpu.number; way = IsInward })
+  pub frame : move.frame < guest.normal
+  pub copied : move.copied ≡ false
+
+-- a context after UV_PAGE_IN: the hypervisor runs, or a page is on its way in
+abbrev pub ComesOrBack : {S : Type 0} → Guest S → Cpu → Ctx → Type 0
+ComesOrBack guest cpu ctx.Hv = Unit {0}
+ComesOrBack guest cpu (ctx.Uv (Inward move)) = IsComing guest cpu move
+ComesOrBack guest cpu other = ⊥
+
+-- a call that comes back at once changes its caller's registers and last answer, and nothing else but a count of steps
+abbrev pub RefusesPageIn : {S : Type 0} → PageCall → Guest S → Guest S → Cpu → Cpu → PoolState → PoolState → Answer → Type 0
+RefusesPageIn call old new cpu cpu_new pool pool_new (answer.Ret code) =
+    (cpu_new ≡ record cpu { gpr = with_code (load_page_in cpu.gpr call.lpid call.ra call.gpa call.flags call.order) code; last = answer.Ret code }) × RefusesCpu cpu cpu_new code × SameGuest old new × (pool_new ≡ pool)
+RefusesPageIn call old new cpu cpu_new pool pool_new answer.Step = Unit {0}
+RefusesPageIn call old new cpu cpu_new pool pool_new other = ⊥
+
+-- UV_PAGE_IN of the hypervisor
+abbrev pub BeginsPageIn : {S : Type 0} → (S → Tag → List ℕ → List ℕ → Type 0) → (S → Tag → List ℕ → List ℕ) → PageCall → Guest S → Guest S → Cpu → Cpu → PoolState → PoolState → Answer → Type 0
+BeginsPageIn stands image call old new cpu cpu_new pool pool_new answer =
+    (plan : Plan) (g : GuestWhole) (c : CpuPart) (mark : Mark) → mark.cpu ≡ cpu.number → Shows stands image plan old g → ShowsCpu cpu c →
+    RowWithPool stands image plan g c
+    (entry_of (ask_hypervisor c) mark (UPagein call.lpid call.ra call.gpa call.flags call.order)
+    (deed_page_in plan g.part (nat_lt 0 (length pool.free)) (ask_hypervisor c) call.lpid call.ra call.gpa call.flags call.order))
+    new cpu_new (length pool.free) (length pool_new.free) answer
+
+-- a copy answers what its entry does, and leaves the CPU as the entry does; it only reads the normal frame
+pub record RowRead (c : CpuPart) (e : Event) (cpu : Cpu) (answer : Answer) : Type 0 where
+  pub answered : answer ≡ e.trace.answer
+  pub cpu_is : ShowsCpu cpu (next_cpu c e)
+
+-- the copy of a page-in
+abbrev pub CopiesPageIn : Move → Cpu → Cpu → List ℕ → Answer → Type 0
+CopiesPageIn move cpu cpu_new frame answer =
+    (c : CpuPart) (mark : Mark) (n : ℕ) → ShowsCpu cpu c → RowRead c (entry_of (ask_reading move c) mark Go (deed_page_in_copy move n frame (ask_reading move c))) cpu_new answer
+
+-- a page whose move is of the guest's generation is moved by the CPU, and the pool has room for its frame
+abbrev pub IsReadyIn : {S : Type 0} → Guest S → Cpu → PoolState → Move → Type 0
+IsReadyIn guest cpu pool move =
+    move.generation ≡ guest.generation → (mover_at guest.pages move.gfn ≡ Some (record { cpu = cpu.number; way = IsInward })) × (length pool.free < pool.count)
+
+-- an end under another generation comes back with U_PARAMETER, and changes the CPU alone, and a count of steps
+abbrev pub EndsOldIn : {S : Type 0} → Move → Guest S → Guest S → Cpu → Cpu → PoolState → PoolState → Answer → Type 0
+EndsOldIn move old new cpu cpu_new pool pool_new a =
+    move.generation ≢ old.generation →
+    (a ≡ answer.Ret UParameter) × (cpu_new ≡ record cpu { ctx = ctx.Hv; gpr = with_code cpu.gpr UParameter; last = answer.Ret UParameter }) × SameGuest old new × (pool_new ≡ pool)
+
+-- a page that was refused is at rest as it was, with the digest that it kept, and its frame is free
+pub record PutsBack {S : Type 0} (move : Move) (old new : Guest S) (pool pool_new : PoolState) : Type 0 where
+  pub frame : FrameState
+  pub there : frame_at old.pages move.gfn ≡ Some frame
+  pub pool_is : pool_new ≡ with_free pool frame.number
+  pub pages : new.pages ≡ ended_in old.pages move.gfn false
+  pub kind_is : kind_at new.pages move.gfn ≡ kind_at old.pages move.gfn
+  pub digest : digest_at new.pages move.gfn ≡ digest_at old.pages move.gfn
+
+-- where the end answers U_P2 the page was refused
+abbrev pub RefusesLate : {S : Type 0} → Move → Guest S → Guest S → PoolState → PoolState → Answer → Type 0
+RefusesLate move old new pool pool_new (answer.Ret UP2) = PutsBack move old new pool pool_new
+RefusesLate move old new pool pool_new other = Unit {0}
+
+-- the end of a page-in, unless what was copied collides with what was last sealed of the page
+abbrev pub EndsPageIn : {S : Type 0} → (S → Tag → List ℕ → List ℕ → Type 0) → (S → Tag → List ℕ → List ℕ) → Move → Guest S → Guest S → Cpu → Cpu → PoolState → PoolState → Answer → Type 0
+EndsPageIn stands image move old new cpu cpu_new pool pool_new answer =
+    (plan : Plan) (g : GuestWhole) (c : CpuPart) (mark : Mark) → Shows stands image plan old g → ShowsCpu cpu c → collides_with (g.part.pages move.gfn).sealed c.hand ≡ false →
+    RowWithPool stands image plan g c (entry_of (ask_inward move c) mark Go (deed_page_in_end g.part (ask_inward move c) move)) new cpu_new (length pool.free) (length pool_new.free) answer
