@@ -1,5 +1,5 @@
 -- An access keeps what is needed to have those pages back that are Out.
-use Rattle.std.proofs.Common.{◌≡◌, ◌≢◌, ℕ, ◌<◌, ◌==◌, Bool, true, false, ◌&&◌, if◌then◌else◌, List, Option, Some, None, IsSome, option_map, ◌⊎◌, inl, inr, arith, refl, ap, sym, subst, ◌∙◌}
+use Rattle.std.proofs.Common.{◌≡◌, ◌≢◌, ℕ, ◌<◌, ◌%◌, ◌^◌, ◌==◌, Bool, true, false, ◌&&◌, if◌then◌else◌, List, Option, Some, None, IsSome, option_map, ◌⊎◌, inl, inr, arith, refl, ap, sym, subst, ◌∙◌}
 use Rattle.std.specs.Prelude.{unwrap_or}
 use Rattle.std.proofs.lemmas.Bool.{cases_eq}
 use Rattle.std.proofs.lemmas.Bool.Decides.{nat_tests}
@@ -26,7 +26,12 @@ pub record KeepsSealed (plan : Plan) (old new : GuestWhole) : Type 0 where
   pub versions : (gfn : ℕ) → (new.part.pages gfn).version ≡ (old.part.pages gfn).version
   pub sealed : (gfn : ℕ) → sealed_of (new.part.pages gfn) ≡ sealed_of (old.part.pages gfn)
   pub pending : (gfn : ℕ) → (new.part.pages gfn).pending ≡ (old.part.pages gfn).pending
-  pub private : (gfn : ℕ) (bytes : List ℕ) → sealed_of (old.part.pages gfn) ≡ Some bytes → private_page plan new gfn ≡ private_page plan old gfn
+  pub doublewords : (gpa : ℕ) (bytes : List ℕ) → sealed_of (old.part.pages (page_of plan gpa)) ≡ Some bytes → private_doubleword plan new gpa ≡ private_doubleword plan old gpa
+
+-- a page of which something is sealed has the bytes that it had
+private_stays : (plan : Plan) (old new : GuestWhole) (gfn : ℕ) (bytes : List ℕ) → KeepsSealed plan old new → sealed_of (old.part.pages gfn) ≡ Some bytes → private_page plan new gfn ≡ private_page plan old gfn
+private_stays plan old new gfn bytes keeps is =
+    same_page_bytes plan.shift (private_doubleword plan new) (private_doubleword plan old) gfn (λ gpa page. keeps.doublewords gpa bytes (ap (λ (n : ℕ). sealed_of (old.part.pages n)) page ∙ is))
 
 -- the guest a step later keeps what it needs, where each page is like the one before
 pub keeps_sealed : {S : Type 0} (stands : S → Tag → List ℕ → List ℕ → Type 0) (image : S → Tag → List ℕ → List ℕ) (plan : Plan) (old : Guest S) (g new : GuestWhole) (pages : PagesState FrameState) (vid : ℕ) (vcpu : Vcpu) →
@@ -40,8 +45,14 @@ keeps_sealed stands image plan old g new pages vid vcpu shows like keeps = recor
       let tag : tag_of new.part old.lpid gfn (new.part.pages gfn).version ≡ tag_of g.part old.lpid gfn (g.part.pages gfn).version =
       λ i. record { lpid = old.lpid; generation = keeps.generation i; gfn = gfn; version = keeps.versions gfn i } in
       subst (λ (t : Tag). stands old.sealer t (private_page plan new gfn) sealed) (sym tag)
-      (subst (λ (page : List ℕ). stands old.sealer (tag_of g.part old.lpid gfn (g.part.pages gfn).version) page sealed) (sym (keeps.private gfn sealed was)) (shows.stands_for gfn sealed below was));
-  pendings = λ gfn below outward. subst IsSome (sym (keeps.pending gfn)) (shows.pendings gfn below (sym (ap way_of (like.each gfn).mover) ∙ outward));
+      (subst (λ (page : List ℕ). stands old.sealer (tag_of g.part old.lpid gfn (g.part.pages gfn).version) page sealed) (sym (private_stays plan g new gfn sealed keeps was)) (shows.stands_for gfn sealed below was));
+  words = λ gpa sealed aligned below is.
+      let was : sealed_of (g.part.pages (page_of plan gpa)) ≡ Some sealed = sym (keeps.sealed (page_of plan gpa)) ∙ is in
+      subst (λ (value : ℕ). value < 2 ^ 64) (sym (keeps.doublewords gpa sealed was)) (shows.words gpa sealed aligned below was);
+  pendings = λ gfn below.
+      let was = shows.pendings gfn below in
+      let same = ap way_of (like.each gfn).mover in
+      (λ outward. subst IsSome (sym (keeps.pending gfn)) (was.0 (sym same ∙ outward)), λ there. same ∙ was.1 (subst IsSome (keeps.pending gfn) there));
 }
 
 -- nothing was made of what isn't there
@@ -55,7 +66,7 @@ pub none_sealed : {S : Type 0} (stands : S → Tag → List ℕ → List ℕ →
 none_sealed stands image plan old g gfn shows below none = none_before digest_by (sealed_of (g.part.pages gfn)) (sym none ∙ shows.digests gfn below)
 
 -- nor is anything pending where nothing is sealed
-none_pending : (page : Page) → sealed_of page ≡ None → page.pending ≡ None
+pub none_pending : (page : Page) → sealed_of page ≡ None → page.pending ≡ None
 none_pending page none = by_pending page.pending refl where
   by_pending : (o : Option (List ℕ)) → page.pending ≡ o → page.pending ≡ None
   by_pending None is = is
@@ -68,12 +79,10 @@ module _ (plan : Plan) (g : GuestWhole) (at : ℕ) (none : sealed_of (g.part.pag
   another gfn bytes is same = let here : sealed_of (g.part.pages gfn) ≡ None = ap (λ (n : ℕ). sealed_of (g.part.pages n)) same ∙ none in cc
 
   -- its doublewords are as before
-  same_page : (h : GuestWhole) (gfn : ℕ) → h.content ≡ content → h.part.pages gfn ≡ g.part.pages gfn → gfn ≢ at → private_page plan h gfn ≡ private_page plan g gfn
-  same_page h gfn is same other = same_page_bytes plan.shift (private_doubleword plan h) (private_doubleword plan g) gfn (λ gpa page.
-      ap (λ (n : ℕ). if is_invalid (h.part.pages n) then 0 else h.content gpa) page
-      ∙ ap (λ (p : Page). if is_invalid p then 0 else h.content gpa) same
-      ∙ ap (λ (value : ℕ). if is_invalid (g.part.pages gfn) then 0 else value) (ap (λ (f : ℕ → ℕ). f gpa) is ∙ others gpa (λ here. other (sym page ∙ here)))
-      ∙ sym (ap (λ (n : ℕ). if is_invalid (g.part.pages n) then 0 else g.content gpa) page))
+  same_doubleword : (h : GuestWhole) (gpa : ℕ) → h.content ≡ content → h.part.pages (page_of plan gpa) ≡ g.part.pages (page_of plan gpa) → page_of plan gpa ≢ at → private_doubleword plan h gpa ≡ private_doubleword plan g gpa
+  same_doubleword h gpa is same other =
+      ap (λ (p : Page). if is_invalid p then 0 else h.content gpa) same
+      ∙ ap (λ (value : ℕ). if is_invalid (g.part.pages (page_of plan gpa)) then 0 else value) (ap (λ (f : ℕ → ℕ). f gpa) is ∙ others gpa other)
 
   -- what holds of the page that is backed, and of every other, holds of each
   by_page : {X : Type 0} (f : Page → X) → f (secured (g.part.pages at)) ≡ f (g.part.pages at) → (gfn : ℕ) → (gfn ≡ at) ⊎ (gfn ≢ at) → f (put g.part.pages at (secured (g.part.pages at)) gfn) ≡ f (g.part.pages gfn)
@@ -87,16 +96,16 @@ module _ (plan : Plan) (g : GuestWhole) (at : ℕ) (none : sealed_of (g.part.pag
     versions = λ gfn. by_page (λ (p : Page). p.version) refl gfn (cases_eq gfn at);
     sealed = λ gfn. by_page sealed_of (sym none) gfn (cases_eq gfn at);
     pending = λ gfn. by_page (λ (p : Page). p.pending) (sym (none_pending (g.part.pages at) none)) gfn (cases_eq gfn at);
-    private = λ gfn bytes is.
-        let other : gfn ≢ at = another gfn bytes is in
-        same_page (record { part = with_secure_page g.part at; content = content; registers = registers }) gfn refl (put_there g.part.pages at (secured (g.part.pages at)) gfn other) other;
+    doublewords = λ gpa bytes is.
+        let other : page_of plan gpa ≢ at = another (page_of plan gpa) bytes is in
+        same_doubleword (record { part = with_secure_page g.part at; content = content; registers = registers }) gpa refl (put_there g.part.pages at (secured (g.part.pages at)) (page_of plan gpa) other) other;
   }
   accessed_keeps false registers = record {
     generation = refl;
     versions = λ gfn. refl;
     sealed = λ gfn. refl;
     pending = λ gfn. refl;
-    private = λ gfn bytes is. same_page (record { part = g.part; content = content; registers = registers }) gfn refl refl (another gfn bytes is);
+    doublewords = λ gpa bytes is. same_doubleword (record { part = g.part; content = content; registers = registers }) gpa refl refl (another (page_of plan gpa) bytes is);
   }
 
 -- an access changes the doublewords of its own page alone

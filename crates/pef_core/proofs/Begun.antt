@@ -1,5 +1,5 @@
 -- The machine as it begins is whole, and has no history behind it.
-use Rattle.std.proofs.Common.{◌≡◌, ℕ, zero, suc, ◌+◌, ◌^◌, ◌<◌, ◌==◌, nat_lt, Bool, true, false, if◌then◌else◌, List, [], ◌∷◌, ◌++◌, length, replicate, Option, None, refl, ap, sym, subst, ◌∙◌, arith, append-nil}
+use Rattle.std.proofs.Common.{◌≡◌, ℕ, zero, suc, ◌+◌, ◌^◌, ◌<◌, ◌==◌, nat_lt, Bool, true, false, if◌then◌else◌, List, [], ◌∷◌, ◌++◌, length, replicate, Option, None, refl, ap, sym, subst, ◌∙◌, arith, append-nil, IsSome}
 use Rattle.std.specs.Prelude.{slice_index_or, option_map}
 use Rattle.std.specs.List.{count_by, flat_map}
 use Rattle.std.proofs.lemmas.List.{length-replicate, get_or-replicate}
@@ -10,7 +10,7 @@ use Rattle.pef_model.specs.declared.state.Tag.{Tag}
 use Rattle.pef_model.specs.declared.state.VState.TheVariants.{Idle}
 use Rattle.pef_model.specs.Plan.{Plan, plan_of, IsInRange}
 use Rattle.pef_model.specs.Registers.{fresh_registers}
-use Rattle.pef_model.specs.GuestPart.{start_part_of}
+use Rattle.pef_model.specs.GuestPart.{start_part_of, page_of}
 use Rattle.pef_model.specs.Guest.{start_guest}
 use Rattle.pef_frames.specs.Frame.{FrameState, numbers_of}
 use Rattle.pef_frames.specs.Pool.{PoolState, full_pool}
@@ -19,6 +19,8 @@ use Rattle.std.proofs.lemmas.List.FromFn.{length-range_with_len}
 use Rattle.pef_pages.specs.declared.page.Page.{Page}
 use Rattle.pef_pages.specs.Cells.{kind_of, mover_of, way_of}
 use Rattle.pef_pages.specs.Pages.{invalid_page, invalid_pages, page_at, held}
+use Rattle.std.proofs.lemmas.Bool.{false≢true}
+use Rattle.pef_core.proofs.AccessSeals.{none_pending}
 use Rattle.pef_guest.specs.declared.cpu.Cpu.{Cpu}
 use Rattle.pef_guest.specs.declared.vcpu.Vcpu.{Vcpu}
 use Rattle.pef_guest.specs.declared.guest.Guest.{Guest}
@@ -98,7 +100,11 @@ module _ {S : Type 0} (stands : S → Tag → List ℕ → List ℕ → Type 0) 
     versions = λ gfn below. ap (λ (page : Page FrameState). page.version) (page_is gfn) ∙ begun_version ((plan_of config).is_born lpid) gfn;
     digests = λ gfn below. ap (λ (page : Page FrameState). kept_in page.cell) (page_is gfn) ∙ ap (option_map digest_by) (none_sealed ((plan_of config).is_born lpid) gfn);
     stands_for = λ gfn sealed below is. (let none = none_sealed ((plan_of config).is_born lpid) gfn ∙ is in cc);
-    pendings = λ gfn below outward. absurd (let none = sym (ap (λ (page : Page FrameState). way_of (mover_of page.cell)) (page_is gfn)) ∙ outward in cc);
+    words = λ gpa sealed aligned below is. (let none = none_sealed ((plan_of config).is_born lpid) (page_of (plan_of config) gpa) ∙ is in cc);
+    pendings = λ gfn below. (
+      λ outward. absurd (let none = sym (ap (λ (page : Page FrameState). way_of (mover_of page.cell)) (page_is gfn)) ∙ outward in cc),
+      λ there. absurd (false≢true (subst IsSome (none_pending ((start_part_of ((plan_of config).is_born lpid)).pages gfn) (sym (none_sealed ((plan_of config).is_born lpid) gfn))) there)),
+    );
   }
 
   pub shows_guest : Shows stands image (plan_of config) guest (start_guest (plan_of config) lpid)

@@ -1,25 +1,26 @@
 -- A step that does what its row says makes the one entry that the model gives.
-use Rattle.std.proofs.Common.{◌≡◌, ℕ, ◌+◌, ◌<◌, ◌==◌, Bool, true, false, List, ◌∷◌, length, Some, None, refl, ap, sym, subst, ◌∙◌}
+use Rattle.std.proofs.Common.{◌≡◌, ℕ, ◌+◌, ◌<◌, ◌==◌, Bool, true, false, if◌then◌else◌, List, ◌∷◌, length, Option, Some, None, refl, ap, sym, subst, ◌∙◌}
 use Rattle.std.specs.Prelude.{slice_get, slice_set}
 use Rattle.std.proofs.Math.ListN.{length-set}
 use Rattle.pef_model.specs.declared.state.Run.{Run}
 use Rattle.pef_model.specs.declared.state.Work.{Work}
-use Rattle.pef_model.specs.declared.state.Work.TheVariants.{Outward}
+use Rattle.pef_model.specs.declared.state.Work.TheVariants.{Inward, Outward}
 use Rattle.pef_model.specs.declared.state.Ctx.{Ctx}
 use Rattle.pef_model.specs.declared.state.Ctx.TheVariants as ctx
 use Rattle.pef_model.specs.declared.state.Tag.{Tag}
 use Rattle.pef_model.specs.declared.command.Cmd.{Cmd}
-use Rattle.pef_model.specs.declared.command.Cmd.TheVariants.{HLd, HSt, UPageout, UReturn, GLi, GLd, GSt, GIrq, Go}
+use Rattle.pef_model.specs.declared.command.Cmd.TheVariants.{HLd, HSt, UPagein, UPageout, UReturn, GLi, GLd, GSt, GIrq, Go}
 use Rattle.pef_model.specs.declared.entry.Answer.{Answer}
 use Rattle.pef_model.specs.declared.entry.Answer.TheVariants as answer
+use Rattle.pef_model.specs.declared.entry.PoolSaw.{PoolSaw}
 use Rattle.pef_model.specs.Plan.{Plan}
 use Rattle.pef_model.specs.Event.{Event, Mark}
-use Rattle.pef_model.specs.Target.{Ask, Alone, AtGuest, is_guest, target_of_address, target_in, touches_guest, has_real_place}
+use Rattle.pef_model.specs.Target.{Ask, Target, Alone, AtGuest, is_guest, target_of_address, target_in, touches_guest, has_real_place}
 use Rattle.pef_model.specs.Cpu.{CpuPart, next_cpu}
 use Rattle.pef_model.specs.Guest.{Guest as GuestWhole}
 use Rattle.pef_model.specs.Memory.{pool_with}
 use Rattle.pef_model.specs.Deed.{deed_alone, deed_return}
-use Rattle.pef_model.specs.History.{ask_of, cpu_after, guest_after, pool_after, frame_after, entry_of, next_entry}
+use Rattle.pef_model.specs.History.{ask_of, cpu_after, guest_after, pool_after, frame_after, deed_after, entry_of, next_entry}
 use Rattle.pef_model.proofs.Aims.{address_is_no_guest}
 use Rattle.pef_frames.specs.Pool.{PoolState}
 use Rattle.pef_guest.specs.declared.cpu.Cpu.{Cpu}
@@ -42,13 +43,10 @@ mark_at n line place stamp = record { line = line; cpu = n; place = place; stamp
 abbrev pub is_idle : Cmd → Bool
 is_idle (HLd ra) = false
 is_idle (HSt ra value) = false
+is_idle (UPagein lpid src gpa flags order) = false
 is_idle (UPageout lpid dest gpa flags order) = false
 is_idle (UReturn r0 r2 outs) = false
-is_idle (GLi rd value) = true
-is_idle (GLd rd gpa) = true
-is_idle (GSt rs gpa) = true
-is_idle GIrq = true
-is_idle Go = true
+is_idle cmd = true
 
 module _ {S : Type 0} (stands : S → Tag → List ℕ → List ℕ → Type 0) (image : S → Tag → List ℕ → List ℕ) (old : State S) (n : ℕ) (below : n < length old.cpus) (cpu : Cpu) (there : slice_get old.cpus n ≡ Some cpu) where
   -- the CPU of the model is in the context of the machine's
@@ -107,7 +105,7 @@ module _ {S : Type 0} (stands : S → Tag → List ℕ → List ℕ → Type 0) 
   -- a load or store of the hypervisor
   at_address : (new_cpu : Cpu) (normal : NormalState) (ra : ℕ) (cmd : Cmd) (a : Answer) → cpu.ctx ≡ ctx.Hv → DoesNormal ra cmd cpu new_cpu old.normal normal a →
       ((plan : Plan) (lpid : ℕ) → target_in plan ctx.Hv lpid cmd ≡ target_of_address plan ra) → Continues stands image old (record old { cpus = slice_set old.cpus n new_cpu; normal = normal }) n cmd a
-  at_address new_cpu normal ra cmd a hv does aims plan past line place stamp fits =
+  at_address new_cpu normal ra cmd a hv does aims plan past line place stamp fits clean =
       let mark : Mark = mark_at n line place stamp in
       let c : CpuPart = cpu_after plan n past in
       let bytes : ℕ → List ℕ = λ k. frame_after plan k past in
@@ -142,7 +140,7 @@ module _ {S : Type 0} (stands : S → Tag → List ℕ → List ℕ → Type 0) 
   aside : (cmd : Cmd) →
       ((plan : Plan) (past : List Event) (line place stamp : ℕ) → Fits stands image plan old past → Makes stands image plan (record old { cpus = slice_set old.cpus n cpu }) past (next_entry plan past (mark_at n line place stamp) cmd) answer.Context) →
       Continues stands image old old n cmd answer.Context
-  aside cmd makes plan past line place stamp fits =
+  aside cmd makes plan past line place stamp fits clean =
       subst (λ (cpus : List Cpu). Makes stands image plan (record old { cpus = cpus }) past (next_entry plan past (mark_at n line place stamp) cmd) answer.Context) (set_same old.cpus n cpu there)
       (makes plan past line place stamp fits)
 
@@ -162,13 +160,10 @@ module _ {S : Type 0} (stands : S → Tag → List ℕ → List ℕ → Type 0) 
   pub hypervisor_idle : (cmd : Cmd) → cpu.ctx ≡ ctx.Hv → is_idle cmd ≡ true → Continues stands image old old n cmd answer.Context
   hypervisor_idle (HLd ra) hv h = cc
   hypervisor_idle (HSt ra value) hv h = cc
+  hypervisor_idle (UPagein lpid src gpa flags order) hv h = cc
   hypervisor_idle (UPageout lpid dest gpa flags order) hv h = cc
   hypervisor_idle (UReturn r0 r2 outs) hv h = cc
-  hypervisor_idle (GLi rd value) hv h = idle_continues (GLi rd value) hv (λ plan lpid. refl) (λ c mark. refl) (λ c. refl)
-  hypervisor_idle (GLd rd gpa) hv h = idle_continues (GLd rd gpa) hv (λ plan lpid. refl) (λ c mark. refl) (λ c. refl)
-  hypervisor_idle (GSt rs gpa) hv h = idle_continues (GSt rs gpa) hv (λ plan lpid. refl) (λ c mark. refl) (λ c. refl)
-  hypervisor_idle GIrq hv h = idle_continues GIrq hv (λ plan lpid. refl) (λ c mark. refl) (λ c. refl)
-  hypervisor_idle Go hv h = idle_continues Go hv (λ plan lpid. refl) (λ c mark. refl) (λ c. refl)
+  hypervisor_idle cmd hv h = idle_continues cmd hv (λ plan lpid. refl) (λ c mark. refl) (λ c. refl)
 
   -- a command that no guest gives, while a vCPU runs
   pub guest_busy : (run : Run) (cmd : Cmd) → cpu.ctx ≡ ctx.Guest run → is_no_guests cmd ≡ true → Continues stands image old old n cmd answer.Context
@@ -176,13 +171,8 @@ module _ {S : Type 0} (stands : S → Tag → List ℕ → List ℕ → Type 0) 
     aims : (plan : Plan) (lpid : ℕ) (cmd : Cmd) → is_no_guests cmd ≡ true → target_in plan (ctx.Guest run) lpid cmd ≡ Alone
     aims plan lpid (HLd ra) h = refl
     aims plan lpid (HSt ra value) h = refl
-    aims plan lpid (UPageout named dest gpa flags order) h = cc
-    aims plan lpid (UReturn r0 r2 outs) h = cc
-    aims plan lpid (GLi rd value) h = cc
-    aims plan lpid (GLd rd gpa) h = cc
-    aims plan lpid (GSt rs gpa) h = cc
-    aims plan lpid GIrq h = cc
     aims plan lpid Go h = refl
+    aims plan lpid cmd h = cc
 
     by_history : (plan : Plan) (past : List Event) (line place stamp : ℕ) → Fits stands image plan old past →
         Makes stands image plan (record old { cpus = slice_set old.cpus n cpu }) past (next_entry plan past (mark_at n line place stamp) cmd) answer.Context
@@ -195,15 +185,10 @@ module _ {S : Type 0} (stands : S → Tag → List ℕ → List ℕ → Type 0) 
   pub work_busy : (work : Work) (cmd : Cmd) → cpu.ctx ≡ ctx.Uv work → is_go cmd ≡ false → Continues stands image old old n cmd answer.Context
   work_busy work cmd is other = aside cmd by_history where
     aims : (plan : Plan) (work : Work) (lpid : ℕ) (cmd : Cmd) → is_go cmd ≡ false → target_in plan (ctx.Uv work) lpid cmd ≡ Alone
-    aims plan (Outward move) lpid (HLd ra) h = refl
-    aims plan (Outward move) lpid (HSt ra value) h = refl
-    aims plan (Outward move) lpid (UPageout named dest gpa flags order) h = refl
-    aims plan (Outward move) lpid (UReturn r0 r2 outs) h = refl
-    aims plan (Outward move) lpid (GLi rd value) h = refl
-    aims plan (Outward move) lpid (GLd rd gpa) h = refl
-    aims plan (Outward move) lpid (GSt rs gpa) h = refl
-    aims plan (Outward move) lpid GIrq h = refl
+    aims plan (Inward move) lpid Go h = cc
+    aims plan (Inward move) lpid cmd h = refl
     aims plan (Outward move) lpid Go h = cc
+    aims plan (Outward move) lpid cmd h = refl
 
     by_history : (plan : Plan) (past : List Event) (line place stamp : ℕ) → Fits stands image plan old past →
         Makes stands image plan (record old { cpus = slice_set old.cpus n cpu }) past (next_entry plan past (mark_at n line place stamp) cmd) answer.Context
@@ -216,7 +201,7 @@ module _ {S : Type 0} (stands : S → Tag → List ℕ → List ℕ → Type 0) 
   pub return_continues : (new_cpu : Cpu) (i : ℕ) (guest new_guest : Guest S) (r0 r2 : ℕ) (outs : List ℕ) (a : Answer) → cpu.ctx ≡ ctx.Hv → cpu.number ≡ n → cpu.lpid ≡ i + 1 →
       slice_get old.guests i ≡ Some guest → DoesReturn stands image r0 r2 outs guest new_guest cpu new_cpu a →
       Continues stands image old (record old { cpus = slice_set old.cpus n new_cpu; guests = slice_set old.guests i new_guest }) n (UReturn r0 r2 outs) a
-  return_continues new_cpu i guest new_guest r0 r2 outs a hv number selected here does plan past line place stamp fits =
+  return_continues new_cpu i guest new_guest r0 r2 outs a hv number selected here does plan past line place stamp fits clean =
       let mark : Mark = mark_at n line place stamp in
       let c : CpuPart = cpu_after plan n past in
       let g : GuestWhole = guest_after plan (i + 1) past in

@@ -3,12 +3,12 @@ use Rattle.std.proofs.Common.{◌≡◌, ℕ, ◌==◌, nat_lt, Bool, true, fals
 use Rattle.pef_model.specs.declared.state.Run.{Run}
 use Rattle.pef_model.specs.declared.state.Move.{Move}
 use Rattle.pef_model.specs.declared.state.Work.{Work}
-use Rattle.pef_model.specs.declared.state.Work.TheVariants.{Outward}
+use Rattle.pef_model.specs.declared.state.Work.TheVariants.{Inward, Outward}
 use Rattle.pef_model.specs.declared.state.Ctx.TheVariants as ctx
 use Rattle.pef_model.specs.declared.command.Code.{Code}
-use Rattle.pef_model.specs.declared.command.Code.TheVariants.{USuccess, UParameter, UInvalid}
+use Rattle.pef_model.specs.declared.command.Code.TheVariants.{USuccess, UParameter, UP2, UBusy, UInvalid}
 use Rattle.pef_model.specs.declared.command.Cmd.{Cmd}
-use Rattle.pef_model.specs.declared.command.Cmd.TheVariants.{HLd, HSt, UPageout, UReturn, GLi, GLd, GSt, GIrq, Go}
+use Rattle.pef_model.specs.declared.command.Cmd.TheVariants.{HLd, HSt, UPagein, UPageout, UReturn, GLi, GLd, GSt, GIrq, Go}
 use Rattle.pef_model.specs.declared.entry.Answer.{Answer}
 use Rattle.pef_model.specs.declared.entry.Answer.TheVariants as answer
 use Rattle.pef_model.specs.Plan.{Plan}
@@ -18,9 +18,10 @@ use Rattle.pef_model.specs.Cpu.{CpuPart}
 use Rattle.pef_model.specs.GuestPart.{GuestPart}
 use Rattle.pef_model.specs.Guest.{Guest as GuestWhole, private_doubleword}
 use Rattle.pef_model.specs.PageOut.{page_out_code}
-use Rattle.pef_model.specs.Deed.{Deed, Reach, NoPage, InFrame, Backs, NoFrame, Moves, answering, returning, giving, coming_back, deed_access, deed_alone, deed_frame, deed_running, deed_gone, deed_return, deed_page_out, deed_page_out_begin, deed_page_out_end, may_return_in, is_waiting, reach}
+use Rattle.pef_model.specs.PageIn.{page_in_operands, is_last_sealed}
+use Rattle.pef_model.specs.Deed.{Deed, Reach, NoPage, InFrame, Backs, NoFrame, Moves, answering, returning, giving, coming_back, deed_access, deed_alone, deed_frame, deed_running, deed_gone, deed_return, deed_page_out, deed_page_out_begin, deed_page_out_end, deed_page_in, deed_page_in_begin, deed_page_in_end, deed_page_in_test, deed_page_in_with, taking, may_return_in, is_waiting, reach}
 use Rattle.pef_model.specs.History.{ask_of, cpu_after, guest_after, pool_after, frame_after, deed_after, entry_of, next_entry, next_entry_by}
-use Rattle.pef_guest.specs.Rows.{ask_hypervisor, ask_outward}
+use Rattle.pef_guest.specs.Rows.{ask_hypervisor, ask_reading, ask_inward, ask_outward}
 use Rattle.pef_core.specs.Rows.{ask_running, deed_at_address, is_no_guests}
 
 -- what a step learns of a CPU on which the hypervisor runs
@@ -35,43 +36,38 @@ ask_in_guest c run cmd is = λ i. record { before = is i; lpid = c.lpid; vid = c
 pub ask_in_outward : (c : CpuPart) (move : Move) → c.ctx ≡ ctx.Uv (Outward move) → ask_of c Go ≡ ask_outward move c
 ask_in_outward c move is = λ i. record { before = is i; lpid = c.lpid; vid = c.vid; last = c.last; hand = if uses_hand (is i) Go then c.hand else [] }
 
+-- what the next step of a page-in learns of its CPU: the hand where what it holds was copied
+ask_in_inward : (c : CpuPart) (move : Move) (b : Bool) → c.ctx ≡ ctx.Uv (Inward move) → move.copied ≡ b → ask_of c Go ≡ record { before = ctx.Uv (Inward move); lpid = c.lpid; vid = c.vid; last = c.last; hand = if b then c.hand else [] }
+ask_in_inward c move b is copied =
+    (λ i. record { before = is i; lpid = c.lpid; vid = c.vid; last = c.last; hand = if uses_hand (is i) Go then c.hand else [] })
+    ∙ (λ i. record { before = ctx.Uv (Inward move); lpid = c.lpid; vid = c.vid; last = c.last; hand = if copied i then c.hand else [] })
+
+pub ask_in_reading : (c : CpuPart) (move : Move) → c.ctx ≡ ctx.Uv (Inward move) → move.copied ≡ false → ask_of c Go ≡ ask_reading move c
+ask_in_reading c move is copied = ask_in_inward c move false is copied
+
+pub ask_in_test : (c : CpuPart) (move : Move) → c.ctx ≡ ctx.Uv (Inward move) → move.copied ≡ true → ask_of c Go ≡ ask_inward move c
+ask_in_test c move is copied = ask_in_inward c move true is copied
+
+-- what a step that uses the hand learns of a CPU with a call in progress
+abbrev pub ask_with_hand : Work → CpuPart → Ask
+ask_with_hand work c = record { before = ctx.Uv work; lpid = c.lpid; vid = c.vid; last = c.last; hand = c.hand }
+
 -- what a command of another context learns of a CPU with a call in progress
 abbrev pub ask_aside : Work → CpuPart → Ask
 ask_aside work c = record { before = ctx.Uv work; lpid = c.lpid; vid = c.vid; last = c.last; hand = [] }
 
 -- whether a command is the next step of a call
 abbrev pub is_go : Cmd → Bool
-is_go (HLd ra) = false
-is_go (HSt ra value) = false
-is_go (UPageout lpid dest gpa flags order) = false
-is_go (UReturn r0 r2 outs) = false
-is_go (GLi rd value) = false
-is_go (GLd rd gpa) = false
-is_go (GSt rs gpa) = false
-is_go GIrq = false
 is_go Go = true
+is_go cmd = false
 
 pub not_go : (cmd : Cmd) → (cmd ≡ Go → ⊥) → is_go cmd ≡ false
-not_go (HLd ra) other = refl
-not_go (HSt ra value) other = refl
-not_go (UPageout lpid dest gpa flags order) other = refl
-not_go (UReturn r0 r2 outs) other = refl
-not_go (GLi rd value) other = refl
-not_go (GLd rd gpa) other = refl
-not_go (GSt rs gpa) other = refl
-not_go GIrq other = refl
 not_go Go other = absurd (other refl)
+not_go cmd other = refl
 
 handless : (work : Work) (cmd : Cmd) → is_go cmd ≡ false → uses_hand (ctx.Uv work) cmd ≡ false
-handless work (HLd ra) h = refl
-handless work (HSt ra value) h = refl
-handless work (UPageout lpid dest gpa flags order) h = refl
-handless work (UReturn r0 r2 outs) h = refl
-handless work (GLi rd value) h = refl
-handless work (GLd rd gpa) h = refl
-handless work (GSt rs gpa) h = refl
-handless work GIrq h = refl
 handless work Go h = cc
+handless work cmd h = refl
 
 pub ask_in_work : (c : CpuPart) (work : Work) (cmd : Cmd) → c.ctx ≡ ctx.Uv work → is_go cmd ≡ false → ask_of c cmd ≡ ask_aside work c
 ask_in_work c work cmd is other =
@@ -110,13 +106,8 @@ module _ (plan : Plan) (past : List Event) where
             ≡ entry_of ask mark cmd (if run.generation == (guest_after plan run.lpid past).part.generation then deed_running plan (guest_after plan run.lpid past) (nat_lt 0 (pool_after plan past)) ask cmd else deed_gone ask)
         by_command (HLd ra) h = cc
         by_command (HSt ra value) h = cc
-        by_command (UPageout lpid dest gpa flags order) h = refl
-        by_command (UReturn r0 r2 outs) h = refl
-        by_command (GLi rd value) h = refl
-        by_command (GLd rd gpa) h = refl
-        by_command (GSt rs gpa) h = refl
-        by_command GIrq h = refl
         by_command Go h = cc
+        by_command cmd h = refl
 
 -- what a step touches beside the guest: neither the pool nor a normal frame
 pub record IsApart (deed : Deed) : Type 0 where
@@ -137,11 +128,27 @@ page_out_apart plan g ask lpid dest gpa flags order = by_code (page_out_code pla
   by_code (Some code) = record { pool = refl; frame = refl }
 
 -- the end of a page-out touches no normal frame
-pub end_unframed : (g : GuestPart) (ask : Ask) (move : Move) → (deed_page_out_end g ask move).frame ≡ None
-end_unframed g ask move = by_test (move.generation == g.generation) where
+pub out_unframed : (g : GuestPart) (ask : Ask) (move : Move) → (deed_page_out_end g ask move).frame ≡ None
+out_unframed g ask move = by_test (move.generation == g.generation) where
   by_test : (b : Bool) → (if b then giving (coming_back ask USuccess) 1 else coming_back ask UParameter).frame ≡ None
   by_test true = refl
   by_test false = refl
+
+-- UV_PAGE_IN touches no normal frame
+pub page_in_unframed : (plan : Plan) (g : GuestPart) (any : Bool) (ask : Ask) (lpid src gpa flags order : ℕ) → (deed_page_in plan g any ask lpid src gpa flags order).frame ≡ None
+page_in_unframed plan g any ask lpid src gpa flags order = by_code (page_in_operands plan g src gpa flags order) any where
+  by_code : (code : Option Code) (any : Bool) → (returning ask code (deed_page_in_with plan g ask lpid src gpa any)).frame ≡ None
+  by_code None true = refl
+  by_code None false = refl
+  by_code (Some code) any = refl
+
+-- nor does the end of a page-in
+pub in_unframed : (g : GuestPart) (ask : Ask) (move : Move) → (deed_page_in_end g ask move).frame ≡ None
+in_unframed g ask move = by_test (move.generation == g.generation) (is_last_sealed (g.pages move.gfn).sealed ask.hand) where
+  by_test : (b last : Bool) → (if b then deed_page_in_test ask last else coming_back ask UParameter).frame ≡ None
+  by_test true true = refl
+  by_test true false = refl
+  by_test false last = refl
 
 -- a load or store of the hypervisor touches no pool
 pub address_unpooled : (plan : Plan) (bytes : ℕ → List ℕ) (c : CpuPart) (ra : ℕ) (cmd : Cmd) → (deed_at_address plan bytes (ask_hypervisor c) ra cmd).pool ≡ None
@@ -159,12 +166,6 @@ access_unframed ask success NoFrame = refl
 access_unframed ask success Moves = refl
 
 pub running_unframed : (plan : Plan) (g : GuestWhole) (any : Bool) (ask : Ask) (cmd : Cmd) → (deed_running plan g any ask cmd).frame ≡ None
-running_unframed plan g any ask (HLd ra) = refl
-running_unframed plan g any ask (HSt ra value) = refl
-running_unframed plan g any ask (UPageout lpid dest gpa flags order) = refl
-running_unframed plan g any ask (UReturn r0 r2 outs) = refl
-running_unframed plan g any ask (GLi rd value) = refl
 running_unframed plan g any ask (GLd rd gpa) = access_unframed ask (answer.Val (private_doubleword plan g gpa)) (reach plan g.part any gpa)
 running_unframed plan g any ask (GSt rs gpa) = access_unframed ask answer.Done (reach plan g.part any gpa)
-running_unframed plan g any ask GIrq = refl
-running_unframed plan g any ask Go = refl
+running_unframed plan g any ask cmd = refl

@@ -1,5 +1,5 @@
 -- A history that fits the machine fits it with one more entry, object by object.
-use Rattle.std.proofs.Common.{◌≡◌, ◌≢◌, ℕ, ◌+◌, ◌<◌, ◌==◌, true, false, if◌then◌else◌, List, [], ◌∷◌, length, Option, Some, None, is_some, refl, ap, sym, subst, ◌∙◌, ◌⊎◌, inl, inr, arith}
+use Rattle.std.proofs.Common.{◌≡◌, ◌≢◌, ℕ, ◌+◌, ◌<◌, ◌==◌, Bool, true, false, if◌then◌else◌, List, [], ◌∷◌, length, Option, Some, None, is_some, refl, ap, sym, subst, ◌∙◌, ◌⊎◌, inl, inr, arith}
 use Rattle.std.specs.Prelude.{slice_set}
 use Rattle.std.proofs.Math.ListN.{length-set}
 use Rattle.std.proofs.lemmas.Bool.{cases_eq}
@@ -60,6 +60,17 @@ module _ (plan : Plan) (past : List Event) (e : Event) where
     count = shows.count;
     bytes = λ n below. shows.bytes n below ∙ sym (ap (λ (f : Option ℕ). if is_number n f then next_frame plan (frame_after plan n past) e else frame_after plan n past) none);
   }
+
+  -- an entry that leaves the frame that it reads leaves all
+  pub frame_read : (normal : NormalState) → ((bytes : List ℕ) → next_frame plan bytes e ≡ bytes) → ShowsNormal plan normal (λ k. frame_after plan k past) → ShowsNormal plan normal (λ k. frame_after plan k (e ∷ past))
+  frame_read normal leaves shows = record {
+    shift = shows.shift;
+    count = shows.count;
+    bytes = λ k below. shows.bytes k below ∙ sym (by_test k (touches_frame k e));
+  } where
+    by_test : (k : ℕ) (b : Bool) → (if b then next_frame plan (frame_after plan k past) e else frame_after plan k past) ≡ frame_after plan k past
+    by_test k true = leaves (frame_after plan k past)
+    by_test k false = refl
 
   -- the frame that an entry writes has what the entry leaves, and every other what it had
   pub frame_written : (normal : NormalState) (n : ℕ) (bytes : List ℕ) → e.saw.frame ≡ Some n → n < length normal.frames → bytes ≡ next_frame plan (frame_at normal.frames n) e →

@@ -17,7 +17,9 @@ use Rattle.pef_core.specs.Normal.{NormalState}
 use Rattle.pef_core.specs.Rows.{StaysOrLeaves}
 use Rattle.pef_guest.specs.Refused.{RefusesCpu, SameGuest}
 use Rattle.pef_move.specs.declared.page_call.PageCall.{PageCall}
+use Rattle.pef_model.specs.declared.state.Move.{Move}
 use Rattle.pef_move.specs.PageOut.{RefusesCall, EndsOld, ComesBackWith}
+use Rattle.pef_move.specs.PageIn.{RefusesPageIn}
 use Rattle.pef_core.specs.Refused.{RefusesGuest, LeavesNormal, LeavesReturn, LeavesCommand, OnCpu, OnGuest, ComesBackLate, LeavesRest}
 use Rattle.pef_core.specs.State.{State}
 use Rattle.pef_core.proofs.Lists.{set_same}
@@ -84,37 +86,50 @@ module _ {S : Type 0} (old : State S) (n : ℕ) (cpu : Cpu) (there : slice_get o
           at_place SameGuest old.guests i guest new_guest here same g h (ap (slice_get old.guests) (sym is) ∙ before) (ap (slice_get (slice_set old.guests i new_guest)) (sym is) ∙ after)
       by_place (inr other) = some_same g h (sym before ∙ sym (get_other old.guests i k new_guest other) ∙ after)
 
-    pub return_leaves : (new_cpu : Cpu) (a : Answer) → LeavesReturn guest new_guest cpu new_cpu a →
-        LeavesRest n ctx.Hv old (record old { cpus = slice_set old.cpus n new_cpu; guests = slice_set old.guests i new_guest }) a
-    return_leaves new_cpu (answer.Ret code) h = record {
-      cpu = at_place (λ c d. RefusesCpu c d code) old.cpus n cpu new_cpu there h.0;
+    -- a call that comes back at once
+    call_leaves : (new_cpu : Cpu) (pool : PoolState) (code : Code) → RefusesCpu cpu new_cpu code → SameGuest guest new_guest → pool ≡ old.pool →
+        LeavesRest n ctx.Hv old (record old { cpus = slice_set old.cpus n new_cpu; guests = slice_set old.guests i new_guest; pool = pool }) (answer.Ret code)
+    call_leaves new_cpu pool code refuses same pool_is = record {
+      cpu = at_place (λ c d. RefusesCpu c d code) old.cpus n cpu new_cpu there refuses;
       others = λ k other. get_other old.cpus n k new_cpu other;
-      guests_stay = guests_stay h.1;
-      pool_stays = refl;
+      guests_stay = guests_stay same;
+      pool_stays = pool_is;
       normal_stays = refl;
     }
+
+    pub return_leaves : (new_cpu : Cpu) (a : Answer) → LeavesReturn guest new_guest cpu new_cpu a →
+        LeavesRest n ctx.Hv old (record old { cpus = slice_set old.cpus n new_cpu; guests = slice_set old.guests i new_guest }) a
+    return_leaves new_cpu (answer.Ret code) h = call_leaves new_cpu old.pool code h.0 h.1 refl
     return_leaves new_cpu answer.Enter h = tt
     return_leaves new_cpu a h = absurd h
 
-    -- a page-out that comes back at once
     pub page_out_leaves : (call : PageCall) (new_cpu : Cpu) (a : Answer) → RefusesCall call guest new_guest cpu new_cpu a →
         LeavesRest n ctx.Hv old (record old { cpus = slice_set old.cpus n new_cpu; guests = slice_set old.guests i new_guest }) a
-    page_out_leaves call new_cpu (answer.Ret code) h = return_leaves new_cpu (answer.Ret code) (h.1, h.2)
+    page_out_leaves call new_cpu (answer.Ret code) h = call_leaves new_cpu old.pool code h.1 h.2 refl
     page_out_leaves call new_cpu answer.Step h = tt
     page_out_leaves call new_cpu a h = absurd h
 
-    -- a page-out that comes back after its guest has ended
-    pub end_leaves : (work : Work) (new_cpu : Cpu) (pool : PoolState) (a : Answer) → ComesBackWith cpu new_cpu a → EndsOld guest new_guest old.pool pool a →
+    pub page_in_leaves : (call : PageCall) (new_cpu : Cpu) (pool : PoolState) (a : Answer) → RefusesPageIn call guest new_guest cpu new_cpu old.pool pool a →
+        LeavesRest n ctx.Hv old (record old { cpus = slice_set old.cpus n new_cpu; guests = slice_set old.guests i new_guest; pool = pool }) a
+    page_in_leaves call new_cpu pool (answer.Ret code) h = call_leaves new_cpu pool code h.1 h.2 h.3
+    page_in_leaves call new_cpu pool answer.Step h = tt
+    page_in_leaves call new_cpu pool a h = absurd h
+
+    -- a move that comes back after its guest has ended
+    pub end_leaves : (work : Work) (move : Move) (new_cpu : Cpu) (pool : PoolState) (a : Answer) → ComesBackWith cpu new_cpu a → EndsOld move guest new_guest cpu new_cpu old.pool pool a →
+        (a ≡ answer.Ret UParameter → move.generation ≢ guest.generation) →
         LeavesRest n (ctx.Uv work) old (record old { cpus = slice_set old.cpus n new_cpu; guests = slice_set old.guests i new_guest; pool = pool }) a
-    end_leaves work new_cpu pool (answer.Ret UParameter) back h = record {
-      cpu = at_place ComesBackLate old.cpus n cpu new_cpu there back;
-      others = λ k other. get_other old.cpus n k new_cpu other;
-      guests_stay = guests_stay h.0;
-      pool_stays = h.1;
-      normal_stays = refl;
-    }
-    end_leaves work new_cpu pool (answer.Ret code) back h = tt
-    end_leaves work new_cpu pool a back h = absurd back
+    end_leaves work move new_cpu pool (answer.Ret UParameter) back h differs =
+        let is = h (differs refl) in
+        record {
+          cpu = at_place ComesBackLate old.cpus n cpu new_cpu there back;
+          others = λ k other. get_other old.cpus n k new_cpu other;
+          guests_stay = guests_stay is.2;
+          pool_stays = is.3;
+          normal_stays = refl;
+        }
+    end_leaves work move new_cpu pool (answer.Ret code) back h differs = tt
+    end_leaves work move new_cpu pool a back h differs = absurd back
 
     -- a guest that changes so, on a CPU that doesn't
     on_guest : (P : Guest S → Guest S → Type 0) (new_cpu : Cpu) (pool : PoolState) → new_cpu ≡ cpu → P guest new_guest → pool ≡ old.pool →

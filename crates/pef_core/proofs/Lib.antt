@@ -5,7 +5,8 @@ pub mod Fitting
 pub mod Entries
 pub mod Continuing
 pub mod RunningSteps
-pub mod PageOutSteps
+pub mod Clashes
+pub mod PageSteps
 pub mod Places
 pub mod Room
 pub mod Moving

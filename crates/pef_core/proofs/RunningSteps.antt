@@ -6,7 +6,7 @@ use Rattle.pef_model.specs.declared.state.Regs.{Regs}
 use Rattle.pef_model.specs.declared.state.Ctx.TheVariants as ctx
 use Rattle.pef_model.specs.declared.state.Tag.{Tag}
 use Rattle.pef_model.specs.declared.command.Cmd.{Cmd}
-use Rattle.pef_model.specs.declared.command.Cmd.TheVariants.{HLd, HSt, UPageout, UReturn, GLi, GLd, GSt, GIrq, Go}
+use Rattle.pef_model.specs.declared.command.Cmd.TheVariants.{HLd, HSt, GLi, GLd, GSt, Go}
 use Rattle.pef_model.specs.declared.entry.Answer.{Answer}
 use Rattle.pef_model.specs.declared.entry.Answer.TheVariants as answer
 use Rattle.pef_model.specs.Plan.{Plan}
@@ -34,36 +34,15 @@ use Rattle.pef_core.proofs.Continuing.{mark_at, context, makes_at_guest}
 -- a command that answers Gone leaves the guest as it was
 gone_part : (plan : Plan) (g : GuestPart) (vid : ℕ) (cmd : Cmd) → part_after_guest plan g vid cmd answer.Gone ≡ g
 gone_part plan g vid (HLd ra) = refl
-gone_part plan g vid (HSt ra value) = refl
-gone_part plan g vid (UPageout lpid dest gpa flags order) = refl
-gone_part plan g vid (UReturn r0 r2 outs) = refl
-gone_part plan g vid (GLi rd value) = refl
-gone_part plan g vid (GLd rd gpa) = refl
-gone_part plan g vid (GSt rs gpa) = refl
-gone_part plan g vid GIrq = refl
-gone_part plan g vid Go = refl
+gone_part plan g vid cmd = refl
 
 gone_stored : (plan : Plan) (g : GuestWhole) (vid : ℕ) (cmd : Cmd) (gpa : ℕ) → stored_by_command plan g vid cmd answer.Gone gpa ≡ None
 gone_stored plan g vid (HLd ra) gpa = refl
-gone_stored plan g vid (HSt ra value) gpa = refl
-gone_stored plan g vid (UPageout lpid dest at flags order) gpa = refl
-gone_stored plan g vid (UReturn r0 r2 outs) gpa = refl
-gone_stored plan g vid (GLi rd value) gpa = refl
-gone_stored plan g vid (GLd rd at) gpa = refl
-gone_stored plan g vid (GSt rs at) gpa = refl
-gone_stored plan g vid GIrq gpa = refl
-gone_stored plan g vid Go gpa = refl
+gone_stored plan g vid cmd gpa = refl
 
 gone_registers : (regs : Regs) (cmd : Cmd) → registers_after_command regs cmd answer.Gone ≡ regs
 gone_registers regs (HLd ra) = refl
-gone_registers regs (HSt ra value) = refl
-gone_registers regs (UPageout lpid dest gpa flags order) = refl
-gone_registers regs (UReturn r0 r2 outs) = refl
-gone_registers regs (GLi rd value) = refl
-gone_registers regs (GLd rd gpa) = refl
-gone_registers regs (GSt rs gpa) = refl
-gone_registers regs GIrq = refl
-gone_registers regs Go = refl
+gone_registers regs cmd = refl
 
 put_same : (f : ℕ → Regs) (v : ℕ) (regs : Regs) → regs ≡ f v → (n : ℕ) → put f v regs n ≡ f n
 put_same f v regs same n = by_test (n == v) refl where
@@ -83,19 +62,14 @@ module _ {S : Type 0} (stands : S → Tag → List ℕ → List ℕ → Type 0) 
   touched : (plan : Plan) (c : CpuPart) (cmd : Cmd) → is_no_guests cmd ≡ false → (lpid : ℕ) → is_guest lpid (target_in plan (ctx.Guest run) c.lpid cmd) ≡ (i + 1 == lpid)
   touched plan c (HLd ra) h lpid = cc
   touched plan c (HSt ra value) h lpid = cc
-  touched plan c (UPageout named dest gpa flags order) h lpid = ap (λ (l : ℕ). l == lpid) lpid_is
-  touched plan c (UReturn r0 r2 outs) h lpid = ap (λ (l : ℕ). l == lpid) lpid_is
-  touched plan c (GLi rd value) h lpid = ap (λ (l : ℕ). l == lpid) lpid_is
-  touched plan c (GLd rd gpa) h lpid = ap (λ (l : ℕ). l == lpid) lpid_is
-  touched plan c (GSt rs gpa) h lpid = ap (λ (l : ℕ). l == lpid) lpid_is
-  touched plan c GIrq h lpid = ap (λ (l : ℕ). l == lpid) lpid_is
   touched plan c Go h lpid = cc
+  touched plan c cmd h lpid = ap (λ (l : ℕ). l == lpid) lpid_is
 
   -- a guest that has ended gives its CPU back
   pub gone_continues : (new_cpu : Cpu) (cmd : Cmd) → is_no_guests cmd ≡ false → (run.generation == guest.generation) ≡ false →
       ((c : CpuPart) (mark : Mark) → ShowsCpu cpu c → ShowsCpu new_cpu (next_cpu c (entry_of (ask_running run c) mark cmd (deed_gone (ask_running run c))))) →
       Continues stands image old (record old { cpus = slice_set old.cpus n new_cpu }) n cmd answer.Gone
-  gone_continues new_cpu cmd own older leaves plan past line place stamp fits =
+  gone_continues new_cpu cmd own older leaves plan past line place stamp fits clean =
       let mark : Mark = mark_at n line place stamp in
       let c : CpuPart = cpu_after plan n past in
       let g : GuestWhole = guest_after plan (i + 1) past in
@@ -115,7 +89,7 @@ module _ {S : Type 0} (stands : S → Tag → List ℕ → List ℕ → Type 0) 
   pub command_continues : (new_cpu : Cpu) (new_guest : Guest S) (pool : PoolState) (cmd : Cmd) (a : Answer) → is_no_guests cmd ≡ false → (run.generation == guest.generation) ≡ true →
       DoesCommand stands image run cmd guest new_guest cpu new_cpu old.pool pool a →
       Continues stands image old (record old { cpus = slice_set old.cpus n new_cpu; guests = slice_set old.guests i new_guest; pool = pool }) n cmd a
-  command_continues new_cpu new_guest pool cmd a own same does plan past line place stamp fits =
+  command_continues new_cpu new_guest pool cmd a own same does plan past line place stamp fits clean =
       let mark : Mark = mark_at n line place stamp in
       let c : CpuPart = cpu_after plan n past in
       let g : GuestWhole = guest_after plan (i + 1) past in

@@ -74,7 +74,7 @@ module _ {S : Type 0} (stands : S → Tag → List ℕ → List ℕ → Type 0) 
   shows_vcpu vcpus vcpu regs others own =
       shows_step (record g.part { vcpus = vcpus }) g.content old.pages vcpu regs refl refl others own
       (record { count = shows.pages.count; kinds = shows.pages.kinds; movers = shows.pages.movers; order = shows.pages.order; holds = shows.pages.holds })
-      (record { images = shows.sealed.images; versions = shows.sealed.versions; digests = shows.sealed.digests; stands_for = shows.sealed.stands_for; pendings = shows.sealed.pendings })
+      (record { images = shows.sealed.images; versions = shows.sealed.versions; digests = shows.sealed.digests; stands_for = shows.sealed.stands_for; words = shows.sealed.words; pendings = shows.sealed.pendings })
 
   -- a step that changes the registers of its vCPU
   pub shows_registers : (change : Regs → Regs) →

@@ -4,9 +4,11 @@ use Rattle.std.specs.Prelude.{slice_get, slice_set}
 use Rattle.std.specs.List.{count_by, flat_map}
 use Rattle.std.proofs.lemmas.List.Sums.{sum_by-append}
 use Rattle.std.proofs.lemmas.List.Recursion.{is_sum_by}
-use Rattle.pef_model.specs.declared.state.Way.TheVariants.{Outward as IsOutward}
+use Rattle.pef_model.specs.declared.state.Way.TheVariants as way
+use Rattle.pef_model.specs.declared.state.Mover.{Mover}
+use Rattle.pef_model.specs.declared.state.Move.{Move}
 use Rattle.pef_model.specs.declared.state.Run.{Run}
-use Rattle.pef_model.specs.declared.state.Work.TheVariants.{Outward}
+use Rattle.pef_model.specs.declared.state.Work.TheVariants.{Inward, Outward}
 use Rattle.pef_model.specs.declared.state.Ctx.{Ctx}
 use Rattle.pef_model.specs.declared.state.Ctx.TheVariants as ctx
 use Rattle.pef_model.specs.Deed.{may_return_in}
@@ -19,7 +21,7 @@ use Rattle.pef_guest.specs.declared.guest.Guest.{Guest}
 use Rattle.pef_guest.specs.Whole.{IsWhole}
 use Rattle.pef_guest.specs.Keeps.{KeepsGuest, KeepsFrames, KeepsMovers, times_held}
 use Rattle.pef_core.specs.Normal.{NormalState}
-use Rattle.pef_core.specs.State.{State, IsCpuOf, IsGuestOf, IsVcpu, HasVcpu, MayRun, MovesOutward, Works, FramesOnce, IsWholeMachine, guest_at}
+use Rattle.pef_core.specs.State.{State, IsCpuOf, IsGuestOf, IsVcpu, HasVcpu, MayRun, MovesPage, IsMoveOf, Works, FramesOnce, IsWholeMachine, guest_at}
 use Rattle.pef_core.proofs.Lists.{each_set, each_map}
 
 -- what holds of the element at a place, after another was put in
@@ -42,10 +44,13 @@ module _ {S : Type 0} (guests : List (Guest S)) (i : ℕ) (g g' : Guest S) (is :
   may_run_stays lpid generation h =
       at_set (λ x. MayRun x generation) guests i (lpid - 1) g g' is (λ may same. ap may_return_in keeps.phase ∙ may (same ∙ keeps.generation)) h
 
-  -- a page that this CPU moves is moved by it still, where the step is another CPU's
-  moves_stay : (n k lpid generation gfn : ℕ) → k ≢ n → KeepsMovers n g g' → MovesOutward (guest_at guests lpid) generation gfn k → MovesOutward (guest_at (slice_set guests i g') lpid) generation gfn k
-  moves_stay n k lpid generation gfn other movers h =
-      at_set (λ x. MovesOutward x generation gfn k) guests i (lpid - 1) g g' is (λ moves same. movers gfn (record { cpu = k; way = IsOutward }) other (moves (same ∙ keeps.generation))) h
+  -- a page that another CPU moves is moved by it still
+  move_stays : (normal : NormalState) (n : ℕ) (mover : Mover) (move : Move) → mover.cpu ≢ n → KeepsMovers n g g' → IsMoveOf guests normal mover move → IsMoveOf (slice_set guests i g') normal mover move
+  move_stays normal n mover move other movers h = record {
+    least = h.least;
+    moves = at_set (λ x. MovesPage x move.generation move.gfn mover) guests i (move.lpid - 1) g g' is (λ moves same. movers move.gfn mover other (moves (same ∙ keeps.generation))) h.moves;
+    frame = h.frame;
+  }
 
   -- a vCPU that a CPU runs still may run
   pub runs_stay : (normal : NormalState) (n : ℕ) (run : Run) → Works guests normal n (ctx.Guest run) → Works (slice_set guests i g') normal n (ctx.Guest run)
@@ -53,7 +58,8 @@ module _ {S : Type 0} (guests : List (Guest S)) (i : ℕ) (g g' : Guest S) (is :
 
   works_stay : (normal : NormalState) (n k : ℕ) (c : Ctx) → k ≢ n → KeepsMovers n g g' → Works guests normal k c → Works (slice_set guests i g') normal k c
   works_stay normal n k ctx.Hv other movers h = tt
-  works_stay normal n k (ctx.Uv (Outward move)) other movers h = record { least = h.least; moves = moves_stay n k move.lpid move.generation move.gfn other movers h.moves; frame = h.frame }
+  works_stay normal n k (ctx.Uv (Inward move)) other movers h = move_stays normal n (record { cpu = k; way = way.Inward }) move other movers h
+  works_stay normal n k (ctx.Uv (Outward move)) other movers h = move_stays normal n (record { cpu = k; way = way.Outward }) move other movers h
   works_stay normal n k (ctx.Guest run) other movers h = runs_stay normal k run h
 
   -- a CPU of the machine still is one, after a step of another
@@ -65,10 +71,15 @@ module _ {S : Type 0} (guests : List (Guest S)) (i : ℕ) (g g' : Guest S) (is :
     hand = h.hand;
   }
 
+-- a move has its normal frame among others that are as many
+move_with : {S : Type 0} (guests : List (Guest S)) (old new : NormalState) (mover : Mover) (move : Move) → length new.frames ≡ length old.frames → IsMoveOf guests old mover move → IsMoveOf guests new mover move
+move_with guests old new mover move count h = record { least = h.least; moves = h.moves; frame = subst (λ (k : ℕ). move.frame < k) (sym count) h.frame }
+
 -- a CPU of the machine is one with other normal frames, where they are of the same size and as many
 works_with : {S : Type 0} (guests : List (Guest S)) (old new : NormalState) (n : ℕ) (c : Ctx) → length new.frames ≡ length old.frames → Works guests old n c → Works guests new n c
 works_with guests old new n ctx.Hv count h = tt
-works_with guests old new n (ctx.Uv (Outward move)) count h = record { least = h.least; moves = h.moves; frame = subst (λ (k : ℕ). move.frame < k) (sym count) h.frame }
+works_with guests old new n (ctx.Uv (Inward move)) count h = move_with guests old new (record { cpu = n; way = way.Inward }) move count h
+works_with guests old new n (ctx.Uv (Outward move)) count h = move_with guests old new (record { cpu = n; way = way.Outward }) move count h
 works_with guests old new n (ctx.Guest run) count h = h
 
 pub cpu_with : {S : Type 0} (guests : List (Guest S)) (old new : NormalState) (n : ℕ) (cpu : Cpu) → new.shift ≡ old.shift → length new.frames ≡ length old.frames → IsCpuOf guests old n cpu → IsCpuOf guests new n cpu

@@ -10,7 +10,7 @@ use Rattle.pef_model.specs.PageOut.{tag_of, page_bytes}
 use Rattle.pef_model.specs.Authority.{Copy, InSecureFrame, InSealedBytes, InNormalFrame, authority}
 use Rattle.pef_model.specs.History.{guest_after, last_store, public_state, IsLegal}
 use Rattle.pef_frames.specs.Frame.{FrameState}
-use Rattle.pef_pages.specs.Pages.{digest_at, frame_at}
+use Rattle.pef_pages.specs.Pages.{mover_at, digest_at, frame_at}
 use Rattle.pef_guest.specs.declared.guest.Guest.{Guest}
 use Rattle.pef_guest.specs.Shows.{digest_by}
 use Rattle.pef_core.specs.State.{State, secure_frames}
@@ -25,10 +25,11 @@ pub record IsInFrame {S : Type 0} (m : State S) (plan : Plan) (guest : Guest S) 
   pub once : count_by (λ n. n == frame.number) (secure_frames m) ≡ 1
   pub digest : digest_at guest.pages gfn ≡ None
 
--- a page lies in sealed bytes: the page keeps their digest, and the sealer gives the last stores for them
+-- a page lies in sealed bytes: the page keeps their digest, the sealer gives the last stores for them, and a page that doesn't move has no frame; the frame of one that moves inward is no copy yet
 pub record IsSealed {S : Type 0} (stands : S → Tag → List ℕ → List ℕ → Type 0) (guest : Guest S) (part : GuestPart) (gfn : ℕ) (page sealed : List ℕ) : Type 0 where
   pub digest : digest_at guest.pages gfn ≡ Some (digest_by sealed)
   pub given_back : stands guest.sealer (tag_of part guest.lpid gfn (part.pages gfn).version) page sealed
+  pub rests : mover_at guest.pages gfn ≡ None → frame_at guest.pages gfn ≡ None
 
 -- a page has its copy where the model says that it counts, and no other; a page that has none has neither frame nor digest
 abbrev pub IsPlacedAt : {S : Type 0} → (S → Tag → List ℕ → List ℕ → Type 0) → State S → Plan → Guest S → GuestPart → ℕ → (ℕ → ℕ) → Option Copy → Type 0

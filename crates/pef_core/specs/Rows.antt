@@ -6,7 +6,7 @@ use Rattle.pef_model.specs.declared.state.Ctx.TheVariants as ctx
 use Rattle.pef_model.specs.declared.state.Regs.{Regs}
 use Rattle.pef_model.specs.declared.state.Tag.{Tag}
 use Rattle.pef_model.specs.declared.command.Cmd.{Cmd}
-use Rattle.pef_model.specs.declared.command.Cmd.TheVariants.{HLd, HSt, UPageout, UReturn, GLi, GLd, GSt, GIrq, Go}
+use Rattle.pef_model.specs.declared.command.Cmd.TheVariants.{HLd, HSt, UPagein, UPageout, UReturn, GLi, GLd, GSt, GIrq, Go}
 use Rattle.pef_model.specs.declared.entry.Answer.{Answer}
 use Rattle.pef_model.specs.declared.entry.Answer.TheVariants.{Hole, Again}
 use Rattle.pef_model.specs.declared.entry.Answer.TheVariants.{Exit as Exited}
@@ -133,6 +133,7 @@ pub record ReturnsOn {S : Type 0} (guest : Guest S) (old new : Cpu) : Type 0 whe
 abbrev pub is_no_guests : Cmd → Bool
 is_no_guests (HLd ra) = true
 is_no_guests (HSt ra value) = true
+is_no_guests (UPagein lpid src gpa flags order) = false
 is_no_guests (UPageout lpid dest gpa flags order) = false
 is_no_guests (UReturn r0 r2 outs) = false
 is_no_guests (GLi rd value) = false

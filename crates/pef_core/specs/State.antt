@@ -2,8 +2,9 @@
 use Rattle.std.specs.Prelude.{◌≡◌, ℕ, ◌+◌, ◌-◌, ◌^◌, ◌==◌, ◌<◌, ◌≤◌, nat_lt, true, if◌then◌else◌, List, ◌++◌, length, Option, Some, None, slice_get}
 use Rattle.std.specs.List.{count_by, flat_map}
 use Rattle.pef_model.specs.declared.state.Way.TheVariants as way
+use Rattle.pef_model.specs.declared.state.Mover.{Mover}
 use Rattle.pef_model.specs.declared.state.Move.{Move}
-use Rattle.pef_model.specs.declared.state.Work.TheVariants.{Outward}
+use Rattle.pef_model.specs.declared.state.Work.TheVariants.{Inward, Outward}
 use Rattle.pef_model.specs.declared.state.Ctx.{Ctx}
 use Rattle.pef_model.specs.declared.state.Ctx.TheVariants as ctx
 use Rattle.pef_model.specs.Deed.{may_return_in}
@@ -42,21 +43,22 @@ abbrev pub MayRun : {S : Type 0} → Option (Guest S) → ℕ → Type 0
 MayRun None generation = ⊥
 MayRun (Some guest) generation = generation ≡ guest.generation → may_return_in guest.phase ≡ true
 
--- where a guest is still in a generation, this CPU moves its page of this number outward
-abbrev pub MovesOutward : {S : Type 0} → Option (Guest S) → ℕ → ℕ → ℕ → Type 0
-MovesOutward None generation gfn n = ⊥
-MovesOutward (Some guest) generation gfn n = generation ≡ guest.generation → mover_at guest.pages gfn ≡ Some (record { cpu = n; way = way.Outward })
+-- where a guest is still in a generation, this CPU moves its page of this number this way
+abbrev pub MovesPage : {S : Type 0} → Option (Guest S) → ℕ → ℕ → Mover → Type 0
+MovesPage None generation gfn mover = ⊥
+MovesPage (Some guest) generation gfn mover = generation ≡ guest.generation → mover_at guest.pages gfn ≡ Some mover
 
--- a page-out of a CPU is one of a page of the machine, into one of its normal frames
-pub record IsMoveOf {S : Type 0} (guests : List (Guest S)) (normal : NormalState) (n : ℕ) (move : Move) : Type 0 where
+-- a move of a CPU is one of a page of the machine, from or into one of its normal frames
+pub record IsMoveOf {S : Type 0} (guests : List (Guest S)) (normal : NormalState) (mover : Mover) (move : Move) : Type 0 where
   pub least : 1 ≤ move.lpid
-  pub moves : MovesOutward (guest_at guests move.lpid) move.generation move.gfn n
+  pub moves : MovesPage (guest_at guests move.lpid) move.generation move.gfn mover
   pub frame : move.frame < length normal.frames
 
 -- what a CPU runs is a vCPU of the machine, and what it moves is a page
 abbrev pub Works : {S : Type 0} → List (Guest S) → NormalState → ℕ → Ctx → Type 0
 Works guests normal n ctx.Hv = Unit {0}
-Works guests normal n (ctx.Uv (Outward move)) = IsMoveOf guests normal n move
+Works guests normal n (ctx.Uv (Inward move)) = IsMoveOf guests normal (record { cpu = n; way = way.Inward }) move
+Works guests normal n (ctx.Uv (Outward move)) = IsMoveOf guests normal (record { cpu = n; way = way.Outward }) move
 Works guests normal n (ctx.Guest run) = IsVcpu guests run.lpid run.vid × MayRun (guest_at guests run.lpid) run.generation
 
 -- a CPU has its number and a hand of one page, selects and runs vCPUs of the machine, and moves its pages

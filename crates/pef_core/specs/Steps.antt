@@ -1,11 +1,12 @@
 -- A machine and the histories that fit it.
-use Rattle.std.specs.Prelude.{◌≡◌, ℕ, ◌+◌, List, ◌∷◌, length}
+use Rattle.std.specs.Prelude.{◌≡◌, ℕ, ◌+◌, false, List, ◌∷◌, length}
 use Rattle.pef_model.specs.declared.state.Tag.{Tag}
 use Rattle.pef_model.specs.declared.command.Cmd.{Cmd}
 use Rattle.pef_model.specs.declared.entry.Answer.{Answer}
 use Rattle.pef_model.specs.Plan.{Plan}
 use Rattle.pef_model.specs.Event.{Event}
 use Rattle.pef_model.specs.History.{cpu_after, guest_after, pool_after, frame_after, next_entry, Extends}
+use Rattle.pef_model.specs.Sound.{is_clash}
 use Rattle.pef_guest.specs.Shows.{ShowsCpu, Shows}
 use Rattle.pef_core.specs.Normal.{ShowsNormal}
 use Rattle.pef_core.specs.State.{State, Each}
@@ -27,8 +28,9 @@ module _ {S : Type 0} (stands : S → Tag → List ℕ → List ℕ → Type 0) 
     pub extends : Extends plan past e
     pub fits : Fits plan new (e ∷ past)
 
-  -- whatever history fits the machine before a step of a CPU, and whatever line, place and stamp the step has, it makes the one entry that the model gives
+  -- whatever history fits the machine before a step of a CPU, and whatever line, place and stamp the step has, it makes the one entry that the model gives, but where that is a digest collision
   abbrev pub Continues : State S → State S → ℕ → Cmd → Answer → Type 0
   Continues old new cpu cmd answer =
       (plan : Plan) (past : List Event) (line place stamp : ℕ) → Fits plan old past →
+      is_clash plan past (next_entry plan past (record { line = line; cpu = cpu; place = place; stamp = stamp }) cmd) ≡ false →
       Makes plan new past (next_entry plan past (record { line = line; cpu = cpu; place = place; stamp = stamp }) cmd) answer

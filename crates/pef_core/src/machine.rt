@@ -83,7 +83,8 @@ fn is_no_guests(cmd: &Cmd) -> bool
 {
     match cmd {
         Cmd::HLd { .. } | Cmd::HSt { .. } | Cmd::Go => true,
-        Cmd::UPageout { .. }
+        Cmd::UPagein { .. }
+        | Cmd::UPageout { .. }
         | Cmd::UReturn { .. }
         | Cmd::GLi { .. }
         | Cmd::GLd { .. }
@@ -124,6 +125,7 @@ impl<S: Seal> Machine<S> {
         ensures refused { (own : Cpu) → slice_get self.old.cpus cpu ≡ Some own → LeavesRest cpu own.ctx self.old self.new result }
         ensures count { self.new.steps ≡ self.old.steps + 1 }
         ensures cpus { length self.new.cpus ≡ length self.old.cpus }
+        ensures guests { length self.new.guests ≡ length self.old.guests }
     {
         self.steps += 1;
         match self.cpus[cpu as usize].ctx {
@@ -143,6 +145,7 @@ impl<S: Seal> Machine<S> {
         ensures step { Continues S.stands S.image self.old self.new cpu cmd.now result }
         ensures count { self.new.steps ≡ self.old.steps }
         ensures cpus { length self.new.cpus ≡ length self.old.cpus }
+        ensures guests { length self.new.guests ≡ length self.old.guests }
     {
         match cmd {
             Cmd::HLd { ra } => hypervisor::load(&mut self.cpus[cpu as usize], &self.normal, *ra),
@@ -150,6 +153,22 @@ impl<S: Seal> Machine<S> {
                 let own = &mut self.cpus[cpu as usize];
                 hypervisor::store(own, &mut self.normal, *ra, *value)
             }
+            Cmd::UPagein {
+                lpid,
+                src,
+                gpa,
+                flags,
+                order,
+            } => self.step_page_in(
+                cpu,
+                PageCall {
+                    lpid: *lpid,
+                    ra: *src,
+                    gpa: *gpa,
+                    flags: *flags,
+                    order: *order,
+                },
+            ),
             Cmd::UPageout {
                 lpid,
                 dest,
@@ -175,6 +194,26 @@ impl<S: Seal> Machine<S> {
         }
     }
 
+    /// UV_PAGE_IN on a CPU on which the hypervisor runs. U_PARAMETER where it names no guest.
+    fn step_page_in(&mut self, cpu: u8, call: PageCall) -> Answer
+        requires hypervisor { HasContext self.old.cpus cpu Ctx.Hv }
+        requires steps { HasSteps self.old }
+        requires frames_once { FramesOnce self.old }
+        ensures frames_once { FramesOnce self.new }
+        ensures refused { LeavesRest cpu Ctx.Hv self.old self.new result }
+        ensures step { Continues S.stands S.image self.old self.new cpu (Cmd.UPagein call.lpid call.ra call.gpa call.flags call.order) result }
+        ensures count { self.new.steps ≡ self.old.steps }
+        ensures cpus { length self.new.cpus ≡ length self.old.cpus }
+        ensures guests { length self.new.guests ≡ length self.old.guests }
+    {
+        if !self.has_guest(call.lpid) {
+            return pef_move::page_in_of_none(&mut self.cpus[cpu as usize], &call);
+        }
+        let own = &mut self.cpus[cpu as usize];
+        let guest = &mut self.guests[call.lpid as usize - 1];
+        pef_move::page_in_begin(guest, own, &mut self.pool, &call)
+    }
+
     /// UV_PAGE_OUT on a CPU on which the hypervisor runs. U_PARAMETER where it names no guest.
     fn step_page_out(&mut self, cpu: u8, call: PageCall) -> Answer
         requires hypervisor { HasContext self.old.cpus cpu Ctx.Hv }
@@ -185,6 +224,7 @@ impl<S: Seal> Machine<S> {
         ensures step { Continues S.stands S.image self.old self.new cpu (Cmd.UPageout call.lpid call.ra call.gpa call.flags call.order) result }
         ensures count { self.new.steps ≡ self.old.steps }
         ensures cpus { length self.new.cpus ≡ length self.old.cpus }
+        ensures guests { length self.new.guests ≡ length self.old.guests }
     {
         if !self.has_guest(call.lpid) {
             return pef_move::page_out_of_none(&mut self.cpus[cpu as usize], &call);
@@ -211,14 +251,50 @@ impl<S: Seal> Machine<S> {
         ensures step { Continues S.stands S.image self.old self.new cpu cmd.now result }
         ensures count { self.new.steps ≡ self.old.steps }
         ensures cpus { length self.new.cpus ≡ length self.old.cpus }
+        ensures guests { length self.new.guests ≡ length self.old.guests }
     {
         match (cmd, work) {
+            (Cmd::Go, Work::Inward(inward)) if inward.copied => self.step_page_in_end(cpu, inward),
+            (Cmd::Go, Work::Inward(inward)) => self.step_page_in_copy(cpu, inward),
             (Cmd::Go, Work::Outward(outward)) if outward.copied => self.step_page_out_end(
                 cpu, outward,
             ),
             (Cmd::Go, Work::Outward(outward)) => self.step_page_out_copy(cpu, outward),
             _ => Answer::Context,
         }
+    }
+
+    /// The copy of a page-in: what the normal frame that the call names holds goes into the CPU's hand.
+    fn step_page_in_copy(&mut self, cpu: u8, inward: Move) -> Answer
+        requires working { HasContext self.old.cpus cpu (Ctx.Uv (Work.Inward inward)) }
+        requires copied { inward.copied ≡ false }
+        requires frames_once { FramesOnce self.old }
+        ensures frames_once { FramesOnce self.new }
+        ensures refused { LeavesRest cpu (Ctx.Uv (Work.Inward inward)) self.old self.new result }
+        ensures step { Continues S.stands S.image self.old self.new cpu Cmd.Go result }
+        ensures count { self.new.steps ≡ self.old.steps }
+        ensures cpus { length self.new.cpus ≡ length self.old.cpus }
+        ensures guests { length self.new.guests ≡ length self.old.guests }
+    {
+        self.normal.copy_in(&mut self.cpus[cpu as usize], inward)
+    }
+
+    /// The end of a page-in, at the guest whose page it is.
+    fn step_page_in_end(&mut self, cpu: u8, inward: Move) -> Answer
+        requires working { HasContext self.old.cpus cpu (Ctx.Uv (Work.Inward inward)) }
+        requires copied { inward.copied ≡ true }
+        requires steps { HasSteps self.old }
+        requires frames_once { FramesOnce self.old }
+        ensures frames_once { FramesOnce self.new }
+        ensures refused { LeavesRest cpu (Ctx.Uv (Work.Inward inward)) self.old self.new result }
+        ensures step { Continues S.stands S.image self.old self.new cpu Cmd.Go result }
+        ensures count { self.new.steps ≡ self.old.steps }
+        ensures cpus { length self.new.cpus ≡ length self.old.cpus }
+        ensures guests { length self.new.guests ≡ length self.old.guests }
+    {
+        let own = &mut self.cpus[cpu as usize];
+        let guest = &mut self.guests[inward.lpid as usize - 1];
+        pef_move::page_in_end(guest, own, inward, &mut self.pool)
     }
 
     /// The copy of a page-out: what the CPU has in its hand goes into the normal frame that the call names.
@@ -231,6 +307,7 @@ impl<S: Seal> Machine<S> {
         ensures step { Continues S.stands S.image self.old self.new cpu Cmd.Go result }
         ensures count { self.new.steps ≡ self.old.steps }
         ensures cpus { length self.new.cpus ≡ length self.old.cpus }
+        ensures guests { length self.new.guests ≡ length self.old.guests }
     {
         self.normal.copy_out(&mut self.cpus[cpu as usize], outward)
     }
@@ -246,6 +323,7 @@ impl<S: Seal> Machine<S> {
         ensures step { Continues S.stands S.image self.old self.new cpu Cmd.Go result }
         ensures count { self.new.steps ≡ self.old.steps }
         ensures cpus { length self.new.cpus ≡ length self.old.cpus }
+        ensures guests { length self.new.guests ≡ length self.old.guests }
     {
         let own = &mut self.cpus[cpu as usize];
         let guest = &mut self.guests[outward.lpid as usize - 1];
@@ -262,6 +340,7 @@ impl<S: Seal> Machine<S> {
         ensures step { Continues S.stands S.image self.old self.new cpu (Cmd.UReturn r0 r2 outs.now) result }
         ensures count { self.new.steps ≡ self.old.steps }
         ensures cpus { length self.new.cpus ≡ length self.old.cpus }
+        ensures guests { length self.new.guests ≡ length self.old.guests }
     {
         let own = &mut self.cpus[cpu as usize];
         let guest = &mut self.guests[own.lpid as usize - 1];
@@ -278,6 +357,7 @@ impl<S: Seal> Machine<S> {
         ensures step { Continues S.stands S.image self.old self.new cpu cmd.now result }
         ensures count { self.new.steps ≡ self.old.steps }
         ensures cpus { length self.new.cpus ≡ length self.old.cpus }
+        ensures guests { length self.new.guests ≡ length self.old.guests }
     {
         if is_no_guests(cmd) {
             return Answer::Context;

@@ -3,6 +3,7 @@
 ghost use Rattle.std.specs.Prelude.{◌≡◌, ◌+◌, ◌^◌, ◌<◌, ◌≤◌, length, slice_set, true, IfOk, IfSome, if◌then◌else◌};
 ghost use Rattle.pef_model.specs.Plan.{IsWithin};
 ghost use Rattle.pef_model.specs.Doubleword.{doubleword};
+ghost use Rattle.pef_move.specs.PageIn.{CopiesPageIn};
 ghost use Rattle.pef_move.specs.PageOut.{CopiesPageOut};
 ghost use Rattle.pef_core.specs.Access.{has_place, place_at};
 ghost use Rattle.pef_core.specs.Normal.{zero_frames, frame_at, with_value, IsPlaceIn};
@@ -55,7 +56,8 @@ impl Normal {
     /// A frame, by its number from 0.
     pub fn frame(&self, number: u32) -> &NormalFrame
         requires { number < length self.now.frames }
-        ensures { result.now ≡ frame_at self.now.frames number }
+        ensures value { result.now ≡ frame_at self.now.frames number }
+        ensures size { length result.now ≡ 2 ^ self.now.shift }
     {
         &self.frames[number as usize]
     }
@@ -82,6 +84,19 @@ impl Normal {
         ensures { self.new ≡ with_value self.old place.page place.off value }
     {
         self.frames[place.page as usize].store(place.off, value);
+    }
+
+    /// The copy of a page-in: what the normal frame that the call in progress names holds goes into the CPU's hand.
+    pub fn copy_in(&self, cpu: &mut Cpu, inward: Move) -> Answer
+        requires working { cpu.old.ctx ≡ Ctx.Uv (Work.Inward inward) }
+        requires frame { inward.frame < length self.now.frames }
+        requires hand { length cpu.old.hand ≡ 2 ^ self.now.shift }
+        ensures answer { result ≡ Answer.Step }
+        ensures cpu { cpu.new ≡ record cpu.old { ctx = Ctx.Uv (Work.Inward (record inward { copied = true })); hand = frame_at self.now.frames inward.frame } }
+        ensures hand { length cpu.new.hand ≡ 2 ^ self.now.shift }
+        ensures row { CopiesPageIn inward cpu.old cpu.new (frame_at self.now.frames inward.frame) result }
+    {
+        pef_move::page_in_copy(cpu, inward, self.frame(inward.frame))
     }
 
     /// The copy of a page-out: the CPU's hand is written into the normal frame that the call in progress names.

@@ -15,7 +15,7 @@ ghost use Rattle.pef_guest.specs.Keeps.{IsPoolOf, KeepsGuest, KeepsFrames, Keeps
 use crate::access;
 use pef_frames::{Pool, SecFrame};
 use pef_guest::{Cpu, Guest, Vcpu, registers};
-use pef_model::{Answer, Cmd, Code, Exit, Pending, Reg, Run, UV_PAGE_OUT, VState};
+use pef_model::{Answer, Cmd, Code, Exit, Pending, Reg, Run, UV_PAGE_IN, UV_PAGE_OUT, VState};
 use pef_pages::Pages;
 use pef_seal::Seal;
 
@@ -29,6 +29,18 @@ fn refuse_return(vcpu: &mut Vcpu, r0: u64, r2: u64, outs: &[u64; 9]) -> Answer
     registers::give_code(&mut vcpu.regs.gpr, Code::UInvalid);
     registers::move_on(&mut vcpu.regs);
     Answer::Ret(Code::UInvalid)
+}
+
+/// UV_PAGE_IN of a guest: it always comes back with U_PERMISSION, since only the hypervisor pages in.
+fn refuse_page_in(vcpu: &mut Vcpu, operands: [u64; 5]) -> Answer
+    ensures answer { result ≡ Answer.Ret Code.UPermission }
+    ensures refused { RefusesVcpu vcpu.old vcpu.new Code.UPermission }
+    ensures vcpu { vcpu.new ≡ with_registers vcpu.old (at_next_instruction vcpu.old.regs (with_code (load_call vcpu.old.regs.gpr UV_PAGE_IN operands) Code.UPermission)) }
+{
+    registers::load_page_in(&mut vcpu.regs.gpr, operands);
+    registers::give_code(&mut vcpu.regs.gpr, Code::UPermission);
+    registers::move_on(&mut vcpu.regs);
+    Answer::Ret(Code::UPermission)
 }
 
 /// UV_PAGE_OUT of a guest: it always comes back with U_PERMISSION, since only the hypervisor pages out.
@@ -144,6 +156,13 @@ pub fn command<S: Seal>(
     let vcpu = &mut guest.vcpus[run.vid as usize];
     match cmd {
         Cmd::HLd { .. } | Cmd::HSt { .. } | Cmd::Go => Answer::Context,
+        Cmd::UPagein {
+            lpid,
+            src,
+            gpa,
+            flags,
+            order,
+        } => refuse_page_in(vcpu, [*lpid, *src, *gpa, *flags, *order]),
         Cmd::UPageout {
             lpid,
             dest,

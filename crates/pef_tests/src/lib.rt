@@ -10,6 +10,8 @@ mod machine;
 #[cfg(test)]
 mod num;
 #[cfg(test)]
+mod page_in;
+#[cfg(test)]
 mod page_out;
 #[cfg(test)]
 mod pages;

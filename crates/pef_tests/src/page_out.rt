@@ -14,7 +14,7 @@ const VAULT: &str = "frame 1 cec0380835655ac3b41bbb0375f9fb5c44421cb235399683ae5
 
 /// Runs the script of a header and command lines, and compares the report with what stands beside each line and what is to
 /// follow them.
-fn expect(
+pub fn expect(
     rt: &impl Abort,
     alloc: Global,
     header: &str,

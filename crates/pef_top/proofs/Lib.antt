@@ -6,5 +6,8 @@ pub mod OneWord
 pub mod LineText
 pub mod FramesText
 pub mod RunText
+pub mod Clean
+pub mod Wrote
+pub mod ReportText
 pub mod GoSteps
 pub mod Pairs

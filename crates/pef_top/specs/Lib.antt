@@ -6,3 +6,4 @@ pub mod Text
 pub mod Fault
 pub mod Top
 pub mod TwoRuns
+pub mod Runs

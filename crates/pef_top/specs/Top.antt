@@ -1,20 +1,19 @@
 -- What a top call did, by what its devices tell.
 use Rattle.std.specs.Prelude.{◌≡◌, ◌≢◌, ℕ, ◌≤◌, List, [], length, Option, Some, None, option_map}
-use Rattle.pef_io.specs.Sink.{appended, AppendsPrefix}
 use Rattle.pef_model.specs.Script.{Script, script_of}
 use Rattle.pef_top.specs.declared.limits.Limit.{Limit}
 use Rattle.pef_top.specs.declared.outcome.TheConstants.{SCRIPT_LIMIT}
 use Rattle.pef_top.specs.declared.outcome.RunOutcome.{RunOutcome}
 use Rattle.pef_top.specs.Limits.{limit_in}
 use Rattle.pef_top.specs.Outcome.{plain, limit_passed}
-use Rattle.pef_top.specs.Text.{report_text}
+use Rattle.pef_top.specs.Text.{WroteReport, WroteReportPart}
 
--- the whole report of the script that a text is was written
+-- the report of the script that a text is was written, whole where its run has no digest collision
 abbrev pub WritesReport : Option Script → Option (List ℕ) → Option (List ℕ) → Type 0
 WritesReport None old new = ⊥
-WritesReport (Some script) old new = new ≡ appended old (report_text script)
+WritesReport (Some script) old new = WroteReport script old new
 
--- an input that passes no limit was read to its end, is a script, and its whole report was written
+-- an input that passes no limit was read to its end, is a script, and its report was written
 pub record Reports (text : List ℕ) (left old new : Option (List ℕ)) : Type 0 where
   pub limit : limit_in text ≡ None
   pub read : left ≡ Some []
@@ -28,7 +27,7 @@ IfReports (Some text) left old new = Reports text left old new
 -- a first part of the report of the script that a text is was written
 abbrev pub BeginsReport : Option Script → Option (List ℕ) → Option (List ℕ) → Type 0
 BeginsReport None old new = ⊥
-BeginsReport (Some script) old new = AppendsPrefix old new (report_text script)
+BeginsReport (Some script) old new = WroteReportPart script old new
 
 -- an input passes no limit, and a first part of its report was written
 pub record Begins (text : List ℕ) (old new : Option (List ℕ)) : Type 0 where

@@ -1,12 +1,11 @@
 -- What two calls wrote whose scripts have alike runs.
-use Rattle.std.specs.Prelude.{◌≡◌, ℕ, List, Option, Some}
-use Rattle.pef_io.specs.Sink.{appended}
+use Rattle.std.specs.Prelude.{ℕ, List, Option, Some}
 use Rattle.pef_model.specs.Plan.{plan_of}
 use Rattle.pef_model.specs.Run.{run_of}
 use Rattle.pef_model.specs.Script.{Script, Reads}
 use Rattle.pef_model.specs.Alike.{IsAlike}
 use Rattle.pef_model.specs.SeenReport.{ReportTheSame}
-use Rattle.pef_top.specs.Text.{report_text}
+use Rattle.pef_top.specs.Text.{WroteReport}
 use Rattle.pef_top.specs.Top.{IfReports}
 
 -- what stood on a call's sink before it and after it
@@ -14,11 +13,11 @@ pub record Written : Type 0 where
   pub old : Option (List ℕ)
   pub new : Option (List ℕ)
 
--- a call wrote the whole report of a script's run
+-- a call wrote the report of a script's run, whole where the run has no digest collision
 abbrev pub IsReportOf : Script → Written → Type 0
-IsReportOf script w = w.new ≡ appended w.old (report_text script)
+IsReportOf script w = WroteReport script w.old w.new
 
--- each of two calls wrote its script's report, and these agree in the hypervisor's lines
+-- each of two calls wrote its script's report, and the whole reports agree in the hypervisor's lines
 pub record WroteTheSame (script other : Script) (w v : Written) : Type 0 where
   pub one : IsReportOf script w
   pub other_one : IsReportOf other v

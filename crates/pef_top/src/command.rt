@@ -75,22 +75,30 @@ fn named_command(name: &[u8], first: &[u8], second: &[u8]) -> Option<Cmd>
     }
 }
 
-/// The command of a name and its five operands: `u.pageout` with the guest, the normal frame, the page, the flags and the
-/// order. None where the name is another, or an operand is no number.
+/// The command of a name and its five operands: `u.pagein` and `u.pageout` with the guest, the normal frame, the page, the
+/// flags and the order. None where the name is another, or an operand is no number.
 fn long_command(
     name: &[u8],
     lpid: &[u8],
-    dest: &[u8],
+    ra: &[u8],
     gpa: &[u8],
     flags: &[u8],
     order: &[u8],
 ) -> Option<Cmd>
-    ensures { result ≡ long_command_of name.now lpid.now dest.now gpa.now flags.now order.now }
+    ensures { result ≡ long_command_of name.now lpid.now ra.now gpa.now flags.now order.now }
 {
-    if name == b"u.pageout".as_slice() {
+    if name == b"u.pagein".as_slice() {
+        Some(Cmd::UPagein {
+            lpid: parse_number(lpid)?,
+            src: parse_number(ra)?,
+            gpa: parse_number(gpa)?,
+            flags: parse_number(flags)?,
+            order: parse_number(order)?,
+        })
+    } else if name == b"u.pageout".as_slice() {
         Some(Cmd::UPageout {
             lpid: parse_number(lpid)?,
-            dest: parse_number(dest)?,
+            dest: parse_number(ra)?,
             gpa: parse_number(gpa)?,
             flags: parse_number(flags)?,
             order: parse_number(order)?,

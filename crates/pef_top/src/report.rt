@@ -20,6 +20,7 @@ fn name_of(cmd: &Cmd) -> &'static [u8]
     match cmd {
         Cmd::HLd { .. } => b"h.ld",
         Cmd::HSt { .. } => b"h.st",
+        Cmd::UPagein { .. } => b"u.pagein",
         Cmd::UPageout { .. } => b"u.pageout",
         Cmd::UReturn { .. } => b"u.return",
         Cmd::GLi { .. } => b"g.li",

@@ -1,6 +1,6 @@
 //! A script is run on a machine, and its report is written as the run goes.
 
-ghost use Rattle.std.specs.Prelude.{◌≡◌, ◌≢◌, ◌≤◌, ◌<◌, ◌+◌, ◌^◌, List, [], ◌∷◌, length, not, ◌||◌, IfOk, IfErr, IfSome, OnErr, OnOk, Err, slice_get};
+ghost use Rattle.std.specs.Prelude.{◌≡◌, ◌≢◌, ◌≤◌, ◌<◌, ◌+◌, ◌^◌, false, List, [], ◌∷◌, length, not, ◌||◌, IfOk, IfErr, IfSome, OnErr, OnOk, Err, slice_get};
 ghost use Rattle.pef_io.specs.Cause.{Rose, HasCause};
 ghost use Rattle.pef_io.specs.Sink.{appended, AppendsPrefix};
 ghost use Rattle.pef_model.specs.Plan.{Plan, plan_of};
@@ -10,7 +10,9 @@ ghost use Rattle.pef_model.specs.Script.{IsScript};
 ghost use Rattle.pef_seal.specs.Serves.{Serves};
 ghost use Rattle.pef_core.specs.Start.{IsServed};
 ghost use Rattle.pef_core.specs.Steps.{Fits, Makes};
-ghost use Rattle.pef_top.specs.Text.{Writes, WritesPart, entries_text, frames_text, report_text};
+ghost use Rattle.pef_top.specs.Text.{Wrote, WrotePart, Writes, WritesPart, frames_text, WroteReport, WroteReportPart};
+ghost use Rattle.pef_top.specs.Runs.{FitsIfClean};
+ghost use Rattle.pef_model.specs.Sound.{is_clash};
 ghost use Rattle.pef_top.specs.Top.{IsUntouched};
 
 use crate::fault::RunFault;
@@ -33,12 +35,12 @@ fn run_once<S: Seal, K: Sink>(
 ) -> Result<Answer, Failed>
     requires cpu { line.now.cpu < length machine.old.cpus }
     requires steps { machine.old.steps < 2 ^ 63 }
-    ensures made { (plan : Plan) → (past : List Event) → Fits S.stands S.image plan machine.old past →
+    ensures made { (plan : Plan) → (past : List Event) → Fits S.stands S.image plan machine.old past → is_clash plan past (entry_after plan past line.now cmd.now) ≡ false →
         IfOk result (Makes S.stands S.image plan machine.new past (entry_after plan past line.now cmd.now)) }
-    ensures all { (plan : Plan) → (past : List Event) → Fits S.stands S.image plan machine.old past →
-        OnOk result (Writes (K.written sink.old) (K.written sink.new) past (entry_after plan past line.now cmd.now ∷ past)) }
-    ensures prefix { (plan : Plan) → (past : List Event) → Fits S.stands S.image plan machine.old past →
-        OnErr result (WritesPart (K.written sink.old) (K.written sink.new) past (entry_after plan past line.now cmd.now ∷ past)) }
+    ensures all { (plan : Plan) → (past : List Event) → FitsIfClean S.stands S.image plan machine.old past →
+        OnOk result (Writes plan (K.written sink.old) (K.written sink.new) past (entry_after plan past line.now cmd.now ∷ past)) }
+    ensures prefix { (plan : Plan) → (past : List Event) → FitsIfClean S.stands S.image plan machine.old past →
+        OnErr result (WritesPart plan (K.written sink.old) (K.written sink.new) past (entry_after plan past line.now cmd.now ∷ past)) }
     ensures cause { HasCause (K.faults sink.old) (K.faults sink.new) result }
     ensures count { machine.new.steps ≡ machine.old.steps + 1 }
     ensures cpus { length machine.new.cpus ≡ length machine.old.cpus }
@@ -68,12 +70,12 @@ fn run_all<S: Seal, K: Sink>(
     requires cpu { line.now.cpu < length machine.old.cpus }
     requires few { pages ≤ 1024 }
     requires steps { machine.old.steps + 1028 ≤ 2 ^ 63 }
-    ensures fits { (plan : Plan) → (past : List Event) → plan.pages ≡ pages → Fits S.stands S.image plan machine.old past →
-        OnOk result (Fits S.stands S.image plan machine.new (with_directive plan past line.now Directive.GoAll)) }
-    ensures all { (plan : Plan) → (past : List Event) → plan.pages ≡ pages → Fits S.stands S.image plan machine.old past →
-        OnOk result (Writes (K.written sink.old) (K.written sink.new) past (with_directive plan past line.now Directive.GoAll)) }
-    ensures prefix { (plan : Plan) → (past : List Event) → plan.pages ≡ pages → Fits S.stands S.image plan machine.old past →
-        OnErr result (WritesPart (K.written sink.old) (K.written sink.new) past (with_directive plan past line.now Directive.GoAll)) }
+    ensures fits { (plan : Plan) → (past : List Event) → plan.pages ≡ pages → FitsIfClean S.stands S.image plan machine.old past →
+        OnOk result (FitsIfClean S.stands S.image plan machine.new (with_directive plan past line.now Directive.GoAll)) }
+    ensures all { (plan : Plan) → (past : List Event) → plan.pages ≡ pages → FitsIfClean S.stands S.image plan machine.old past →
+        OnOk result (Writes plan (K.written sink.old) (K.written sink.new) past (with_directive plan past line.now Directive.GoAll)) }
+    ensures prefix { (plan : Plan) → (past : List Event) → plan.pages ≡ pages → FitsIfClean S.stands S.image plan machine.old past →
+        OnErr result (WritesPart plan (K.written sink.old) (K.written sink.new) past (with_directive plan past line.now Directive.GoAll)) }
     ensures cause { HasCause (K.faults sink.old) (K.faults sink.new) result }
     ensures count { machine.new.steps ≤ machine.old.steps + 1028 }
     ensures cpus { length machine.new.cpus ≡ length machine.old.cpus }
@@ -97,12 +99,12 @@ fn run_line<S: Seal, K: Sink>(
     requires cpu { line.now.cpu < length machine.old.cpus }
     requires few { pages ≤ 1024 }
     requires steps { machine.old.steps + 1028 ≤ 2 ^ 63 }
-    ensures fits { (plan : Plan) → (past : List Event) → plan.pages ≡ pages → Fits S.stands S.image plan machine.old past →
-        OnOk result (Fits S.stands S.image plan machine.new (with_directive plan past line.now line.now.directive)) }
-    ensures all { (plan : Plan) → (past : List Event) → plan.pages ≡ pages → Fits S.stands S.image plan machine.old past →
-        OnOk result (Writes (K.written sink.old) (K.written sink.new) past (with_directive plan past line.now line.now.directive)) }
-    ensures prefix { (plan : Plan) → (past : List Event) → plan.pages ≡ pages → Fits S.stands S.image plan machine.old past →
-        OnErr result (WritesPart (K.written sink.old) (K.written sink.new) past (with_directive plan past line.now line.now.directive)) }
+    ensures fits { (plan : Plan) → (past : List Event) → plan.pages ≡ pages → FitsIfClean S.stands S.image plan machine.old past →
+        OnOk result (FitsIfClean S.stands S.image plan machine.new (with_directive plan past line.now line.now.directive)) }
+    ensures all { (plan : Plan) → (past : List Event) → plan.pages ≡ pages → FitsIfClean S.stands S.image plan machine.old past →
+        OnOk result (Writes plan (K.written sink.old) (K.written sink.new) past (with_directive plan past line.now line.now.directive)) }
+    ensures prefix { (plan : Plan) → (past : List Event) → plan.pages ≡ pages → FitsIfClean S.stands S.image plan machine.old past →
+        OnErr result (WritesPart plan (K.written sink.old) (K.written sink.new) past (with_directive plan past line.now line.now.directive)) }
     ensures cause { HasCause (K.faults sink.old) (K.faults sink.new) result }
     ensures count { machine.new.steps ≤ machine.old.steps + 1028 }
     ensures cpus { length machine.new.cpus ≡ length machine.old.cpus }
@@ -126,11 +128,9 @@ fn run_commands<S: Seal, K: Sink>(
     requires steps { machine.old.steps ≡ 0 }
     requires script { IsScript script.now }
     requires few { length script.now.lines ≤ SCRIPT_LIMIT }
-    ensures fits { OnOk result (Fits S.stands S.image (plan_of script.now.config) machine.new (run_of script.now)) }
-    ensures all { OnOk result
-        (K.written sink.new ≡ appended (K.written sink.old) (entries_text script.now)) }
-    ensures prefix { OnErr result
-        (AppendsPrefix (K.written sink.old) (K.written sink.new) (entries_text script.now)) }
+    ensures fits { OnOk result (FitsIfClean S.stands S.image (plan_of script.now.config) machine.new (run_of script.now)) }
+    ensures all { OnOk result (Wrote (plan_of script.now.config) (K.written sink.old) (K.written sink.new) (run_of script.now)) }
+    ensures prefix { OnErr result (WrotePart (plan_of script.now.config) (K.written sink.old) (K.written sink.new) (run_of script.now)) }
     ensures cause { HasCause (K.faults sink.old) (K.faults sink.new) result }
 {
     for line in &script.lines {
@@ -164,9 +164,9 @@ fn write_report<S: Seal, K: Sink>(
     requires script { IsScript script.now }
     requires few { length script.now.lines ≤ SCRIPT_LIMIT }
     ensures all { OnOk result
-        (K.written sink.new ≡ appended (K.written sink.old) (report_text script.now)) }
+        (WroteReport script.now (K.written sink.old) (K.written sink.new)) }
     ensures prefix { OnErr result
-        (AppendsPrefix (K.written sink.old) (K.written sink.new) (report_text script.now)) }
+        (WroteReportPart script.now (K.written sink.old) (K.written sink.new)) }
     ensures cause { HasCause (K.faults sink.old) (K.faults sink.new) result }
 {
     run_commands(machine, script, sink)?;
@@ -186,9 +186,9 @@ fn run_sealed<S: Seal, K: Sink>(
     requires few { length script.now.lines ≤ SCRIPT_LIMIT }
     requires sealers { IsServed script.now.config S.image S.takes sealers.items }
     ensures all { OnOk result
-        (K.written sink.new ≡ appended (K.written sink.old) (report_text script.now)) }
+        (WroteReport script.now (K.written sink.old) (K.written sink.new)) }
     ensures prefix { result ≡ Err RunFault.Write →
-        AppendsPrefix (K.written sink.old) (K.written sink.new) (report_text script.now) }
+        WroteReportPart script.now (K.written sink.old) (K.written sink.new) }
     ensures write { result ≡ Err RunFault.Write → Rose (K.faults sink.old) (K.faults sink.new) }
     ensures memory { IfErr result (λ e. e ≢ RunFault.Write → e ≡ RunFault.Memory) }
     ensures untouched { IfErr result (λ e. e ≢ RunFault.Write →
@@ -206,9 +206,9 @@ pub fn run_on_machine<K: Sink>(alloc: Global, script: &Script, sink: &mut K) -> 
     requires script { IsScript script.now }
     requires few { length script.now.lines ≤ SCRIPT_LIMIT }
     ensures all { OnOk result
-        (K.written sink.new ≡ appended (K.written sink.old) (report_text script.now)) }
+        (WroteReport script.now (K.written sink.old) (K.written sink.new)) }
     ensures prefix { result ≡ Err RunFault.Write →
-        AppendsPrefix (K.written sink.old) (K.written sink.new) (report_text script.now) }
+        WroteReportPart script.now (K.written sink.old) (K.written sink.new) }
     ensures write { result ≡ Err RunFault.Write → Rose (K.faults sink.old) (K.faults sink.new) }
     ensures memory { IfErr result (λ e. e ≢ RunFault.Write → e ≡ RunFault.Memory) }
     ensures untouched { IfErr result (λ e. e ≢ RunFault.Write →

@@ -5,7 +5,7 @@ use std::test::Fail;
 #[test]
 fn a_text_is_read_as_its_lines(rt: HostRuntime) -> Result<(), Fail> {
     let text =
-        b"pef 1\ncpus 0x10\nborn 1\nbegin\n0 u.return 3 0x100\n15 g.li r20 0xAbCdEf\n0xF g.st r31 007\n00 g.ld r0 18446744073709551615\n1 h.ld 0x10\n2 h.st 24 0xFF\n3 g.irq\n4 u.pageout 1 0x100 512 0 8\n5 go\n";
+        b"pef 1\ncpus 0x10\nborn 1\nbegin\n0 u.return 3 0x100\n15 g.li r20 0xAbCdEf\n0xF g.st r31 007\n00 g.ld r0 18446744073709551615\n1 h.ld 0x10\n2 h.st 24 0xFF\n3 g.irq\n4 u.pageout 1 0x100 512 0 8\n4 u.pagein 2 0x300 256 1 9\n5 go\n";
     let wanted = [
         (
             0,
@@ -47,6 +47,16 @@ fn a_text_is_read_as_its_lines(rt: HostRuntime) -> Result<(), Fail> {
                 gpa: 512,
                 flags: 0,
                 order: 8,
+            },
+        ),
+        (
+            4,
+            Cmd::UPagein {
+                lpid: 2,
+                src: 768,
+                gpa: 256,
+                flags: 1,
+                order: 9,
             },
         ),
         (5, Cmd::Go),
@@ -107,7 +117,7 @@ fn what_no_line_says_is_the_default(rt: HostRuntime) -> Result<(), Fail> {
 
 #[test]
 fn a_faulty_text_is_not_read(rt: HostRuntime) -> Result<(), Fail> {
-    let faulty: [&[u8]; 34] = [
+    let faulty: [&[u8]; 37] = [
         b"",
         b"pef 1\nborn 1\n0 g.li r1 7\n",
         b"pef 1\nborn 1\nbegin\n\n",
@@ -127,6 +137,9 @@ fn a_faulty_text_is_not_read(rt: HostRuntime) -> Result<(), Fail> {
         b"pef 1\nborn 1\nbegin\n0 u.pageout 1 0x100 0 0\n",
         b"pef 1\nborn 1\nbegin\n0 u.pageout 1 0x100 0 0 8 8\n",
         b"pef 1\nborn 1\nbegin\n0 u.pageout 1 r1 0 0 8\n",
+        b"pef 1\nborn 1\nbegin\n0 u.pagein 1 0x100 0 0\n",
+        b"pef 1\nborn 1\nbegin\n0 u.pagein 1 0x100 0 0 8 8\n",
+        b"pef 1\nborn 1\nbegin\n0 u.pagein 1 r1 0 0 8\n",
         b"pef 1\nborn 1\nbegin\n0 h.st 1 0x100 0 0 8\n",
         b"pef 1\nborn 1\nbegin\n0 go 1\n",
         b"pef 1\nborn 1\nbegin\n0 go *\n",

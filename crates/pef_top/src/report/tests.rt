@@ -57,3 +57,30 @@ fn each_code_has_its_name(rt: HostRuntime) -> Result<(), Fail> {
     }
     Ok(())
 }
+
+#[test]
+fn each_page_call_has_its_name(rt: HostRuntime) -> Result<(), Fail> {
+    let page_in = Cmd::UPagein {
+        lpid: 1,
+        src: 0,
+        gpa: 0,
+        flags: 0,
+        order: 8,
+    };
+    let page_out = Cmd::UPageout {
+        lpid: 1,
+        dest: 0,
+        gpa: 0,
+        flags: 0,
+        order: 8,
+    };
+    for (cmd, line) in [
+        (page_in, "1 0 u.pagein step\n"),
+        (page_out, "1 0 u.pageout step\n"),
+    ] {
+        let mut sink = MemSink::build(rt.alloc(), 100, Vec::new(rt.alloc()))?;
+        assert!(rt; put_entry(&mut sink, 1, 0, &cmd, &Answer::Step).is_ok());
+        assert!(rt; sink.bytes() == line.as_bytes());
+    }
+    Ok(())
+}

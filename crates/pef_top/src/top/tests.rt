@@ -44,6 +44,20 @@ fn a_page_goes_out_into_the_vault(rt: HostRuntime) -> Result<(), Fail> {
 }
 
 #[test]
+fn a_page_comes_back_from_the_bytes_that_were_sealed(rt: HostRuntime) -> Result<(), Fail> {
+    // The report is written down by hand; the hypervisor changes the sealed page's first doubleword, and then puts it back.
+    let (outcome, sink) = run(
+        rt.alloc(),
+        "pef 1\nshift 8\nsecure 1\nseal vault\nborn 1\nbegin\n0 u.return 0 0\n0 g.li r20 7\n0 g.st r20 0x8\n0 g.irq\n0 u.pageout 1 0x100 0 0 8\n0 go*\n0 h.st 0x100 5\n0 u.pagein 1 0x100 0 0 8\n0 go*\n0 h.st 0x100 1\n0 u.pagein 1 0x100 0 0 8\n0 go*\n0 u.return 0 0\n0 g.ld r5 0x8\n",
+    )?;
+    let report =
+        "7 0 u.return enter\n8 0 g.li done\n9 0 g.st done\n10 0 g.irq exit irq\n11 0 u.pageout step\n12 0 go step\n12 0 go ret U_SUCCESS\n13 0 h.st done\n14 0 u.pagein step\n15 0 go step\n15 0 go ret U_P2\n16 0 h.st done\n17 0 u.pagein step\n18 0 go step\n18 0 go ret U_SUCCESS\n19 0 u.return enter\n20 0 g.ld val 0x7\nframe 1 cec0380835655ac3b41bbb0375f9fb5c44421cb235399683ae586c9e8dd54fdc\nfree 0\nend\n";
+    assert!(rt; outcome == RunOutcome::plain(0));
+    assert!(rt; sink.bytes() == report.as_bytes());
+    Ok(())
+}
+
+#[test]
 fn a_machine_past_limit_three_is_not_built(rt: HostRuntime) -> Result<(), Fail> {
     let (outcome, sink) = run(rt.alloc(), "pef 1\nnormal 1024\nsecure 1\nborn 1\nbegin\n")?;
     // 1,025 frames of 65,536 bytes.

@@ -8,7 +8,7 @@ use Rattle.pef_core.proofs.GuestAfter.{load_stays, store_stays}
 use Rattle.pef_model.specs.declared.command.Code.TheVariants.{UInvalid, UPermission}
 use Rattle.pef_model.specs.declared.state.Pending.TheVariants.{Irq}
 use Rattle.pef_model.specs.declared.state.Regs.{Regs}
-use Rattle.pef_model.specs.Registers.{load_return, load_page_out, with_code}
+use Rattle.pef_model.specs.Registers.{load_return, load_page_in, load_page_out, with_code}
 use Rattle.pef_model.specs.Guest.{at_next_instruction}
 use Rattle.pef_core.proofs.StepShows.{shows_registers, shows_parked}
 use Rattle.pef_core.proofs.Refusals.{refused_guest, load_refused, store_refused}
@@ -93,6 +93,13 @@ returns-in-UReturn-clause-row g c plan whole part mark shows shows_cpu =
     c.index_mut-vcpu.ensures.value ∙ get_or_default c.args.guest.now.vcpus.items c.args.run.vid c.index_mut-vcpu.result.now (start_vcpu Idle) c.requires.runs.vid in
     rw (c.in-UReturn.is, c.refuse_return.ensures.answer, c.refuse_return.ensures.vcpu, vcpu)
     (record { row = record { answered = refl; guest = shows_registers g.S.Seal.stands g.S.Seal.image plan c.args.guest.now whole c.args.run.vid shows c.requires.runs.vid (λ (regs : Regs). at_next_instruction regs (with_code (load_return regs.gpr c.in-UReturn.r0 c.in-UReturn.r2 c.in-UReturn.outs) UInvalid)); cpu_is = shows_cpu }; pool = refl })
+
+pub returns-in-UPagein-clause-row : goal.returns-in-UPagein-clause-row
+returns-in-UPagein-clause-row g c plan whole part mark shows shows_cpu =
+    let vcpu : c.index_mut-vcpu.result.now ≡ vcpu_at c.args.guest.now c.args.run.vid =
+    c.index_mut-vcpu.ensures.value ∙ get_or_default c.args.guest.now.vcpus.items c.args.run.vid c.index_mut-vcpu.result.now (start_vcpu Idle) c.requires.runs.vid in
+    rw (c.in-UPagein.is, c.refuse_page_in.ensures.answer, c.refuse_page_in.ensures.vcpu, vcpu)
+    (record { row = record { answered = refl; guest = shows_registers g.S.Seal.stands g.S.Seal.image plan c.args.guest.now whole c.args.run.vid shows c.requires.runs.vid (λ (regs : Regs). at_next_instruction regs (with_code (load_page_in regs.gpr c.in-UPagein.lpid c.in-UPagein.src c.in-UPagein.gpa c.in-UPagein.flags c.in-UPagein.order) UPermission)); cpu_is = shows_cpu }; pool = refl })
 
 pub returns-in-UPageout-clause-row : goal.returns-in-UPageout-clause-row
 returns-in-UPageout-clause-row g c plan whole part mark shows shows_cpu =

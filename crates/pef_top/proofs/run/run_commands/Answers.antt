@@ -4,11 +4,11 @@ use Rattle.pef_model.specs.Event.{Event}
 use Rattle.pef_model.specs.Plan.{Plan, plan_of}
 use Rattle.pef_model.specs.Run.{with_directive, run_of}
 use Rattle.pef_model.specs.Script.{Line, Script}
-use Rattle.pef_io.specs.Sink.{appended}
 use Rattle.pef_io.proofs.SinkLemmas.{on_err_holds}
-use Rattle.pef_core.specs.Steps.{Fits}
-use Rattle.pef_top.specs.Text.{text_of}
-use Rattle.pef_top.proofs.RunText.{run_of_lines, run-push, run-append, part-append}
+use Rattle.pef_top.specs.Runs.{FitsIfClean}
+use Rattle.pef_top.specs.Text.{Wrote}
+use Rattle.pef_top.proofs.RunText.{run_of_lines, run-push, run-append}
+use Rattle.pef_top.proofs.Wrote.{part-longer}
 use Rattle.pef_top.proofs.run.run_commands.Goals as goal
 
 -- the run of the lines so far with one more
@@ -35,10 +35,10 @@ returns-in_err-run_line-clause-prefix g c =
     let whole : run_of script ≡ later.0 ++ with_directive plan past line line.directive =
     ap (run_of_lines plan) (sym (take-append-drop (i + 1) script.lines)) ∙ later.1 ∙ ap (λ (xs : List Event). later.0 ++ xs) more in
     on_err_holds c.from_residual.result
-    (part-append (g.K.Sink.written c.args.sink.now) (g.K.Sink.written c.run_line.new.sink) later.0 (with_directive plan past line line.directive) (run_of script) whole
+    (part-longer plan (g.K.Sink.written c.args.sink.now) (g.K.Sink.written c.run_line.new.sink) later.0 (with_directive plan past line line.directive) (run_of script) whole
     (c.in_err-run_line.ensures.prefix plan past pages c.loop-line.invariant.fits (g.K.Sink.written c.args.sink.now) c.loop-line.invariant.written))
 
--- a machine that fits what was done so far fits one more line
+-- what fits the lines so far, and was written of them, does so with one more line
 pub loop-line-preserved : goal.loop-line-preserved
 loop-line-preserved g c =
     let script : Script = c.args.script.now in
@@ -52,8 +52,9 @@ loop-line-preserved g c =
     run_more plan c.deref-line-items.result.now script.lines line i items c.loop-line-test.true c.line-item.is in
     let start : Option (List ℕ) = g.K.Sink.written c.args.sink.now in
     record {
-      fits = subst (Fits g.S.Seal.stands g.S.Seal.image plan c.run_line.new.machine) (sym more) (c.in_ok-run_line.ensures.fits plan past pages c.loop-line.invariant.fits);
+      fits = subst (FitsIfClean g.S.Seal.stands g.S.Seal.image plan c.run_line.new.machine) (sym more) (c.in_ok-run_line.ensures.fits plan past pages c.loop-line.invariant.fits);
+      cpus = c.in_ok-run_line.ensures.cpus ∙ c.loop-line.invariant.cpus;
       steps = omega (arith, c.in_ok-run_line.ensures.count, c.loop-line.invariant.steps);
-      written = c.in_ok-run_line.ensures.all plan past pages c.loop-line.invariant.fits start c.loop-line.invariant.written ∙ ap (λ (xs : List Event). appended start (text_of xs)) (sym more);
+      written = subst (Wrote plan start (g.K.Sink.written c.run_line.new.sink)) (sym more) (c.in_ok-run_line.ensures.all plan past pages c.loop-line.invariant.fits start c.loop-line.invariant.written);
       never_falls = omega (arith, c.in_ok-run_line.ensures.cause.never_falls, c.loop-line.invariant.never_falls);
     }

@@ -1,4 +1,4 @@
-use Rattle.std.proofs.Common.{◌≡◌, ℕ, ◌+◌, List, [], ◌∷◌, ◌++◌, length, rules, arith, refl, sym, subst}
+use Rattle.std.proofs.Common.{◌≡◌, ℕ, ◌+◌, [], ◌∷◌, ◌++◌, length, rules, arith, refl, sym, subst}
 use Rattle.pef_model.specs.Seal.{vault_image}
 use Rattle.pef_seal.specs.Vault.{VaultState, VaultTakes}
 use Rattle.pef_seal.specs.Serves.{Serves}

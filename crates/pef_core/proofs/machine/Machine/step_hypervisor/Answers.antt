@@ -138,3 +138,7 @@ returns-in-Go-clause-refused g c =
 pub returns-in-UPageout-clause-step : goal.returns-in-UPageout-clause-step
 returns-in-UPageout-clause-step g c =
     subst (λ (cmd : Cmd). Continues g.S.Seal.stands g.S.Seal.image c.args.self.now c.step_page_out.new.self c.args.cpu cmd c.step_page_out.result) (sym c.in-UPageout.is) c.step_page_out.ensures.step
+
+pub returns-in-UPagein-clause-step : goal.returns-in-UPagein-clause-step
+returns-in-UPagein-clause-step g c =
+    subst (λ (cmd : Cmd). Continues g.S.Seal.stands g.S.Seal.image c.args.self.now c.step_page_in.new.self c.args.cpu cmd c.step_page_in.result) (sym c.in-UPagein.is) c.step_page_in.ensures.step

@@ -1,18 +1,18 @@
-use Rattle.std.proofs.Common.{arith, ◌≡◌, ◌+◌, ◌-◌, ◌^◌, ◌<◌, ◌≤◌, true, false, length, sym, ap, subst, refl, ◌∙◌}
-use Rattle.std.specs.Prelude.{slice_set}
+use Rattle.std.proofs.Common.{rules, arith, ◌≡◌, ◌+◌, ◌-◌, ◌^◌, ◌<◌, ◌≤◌, ◌==◌, ◌&&◌, nat_le, nat_lt, true, false, length, Some, sym, ap, subst, refl, ◌∙◌}
+use Rattle.std.specs.Prelude.{slice_get, slice_set}
 use Rattle.std.proofs.lemmas.Bool.Decides.{nat_tests}
 use Rattle.pef_model.specs.declared.state.Ctx.TheVariants as ctx
 use Rattle.pef_model.specs.declared.command.Cmd.TheVariants.{UPageout}
 use Rattle.pef_frames.specs.PoolLaw.{times_free}
 use Rattle.pef_guest.specs.Keeps.{KeepsFrames, KeepsMovers}
-use Rattle.pef_core.specs.State.{State, IsCpuOf}
+use Rattle.pef_core.specs.State.{State, HasSteps, IsCpuOf}
 use Rattle.pef_core.specs.Steps.{Continues}
 use Rattle.pef_core.specs.Refused.{LeavesRest}
 use Rattle.pef_core.proofs.WholeAfter.{whole_cpu, whole_guest, once_stays}
 use Rattle.pef_core.proofs.Places.{found_cpu}
-use Rattle.pef_core.proofs.Moving.{site, begun_cpu}
+use Rattle.pef_core.proofs.Moving.{site, leaving_cpu}
 use Rattle.pef_core.proofs.Leaving.{page_out_leaves}
-use Rattle.pef_core.proofs.PageOutSteps.{is_one_of, none_continues, page_out_continues}
+use Rattle.pef_core.proofs.PageSteps.{is_one_of, no_page_out, page_out_continues}
 use Rattle.pef_core.proofs.machine.Machine.step_page_out.Goals as goal
 
 -- a call that names no guest
@@ -34,7 +34,7 @@ returns-then-not-has_guest-clause-step g c =
     let none : is_one_of (length c.self.inside.guests.items) c.args.call.lpid ≡ false = subst (λ m. is_one_of (length m.guests) c.args.call.lpid ≡ false) (sym c.self.view_is) (sym c.has_guest.ensures ∙ c.if-not-has_guest.true) in
     rw c.page_out_of_none.ensures.answer
     (subst (λ m. Continues g.S.Seal.stands g.S.Seal.image m (record old { cpus = slice_set old.cpus c.args.cpu c.page_out_of_none.new.cpu }) c.args.cpu (UPageout c.args.call.lpid c.args.call.ra c.args.call.gpa c.args.call.flags c.args.call.order) _) c.self.view_is
-    (none_continues g.S.Seal.stands g.S.Seal.image old c.args.cpu below cpu own.0 c.page_out_of_none.new.cpu c.args.call.lpid c.args.call.ra c.args.call.gpa c.args.call.flags c.args.call.order own.1 none c.page_out_of_none.ensures.cpu))
+    (no_page_out g.S.Seal.stands g.S.Seal.image old c.args.cpu below cpu own.0 c.page_out_of_none.new.cpu c.args.call.lpid c.args.call.ra c.args.call.gpa c.args.call.flags c.args.call.order own.1 none c.page_out_of_none.ensures.cpu))
 
 -- a call at the guest that it names
 pub page_out_begin-requires-clause-hypervisor : goal.page_out_begin-requires-clause-hypervisor
@@ -94,7 +94,7 @@ invariant_of-self-2 g c =
     let frames : KeepsFrames guest c.page_out_begin.new.guest c.self.inside.pool c.self.inside.pool = record { count = refl; size = refl; frames = λ number. ap (λ x. x + times_free c.self.inside.pool number) (c.page_out_begin.ensures.frames number) } in
     let movers : KeepsMovers c.args.cpu guest c.page_out_begin.new.guest = subst (λ n. KeepsMovers n guest c.page_out_begin.new.guest) s.is_cpu.number c.page_out_begin.ensures.movers in
     whole_guest g.S.Seal.takes old c.args.cpu c.page_out_begin.new.cpu c.self.invariant (c.args.call.lpid - 1) guest c.page_out_begin.new.guest c.self.inside.pool s.here c.page_out_begin.ensures.whole c.page_out_begin.ensures.keeps movers frames s.fewer
-    (begun_cpu c.self.inside.guests.items c.self.inside.normal c.args.cpu cpu c.page_out_begin.new.cpu (c.args.call.lpid - 1) guest c.page_out_begin.new.guest s.is_cpu c.page_out_begin.ensures.keeps s.here
+    (leaving_cpu c.self.inside.guests.items c.self.inside.normal c.args.cpu cpu c.page_out_begin.new.cpu (c.args.call.lpid - 1) guest c.page_out_begin.new.guest s.is_cpu c.page_out_begin.ensures.keeps s.here
     s.is_guest.lpid s.is_guest.normal c.page_out_begin.ensures.cpu c.page_out_begin.ensures.leaves)
 
 pub returns-clause-step : goal.returns-clause-step
@@ -110,7 +110,7 @@ returns-clause-step g c =
     let lpid : c.args.call.lpid ≡ c.args.call.lpid - 1 + 1 = omega arith in
     let new : State _ = record old { cpus = slice_set old.cpus c.args.cpu c.page_out_begin.new.cpu; guests = slice_set old.guests (c.args.call.lpid - 1) c.page_out_begin.new.guest } in
     subst (λ m. Continues g.S.Seal.stands g.S.Seal.image m new c.args.cpu (UPageout c.args.call.lpid c.args.call.ra c.args.call.gpa c.args.call.flags c.args.call.order) c.page_out_begin.result) c.self.view_is
-    (page_out_continues g.S.Seal.stands g.S.Seal.image old c.args.cpu first cpu s.there c.page_out_begin.new.cpu (c.args.call.lpid - 1) guest c.page_out_begin.new.guest c.args.call c.page_out_begin.result s.context s.is_cpu.number named lpid s.here
+    (page_out_continues g.S.Seal.stands g.S.Seal.image old c.args.cpu first cpu s.there c.page_out_begin.new.cpu (c.args.call.lpid - 1) guest c.page_out_begin.new.guest old.pool c.page_out_begin.result s.here c.args.call s.context s.is_cpu.number named lpid refl
     c.page_out_begin.ensures.row)
 
 pub returns-clause-frames_once : goal.returns-clause-frames_once

@@ -1,4 +1,4 @@
-use Rattle.std.proofs.Common.{◌≡◌, sym, subst, false}
+use Rattle.std.proofs.Common.{rules, ◌≡◌, ap, sym, subst, false}
 use Rattle.pef_model.specs.declared.command.Cmd.{Cmd}
 use Rattle.pef_core.specs.Steps.{Continues}
 use Rattle.pef_core.proofs.Lists.{element_at}
@@ -8,6 +8,14 @@ use Rattle.pef_core.proofs.Leaving.{context_leaves}
 use Rattle.pef_core.proofs.machine.Machine.step_working.Goals as goal
 
 -- the next step of the call
+pub returns-in-Go-Inward-clause-step : goal.returns-in-Go-Inward-clause-step
+returns-in-Go-Inward-clause-step g c =
+    subst (λ (cmd : Cmd). Continues g.S.Seal.stands g.S.Seal.image c.args.self.now c.step_page_in_end.new.self c.args.cpu cmd c.step_page_in_end.result) (sym c.in-Go-Inward.is-0) c.step_page_in_end.ensures.step
+
+pub returns-in-Go-Inward-2-clause-step : goal.returns-in-Go-Inward-2-clause-step
+returns-in-Go-Inward-2-clause-step g c =
+    subst (λ (cmd : Cmd). Continues g.S.Seal.stands g.S.Seal.image c.args.self.now c.step_page_in_copy.new.self c.args.cpu cmd c.step_page_in_copy.result) (sym c.in-Go-Inward-2.is-0) c.step_page_in_copy.ensures.step
+
 pub returns-in-Go-Outward-clause-step : goal.returns-in-Go-Outward-clause-step
 returns-in-Go-Outward-clause-step g c =
     subst (λ (cmd : Cmd). Continues g.S.Seal.stands g.S.Seal.image c.args.self.now c.step_page_out_end.new.self c.args.cpu cmd c.step_page_out_end.result) (sym c.in-Go-Outward.is-0) c.step_page_out_end.ensures.step
