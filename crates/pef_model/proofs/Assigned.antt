@@ -1,6 +1,6 @@
 -- A vCPU's register holds what was last assigned.
-use Rattle.std.proofs.Common.{◌≡◌, ◌≢◌, ℕ, zero, suc, replicate, ◌+◌, ◌-◌, ◌<◌, ◌≤◌, List, [], ◌∷◌, ◌++◌, length, take, drop, Bool, true, false, refl, ap, sym, subst, ◌∙◌, ◌==◌, ◌&&◌, nat_lt, nat_le, if◌then◌else◌, Option, Some, None, arith, length-append, length-take, length-drop, get_or}
-use Rattle.std.proofs.lemmas.List.{get_or-drop}
+use Rattle.std.proofs.Common.{◌≡◌, ◌≢◌, ℕ, ◌+◌, ◌-◌, ◌<◌, ◌≤◌, List, [], ◌∷◌, ◌++◌, length, take, drop, Bool, true, false, refl, ap, sym, subst, ◌∙◌, ◌==◌, ◌&&◌, nat_lt, nat_le, if◌then◌else◌, Option, Some, None, arith, length-append, length-take, length-drop, get_or}
+use Rattle.std.proofs.lemmas.List.{get_or-replicate, get_or-drop}
 use Rattle.std.specs.Prelude.{unwrap_or, slice_set}
 use Rattle.std.specs.List.{AllByRecursion}
 use Rattle.std.proofs.Math.ListN.{length-set}
@@ -178,11 +178,7 @@ full_registers plan (e ∷ past) lpid commands = by_test (full_registers plan pa
   by_test ih false t = subst (λ (g : Guest). AreFull g.registers) (sym (skips (touches_guest plan lpid) (next_guest plan) (start_guest plan lpid) e past t)) ih
 
 pub reg_is_newest : RegIsNewest
-reg_is_newest plan [] lpid vid r small commands = zero_at 32 r where
-  zero_at : (n i : ℕ) → get_or (replicate {A = ℕ} n 0) i 0 ≡ 0
-  zero_at zero i = refl
-  zero_at (suc n) zero = refl
-  zero_at (suc n) (suc i) = zero_at n i
+reg_is_newest plan [] lpid vid r small commands = get_or-replicate 32 r 0 0 small
 reg_is_newest plan (e ∷ past) lpid vid r small commands = by_test (reg_is_newest plan past lpid vid r small commands.1) (touches_guest plan lpid e) refl where
   decision : Bool → Option ℕ
   decision b = if b then assigned_in e.saw.before vid e.trace.cmd e.trace.answer r else None

@@ -19,7 +19,8 @@ use Rattle.pef_model.specs.Event.{Event}
 use Rattle.pef_model.specs.Target.{touches_cpu}
 use Rattle.pef_model.specs.Cpu.{CpuPart, start_cpu, next_cpu}
 use Rattle.pef_model.specs.GuestPart.{Page, GuestPart, start_part_of, secured, begun_out, ended_out, begun_in, refused_in}
-use Rattle.pef_model.specs.History.{cpu_after, Extends, IsLegal}
+use Rattle.pef_model.specs.PageOut.{sealed_page}
+use Rattle.pef_model.specs.History.{cpu_after, guest_after, Extends, IsLegal}
 use Rattle.pef_model.specs.MoveLaw.{begins_out, begins_out_in, last_begun, LastSealedIsBegun, VersionsCountPageOuts}
 use Rattle.pef_model.proofs.Folds.{same_test, test_same, counts}
 use Rattle.pef_model.proofs.Puts.{put_in, here_or_elsewhere, put_in-here, put_in-elsewhere, IsElsewhere}
@@ -56,14 +57,14 @@ not_both l g m n elsewhere = by_first (l == m) refl where
   by_first true t = by_second (test_same l m t) (g == n) refl
   by_first false t = refl
 
--- how an entry leaves a page, by whether it begins a page-out of it
-data PageStep (old new : Page) (begins : Bool) (bytes : List ℕ) : Type 0 where
-  Stays : begins ≡ false → new ≡ old → PageStep old new begins bytes
-  Begun : begins ≡ true → (cpu : ℕ) → old.kind ≡ Secure → new ≡ begun_out old cpu bytes → PageStep old new begins bytes
-  Ended : begins ≡ false → (hand : List ℕ) (cpu : ℕ) → IsMoving way.Outward old hand cpu → new ≡ ended_out old → PageStep old new begins bytes
-  Coming : begins ≡ false → (cpu : ℕ) → new ≡ begun_in old cpu → PageStep old new begins bytes
-  Refused : begins ≡ false → new ≡ refused_in old → PageStep old new begins bytes
-  Secured : begins ≡ false → new ≡ secured old → PageStep old new begins bytes
+-- how an entry leaves a page, by whether it begins a page-out of it, which seals these bytes
+pub data PageStep (old new : Page) (begins : Bool) (bytes seal : List ℕ) : Type 0 where
+  Stays : begins ≡ false → new ≡ old → PageStep old new begins bytes seal
+  Begun : begins ≡ true → (cpu : ℕ) → old.kind ≡ Secure → bytes ≡ seal → new ≡ begun_out old cpu bytes → PageStep old new begins bytes seal
+  Ended : begins ≡ false → (hand : List ℕ) (cpu : ℕ) → IsMoving way.Outward old hand cpu → new ≡ ended_out old → PageStep old new begins bytes seal
+  Coming : begins ≡ false → (cpu : ℕ) → new ≡ begun_in old cpu → PageStep old new begins bytes seal
+  Refused : begins ≡ false → new ≡ refused_in old → PageStep old new begins bytes seal
+  Secured : begins ≡ false → new ≡ secured old → PageStep old new begins bytes seal
 
 -- a page that has begun so often, the last time with these bytes
 record IsCounted (page : Page) (count : ℕ) (last : Option (List ℕ)) : Type 0 where
@@ -92,29 +93,29 @@ counted_more new true bytes count last some h = h
 counted_more new false bytes count last some h = cc
 
 -- no page moves both ways
-not_both_ways : (n cpu : ℕ) (mover other : Option Mover) → mover ≡ Some (record { cpu = cpu; way = way.Inward }) → other ≡ Some (record { cpu = n; way = way.Outward }) → mover ≡ other → ⊥
+pub not_both_ways : (n cpu : ℕ) (mover other : Option Mover) → mover ≡ Some (record { cpu = cpu; way = way.Inward }) → other ≡ Some (record { cpu = n; way = way.Outward }) → mover ≡ other → ⊥
 not_both_ways n cpu mover other inward outward same = let ways : way.Inward ≡ way.Outward = sym (ap way_in inward) ∙ ap way_in same ∙ ap way_in outward in cc where
   way_in : Option Mover → Way
   way_in None = way.Inward
   way_in (Some mover) = mover.way
 
 -- the count and the newest bytes after an entry
-counted_after : (old new : Page) (begins : Bool) (bytes : List ℕ) (count : ℕ) (last : Option (List ℕ)) → PageStep old new begins bytes → IsCounted old count last →
+counted_after : (old new : Page) (begins : Bool) (bytes seal : List ℕ) (count : ℕ) (last : Option (List ℕ)) → PageStep old new begins bytes seal → IsCounted old count last →
     IsCounted new (counted_on begins count) (if begins then Some bytes else last)
-counted_after old new begins bytes count last (Stays none is) h = counted_still new begins bytes count last none (subst (λ (page : Page). IsCounted page count last) (sym is) h)
-counted_after old new begins bytes count last (Begun some cpu secure is) h =
+counted_after old new begins bytes seal count last (Stays none is) h = counted_still new begins bytes count last none (subst (λ (page : Page). IsCounted page count last) (sym is) h)
+counted_after old new begins bytes seal count last (Begun some cpu secure sealed is) h =
     counted_more new begins bytes count last some (subst (λ (page : Page). IsCounted page (1 + count) (Some bytes)) (sym is)
     (record { version = let same = h.version in omega arith; sealed = λ out. cc; pending = λ n moves. refl }))
-counted_after old new begins bytes count last (Ended none hand cpu moving is) h =
+counted_after old new begins bytes seal count last (Ended none hand cpu moving is) h =
     counted_still new begins bytes count last none (subst (λ (page : Page). IsCounted page count last) (sym is)
     (record { version = h.version; sealed = λ out. h.pending cpu moving.mover; pending = λ n rests. cc }))
-counted_after old new begins bytes count last (Coming none cpu is) h =
+counted_after old new begins bytes seal count last (Coming none cpu is) h =
     counted_still new begins bytes count last none (subst (λ (page : Page). IsCounted page count last) (sym is)
     (record { version = h.version; sealed = h.sealed; pending = λ n moves. absurd (not_both_ways n cpu _ _ refl moves refl) }))
-counted_after old new begins bytes count last (Refused none is) h =
+counted_after old new begins bytes seal count last (Refused none is) h =
     counted_still new begins bytes count last none (subst (λ (page : Page). IsCounted page count last) (sym is)
     (record { version = h.version; sealed = h.sealed; pending = λ n rests. cc }))
-counted_after old new begins bytes count last (Secured none is) h =
+counted_after old new begins bytes seal count last (Secured none is) h =
     counted_still new begins bytes count last none (subst (λ (page : Page). IsCounted page count last) (sym is)
     (record { version = h.version; sealed = λ out. cc; pending = λ n rests. cc }))
 
@@ -140,8 +141,8 @@ module _ (plan : Plan) (past : List Event) (e : Event) (extends : Extends plan p
       (λ move hypervisor call. stays move (before_is ∙ hypervisor) (sym (after_is after hand l left) ∙ call))
 
   -- the page, and whether a page-out of it begins
-  abbrev StepsPage : Type 0
-  StepsPage = PageStep (pages plan past lpid gfn) (pages plan (e ∷ past) lpid gfn) (begins_out plan lpid gfn e) e.bytes
+  abbrev pub StepsPage : Type 0
+  StepsPage = PageStep (pages plan past lpid gfn) (pages plan (e ∷ past) lpid gfn) (begins_out plan lpid gfn e) e.bytes (sealed_page plan (guest_after plan lpid past) lpid gfn)
 
   -- where no part or no page changes
   page_kept : begins_out plan lpid gfn e ≡ false → pages plan past ≡ pages plan (e ∷ past) → StepsPage
@@ -162,13 +163,14 @@ module _ (plan : Plan) (past : List Event) (e : Event) (extends : Extends plan p
   old_page l g p q = ap (λ (x : ℕ). pages plan past x g) (sym p) ∙ ap (pages plan past lpid) (sym q)
 
   -- each change steps the page so
-  page_step : AllMoved plan past → Change plan past cpu e → StepsPage
+  pub page_step : AllMoved plan past → Change plan past cpu e → StepsPage
   page_step all (Quiet x) =
       page_kept (none_begins _ _ _ x.cpu_is (λ move hypervisor call. cc)) (kept_field plan past e (λ (g : GuestPart). g.pages) x.parts)
   page_step all (Begins x) =
       page_put x.move.lpid x.move.gfn _ (field_after plan past e (λ (g : GuestPart). g.pages) _ _ x.parts)
       (λ p q is. Begun (x.begins lpid gfn ∙ both_same x.move.lpid x.move.gfn lpid gfn p q) e.trace.cpu
       (ap (λ (page : Page). page.kind) (sym (old_page x.move.lpid x.move.gfn p q)) ∙ x.kind_is)
+      (x.sealed ∙ ap (λ (l : ℕ). sealed_page plan (guest_after plan l past) l x.move.gfn) (sym p) ∙ ap (sealed_page plan (guest_after plan lpid past) lpid) (sym q))
       (is ∙ ap (λ (page : Page). begun_out page e.trace.cpu e.bytes) (old_page x.move.lpid x.move.gfn p q)))
       (λ elsewhere. x.begins lpid gfn ∙ not_both x.move.lpid x.move.gfn lpid gfn elsewhere)
   page_step all (Copies x) =
@@ -225,7 +227,7 @@ counted plan (e ∷ past) lpid gfn legal =
     let last : Option (List ℕ) = last_begun plan lpid gfn (e ∷ past) in
     subst (λ (count : ℕ). IsCounted (pages plan (e ∷ past) lpid gfn) count last)
     (sym (sum_by-cons (λ (x : Event). cond (begins_out plan lpid gfn x) 1 0) e past ∙ counted_on_is begins (count_by (begins_out plan lpid gfn) past)))
-    (counted_after _ _ begins e.bytes _ _ (page_step plan past e legal.0 lpid gfn (all_moved plan past legal.1) (change plan past e legal.0)) (counted plan past lpid gfn legal.1))
+    (counted_after _ _ begins e.bytes _ _ _ (page_step plan past e legal.0 lpid gfn (all_moved plan past legal.1) (change plan past e legal.0)) (counted plan past lpid gfn legal.1))
 
 -- what was last sealed is the newest begin's
 pub last_sealed_is_begun : LastSealedIsBegun

@@ -11,8 +11,8 @@ use Rattle.pef_model.specs.Target.{has_real_place}
 use Rattle.pef_model.specs.Cpu.{CpuPart}
 use Rattle.pef_model.specs.History.{cpu_after, next_entry_by, Extends}
 use Rattle.pef_model.proofs.Changes.{Change, asked, refused}
-use Rattle.pef_model.proofs.HypervisorChanges.{load, store, return, any_page_out, go}
-use Rattle.pef_model.proofs.PageInChanges.{any_page_in, go_in}
+use Rattle.pef_model.proofs.HypervisorChanges.{load, store, return, page_out, named, go}
+use Rattle.pef_model.proofs.PageInChanges.{page_in, go_in}
 use Rattle.pef_model.proofs.GuestChanges.{at_own}
 
 -- by the context before the step, and the command
@@ -20,8 +20,10 @@ change_in : (plan : Plan) (past : List Event) (cpu : CpuPart) (mark : Mark) (c :
     Change plan past cpu (next_entry_by plan past (asked cpu c cmd) mark cmd)
 change_in plan past cpu mark ctx.Hv h (HLd ra) = load plan past cpu mark h ra (has_real_place plan ra)
 change_in plan past cpu mark ctx.Hv h (HSt ra value) = store plan past cpu mark h ra value (has_real_place plan ra)
-change_in plan past cpu mark ctx.Hv h (UPagein lpid src gpa flags order) = any_page_in plan past cpu mark h lpid src gpa flags order (nat_le 1 lpid && nat_le lpid plan.guests) refl
-change_in plan past cpu mark ctx.Hv h (UPageout lpid dest gpa flags order) = any_page_out plan past cpu mark h lpid dest gpa flags order (nat_le 1 lpid && nat_le lpid plan.guests) refl
+change_in plan past cpu mark ctx.Hv h (UPagein lpid src gpa flags order) = named plan past cpu mark h (UPagein lpid src gpa flags order) lpid (nat_le 1 lpid && nat_le lpid plan.guests) refl
+    (record { ctx_is = refl; hand_is = refl; lpid_is = refl }) (page_in plan past cpu mark h lpid src gpa flags order)
+change_in plan past cpu mark ctx.Hv h (UPageout lpid dest gpa flags order) = named plan past cpu mark h (UPageout lpid dest gpa flags order) lpid (nat_le 1 lpid && nat_le lpid plan.guests) refl
+    (record { ctx_is = refl; hand_is = refl; lpid_is = refl }) (page_out plan past cpu mark h lpid dest gpa flags order)
 change_in plan past cpu mark ctx.Hv h (UReturn r0 r2 outs) = return plan past cpu mark h r0 r2 outs
 change_in plan past cpu mark ctx.Hv h (GLi rd value) = refused plan past cpu mark ctx.Hv h (GLi rd value) (record { ctx_is = refl; hand_is = refl; lpid_is = refl }) refl
 change_in plan past cpu mark ctx.Hv h (GLd rd gpa) = refused plan past cpu mark ctx.Hv h (GLd rd gpa) (record { ctx_is = refl; hand_is = refl; lpid_is = refl }) refl

@@ -222,8 +222,3 @@ pub refused : (plan : Plan) (past : List Event) (cpu : CpuPart) (mark : Mark) (c
 refused plan past cpu mark c h cmd left target =
     at_nothing plan past cpu (entry cpu c mark cmd (deed_after plan past (asked cpu c cmd) cmd Alone))
     (record { ctx_is = left.ctx_is ∙ sym h; hand_is = left.hand_is; lpid_is = left.lpid_is }) (λ lpid. ap (is_guest lpid) target) refl
-
--- two tests that hold together hold each
-pub both : (a b : Bool) → a && b ≡ true → (a ≡ true) × (b ≡ true)
-both true b h = (refl, h)
-both false b h = cc

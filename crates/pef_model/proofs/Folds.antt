@@ -1,5 +1,5 @@
 -- What a filter keeps, and a fold over the entries that touch an object.
-use Rattle.std.proofs.Common.{◌≡◌, ℕ, List, [], ◌∷◌, Bool, true, false, refl, ap, sym, ◌∙◌, ◌==◌, arith}
+use Rattle.std.proofs.Common.{◌≡◌, ℕ, List, [], ◌∷◌, Bool, true, false, refl, ap, sym, ◌∙◌, ◌==◌, if◌then◌else◌, arith}
 use Rattle.std.proofs.lemmas.Bool.Decides.{nat_tests}
 use Rattle.std.specs.List.{filter}
 use Rattle.pef_model.specs.Event.{Event, value_after}
@@ -9,6 +9,11 @@ same_test n = grind (arith, nat_tests)
 
 pub test_same : (m n : ℕ) → (m == n) ≡ true → m ≡ n
 test_same m n h = grind (arith, nat_tests)
+
+-- a test between a value and itself makes no difference
+pub either_same : {A : Type 0} (b : Bool) (x : A) → (if b then x else x) ≡ x
+either_same true x = refl
+either_same false x = refl
 
 pub keeps : {A : Type 0} (p : A → Bool) (x : A) (xs : List A) → p x ≡ true → filter p (x ∷ xs) ≡ x ∷ filter p xs
 keeps p x xs h = rw h refl

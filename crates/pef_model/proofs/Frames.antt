@@ -1,6 +1,7 @@
 -- Each secure frame is free or a page's.
 use Rattle.std.proofs.Common.{◌≡◌, ◌≢◌, ℕ, zero, suc, ◌+◌, ◌<◌, ◌≤◌, List, [], ◌∷◌, Bool, true, false, refl, ap, sym, subst, ◌∙◌, ◌||◌, Option, Some, None, is_some, if◌then◌else◌, inl, inr, arith}
 use Rattle.std.proofs.lemmas.Bool.{cases_eq}
+use Rattle.std.proofs.lemmas.Bool.{or_right}
 use Rattle.pef_model.specs.declared.state.Kind.{Kind}
 use Rattle.pef_model.specs.declared.state.Kind.TheVariants as kind
 use Rattle.pef_model.specs.declared.state.Mover.{Mover}
@@ -29,10 +30,7 @@ secure_has page h = ap (λ (k : Kind). is_secure (record page { kind = k }) || i
 
 -- and so has one that moves
 moving_has : (page : Page) (mover : Mover) → page.mover ≡ Some mover → has_secure_frame page ≡ true
-moving_has page mover h = ap (λ (m : Option Mover). is_secure page || is_some m) h ∙ either (is_secure page) where
-  either : (b : Bool) → b || true ≡ true
-  either true = refl
-  either false = refl
+moving_has page mover h = ap (λ (m : Option Mover). is_secure page || is_some m) h ∙ or_right (is_secure page) true refl
 
 -- a page at rest that isn't Secure has none
 rest_has : (page : Page) → is_secure page ≡ false → page.mover ≡ None → has_secure_frame page ≡ false

@@ -14,153 +14,18 @@ use Rattle.pef_model.specs.ScriptText.{CountsFrom, HasDefaults, IsWritable}
 use Rattle.pef_model.specs.Words.{number_in, number_within, words_of, lines_of}
 use Rattle.pef_model.proofs.ReadCommands.{AreRead, command_lines_read}
 
-within_tested : (least greatest n m : ℕ) → cond (nat_le least m && nat_le m greatest) (Some m) None ≡ Some n → IsWithin least greatest n
-within_tested least greatest n m e =
-    let found = cond_some (nat_le least m && nat_le m greatest) m n e in
-    let low : least ≤ n = grind (arith, nat_tests, found.0, found.1) in
-    let high : n ≤ greatest = grind (arith, nat_tests, found.0, found.1) in
-    (low, high)
-
 -- a number that is read in a range is within it
 number_is_within : (least greatest n : ℕ) (word : List ℕ) → number_within least greatest word ≡ Some n → IsWithin least greatest n
-number_is_within least greatest n word e = option_and_then_some _ (number_in word) n e (λ m is. within_tested least greatest n m)
+number_is_within least greatest n word e = option_and_then_some _ (number_in word) n e (λ m is tested.
+    let found = cond_some (nat_le least m && nat_le m greatest) m n tested in
+    let low : least ≤ n = grind (arith, nat_tests, found.0, found.1) in
+    let high : n ≤ greatest = grind (arith, nat_tests, found.0, found.1) in
+    (low, high))
 
 -- a configuration that lines can have made
 record IsSettled (config : Config) : Type 0 where
   range : IsInRange config
   defaults : HasDefaults config
-
-shift_settles : (config : Config) (n : ℕ) → IsWithin 8 16 n → IsSettled config → IsSettled (record config { shift = n })
-shift_settles config n within settled =
-    let range = settled.range in
-    let defaults = settled.defaults in
-    record {
-      range = record {
-        shift = within;
-        normal = range.normal;
-        secure = range.secure;
-        cpus = range.cpus;
-        guests = range.guests;
-        vcpus = range.vcpus;
-        pages = range.pages;
-        born = range.born;
-        rises = range.rises;
-        entropy = range.entropy;
-        words_rise = range.words_rise;
-        words = range.words;
-      };
-      defaults = record { guests = defaults.guests; vcpus = defaults.vcpus; key = defaults.key; born = defaults.born; entropy = defaults.entropy };
-    }
-
-normal_settles : (config : Config) (n : ℕ) → IsWithin 1 1024 n → IsSettled config → IsSettled (record config { normal = n })
-normal_settles config n within settled =
-    let range = settled.range in
-    let defaults = settled.defaults in
-    record {
-      range = record {
-        shift = range.shift;
-        normal = within;
-        secure = range.secure;
-        cpus = range.cpus;
-        guests = range.guests;
-        vcpus = range.vcpus;
-        pages = range.pages;
-        born = range.born;
-        rises = range.rises;
-        entropy = range.entropy;
-        words_rise = range.words_rise;
-        words = range.words;
-      };
-      defaults = record { guests = defaults.guests; vcpus = defaults.vcpus; key = defaults.key; born = defaults.born; entropy = defaults.entropy };
-    }
-
-secure_settles : (config : Config) (n : ℕ) → IsWithin 1 1024 n → IsSettled config → IsSettled (record config { secure = n })
-secure_settles config n within settled =
-    let range = settled.range in
-    let defaults = settled.defaults in
-    record {
-      range = record {
-        shift = range.shift;
-        normal = range.normal;
-        secure = within;
-        cpus = range.cpus;
-        guests = range.guests;
-        vcpus = range.vcpus;
-        pages = range.pages;
-        born = range.born;
-        rises = range.rises;
-        entropy = range.entropy;
-        words_rise = range.words_rise;
-        words = range.words;
-      };
-      defaults = record { guests = defaults.guests; vcpus = defaults.vcpus; key = defaults.key; born = defaults.born; entropy = defaults.entropy };
-    }
-
-cpus_settles : (config : Config) (n : ℕ) → IsWithin 1 16 n → IsSettled config → IsSettled (record config { cpus = n })
-cpus_settles config n within settled =
-    let range = settled.range in
-    let defaults = settled.defaults in
-    record {
-      range = record {
-        shift = range.shift;
-        normal = range.normal;
-        secure = range.secure;
-        cpus = within;
-        guests = range.guests;
-        vcpus = range.vcpus;
-        pages = range.pages;
-        born = range.born;
-        rises = range.rises;
-        entropy = range.entropy;
-        words_rise = range.words_rise;
-        words = range.words;
-      };
-      defaults = record { guests = defaults.guests; vcpus = defaults.vcpus; key = defaults.key; born = defaults.born; entropy = defaults.entropy };
-    }
-
-pages_settles : (config : Config) (n : ℕ) → IsWithin 1 1024 n → IsSettled config → IsSettled (record config { pages = n })
-pages_settles config n within settled =
-    let range = settled.range in
-    let defaults = settled.defaults in
-    record {
-      range = record {
-        shift = range.shift;
-        normal = range.normal;
-        secure = range.secure;
-        cpus = range.cpus;
-        guests = range.guests;
-        vcpus = range.vcpus;
-        pages = within;
-        born = range.born;
-        rises = range.rises;
-        entropy = range.entropy;
-        words_rise = range.words_rise;
-        words = range.words;
-      };
-      defaults = record { guests = defaults.guests; vcpus = defaults.vcpus; key = defaults.key; born = defaults.born; entropy = defaults.entropy };
-    }
-
-vault_settles : (config : Config) (n : Bool) → IsSettled config → IsSettled (record config { vault = n })
-vault_settles config n settled =
-    let range = settled.range in
-    let defaults = settled.defaults in
-    record {
-      range = record {
-        shift = range.shift;
-        normal = range.normal;
-        secure = range.secure;
-        cpus = range.cpus;
-        guests = range.guests;
-        vcpus = range.vcpus;
-        pages = range.pages;
-        born = range.born;
-        rises = range.rises;
-        entropy = range.entropy;
-        words_rise = range.words_rise;
-        words = range.words;
-      };
-      defaults = record { guests = defaults.guests; vcpus = defaults.vcpus; key = defaults.key; born = defaults.born; entropy = defaults.entropy };
-    }
 
 -- a header so far: its next line is one from 2 to a greatest one, and its lines are those of so many
 record IsHeader (most total : ℕ) (header : Header) : Type 0 where
@@ -169,9 +34,15 @@ record IsHeader (most total : ℕ) (header : Header) : Type 0 where
   greatest : header.number ≤ most
   all : header.number + length header.rest ≡ total
 
+-- a step that leaves a header, and takes one line at most
+abbrev Leaves : (Header → Header) → Type 0
+Leaves step = (most total : ℕ) (header : Header) → IsHeader most total header → IsHeader (most + 1) total (step header)
+
+-- the greatest next line may be one more
 more_lines : (most total : ℕ) (header : Header) → IsHeader most total header → IsHeader (most + 1) total header
 more_lines most total header is = record { config = is.config; least = is.least; greatest = omega (arith, is.greatest); all = is.all }
 
+-- a value that is found takes a line and sets what a configuration may have, and none leaves the header
 value_leaves : {A : Type 0} (most total : ℕ) (set : Config → A → Config) (config : Config) (number : ℕ) (line : List ℕ) (rest : List (List ℕ)) (found : Option A) →
     ((a : A) → found ≡ Some a → IsSettled (set config a)) → IsHeader most total (record { config = config; number = number; rest = line ∷ rest }) →
     IsHeader (most + 1) total (after_value set (record { config = config; number = number; rest = line ∷ rest }) found)
@@ -179,44 +50,41 @@ value_leaves {A} most total set config number line rest None settles is = more_l
 value_leaves {A} most total set config number line rest (Some a) settles is =
     record { config = settles a refl; least = omega (arith, is.least); greatest = omega (arith, is.greatest); all = omega (arith, is.all) }
 
--- a line that sets what a configuration may have leaves a header
-lines_leave : {A : Type 0} (most total : ℕ) (name : List ℕ) (value : List ℕ → Option A) (set : Config → A → Config) (config : Config) (number : ℕ) (rest : List (List ℕ)) →
-    ((word : List ℕ) (a : A) → value word ≡ Some a → IsSettled (set config a)) → IsHeader most total (record { config = config; number = number; rest = rest }) →
-    IsHeader (most + 1) total (with_line name value set (record { config = config; number = number; rest = rest }))
-lines_leave {A} most total name value set config number [] settles is = more_lines most total (record { config = config; number = number; rest = [] }) is
-lines_leave {A} most total name value set config number (line ∷ rest) settles is =
-    value_leaves most total set config number line rest (option_and_then value (word_after name (words_of line)))
-    (λ a e. option_and_then_some value (word_after name (words_of line)) a e (λ word named gives. settles word a gives)) is
+-- a line leaves a header where it sets what a configuration may have
+line_leaves : {A : Type 0} (name : List ℕ) (value : List ℕ → Option A) (set : Config → A → Config) →
+    ((config : Config) (word : List ℕ) (a : A) → value word ≡ Some a → IsSettled config → IsSettled (set config a)) → Leaves (with_line name value set)
+line_leaves {A} name value set settles most total header is = by_lines header.rest is where
+  by_lines : (rest : List (List ℕ)) → IsHeader most total (record { config = header.config; number = header.number; rest = rest }) →
+      IsHeader (most + 1) total (with_line name value set (record { config = header.config; number = header.number; rest = rest }))
+  by_lines [] now = more_lines most total (record { config = header.config; number = header.number; rest = [] }) now
+  by_lines (line ∷ rest) now =
+      value_leaves most total set header.config header.number line rest (option_and_then value (word_after name (words_of line)))
+      (λ a e. option_and_then_some value (word_after name (words_of line)) a e (λ word named gives. settles header.config word a gives is.config)) now
 
-shift_leaves : (most total : ℕ) (header : Header) → IsHeader most total header → IsHeader (most + 1) total (with_shift header)
-shift_leaves most total header is =
-    lines_leave most total (codes "shift") (number_within 8 16) (λ (config : Config) (n : ℕ). record config { shift = n }) header.config header.number header.rest
-    (λ word n e. shift_settles header.config n (number_is_within 8 16 n word e) is.config) is
+-- a line of a number leaves a header where each number in its range is one that a configuration may have
+number_leaves : (least greatest : ℕ) (name : List ℕ) (set : Config → ℕ → Config) → ((config : Config) (n : ℕ) → IsWithin least greatest n → IsSettled config → IsSettled (set config n)) →
+    Leaves (with_line name (number_within least greatest) set)
+number_leaves least greatest name set settles =
+    line_leaves name (number_within least greatest) set (λ config word n e settled. settles config n (number_is_within least greatest n word e) settled)
 
-normal_leaves : (most total : ℕ) (header : Header) → IsHeader most total header → IsHeader (most + 1) total (with_normal header)
-normal_leaves most total header is =
-    lines_leave most total (codes "normal") (number_within 1 1024) (λ (config : Config) (n : ℕ). record config { normal = n }) header.config header.number header.rest
-    (λ word n e. normal_settles header.config n (number_is_within 1 1024 n word e) is.config) is
+-- each configuration line does
+shift_leaves : Leaves with_shift
+shift_leaves = number_leaves 8 16 (codes "shift") (λ config n. record config { shift = n }) (λ config n within settled. assumption)
 
-secure_leaves : (most total : ℕ) (header : Header) → IsHeader most total header → IsHeader (most + 1) total (with_secure header)
-secure_leaves most total header is =
-    lines_leave most total (codes "secure") (number_within 1 1024) (λ (config : Config) (n : ℕ). record config { secure = n }) header.config header.number header.rest
-    (λ word n e. secure_settles header.config n (number_is_within 1 1024 n word e) is.config) is
+normal_leaves : Leaves with_normal
+normal_leaves = number_leaves 1 1024 (codes "normal") (λ config n. record config { normal = n }) (λ config n within settled. assumption)
 
-cpus_leaves : (most total : ℕ) (header : Header) → IsHeader most total header → IsHeader (most + 1) total (with_cpus header)
-cpus_leaves most total header is =
-    lines_leave most total (codes "cpus") (number_within 1 16) (λ (config : Config) (n : ℕ). record config { cpus = n }) header.config header.number header.rest
-    (λ word n e. cpus_settles header.config n (number_is_within 1 16 n word e) is.config) is
+secure_leaves : Leaves with_secure
+secure_leaves = number_leaves 1 1024 (codes "secure") (λ config n. record config { secure = n }) (λ config n within settled. assumption)
 
-pages_leaves : (most total : ℕ) (header : Header) → IsHeader most total header → IsHeader (most + 1) total (with_pages header)
-pages_leaves most total header is =
-    lines_leave most total (codes "pages") (number_within 1 1024) (λ (config : Config) (n : ℕ). record config { pages = n }) header.config header.number header.rest
-    (λ word n e. pages_settles header.config n (number_is_within 1 1024 n word e) is.config) is
+cpus_leaves : Leaves with_cpus
+cpus_leaves = number_leaves 1 16 (codes "cpus") (λ config n. record config { cpus = n }) (λ config n within settled. assumption)
 
-seal_leaves : (most total : ℕ) (header : Header) → IsHeader most total header → IsHeader (most + 1) total (with_seal header)
-seal_leaves most total header is =
-    lines_leave most total (codes "seal") vault_in (λ (config : Config) (vault : Bool). record config { vault = vault }) header.config header.number header.rest
-    (λ word vault e. vault_settles header.config vault is.config) is
+pages_leaves : Leaves with_pages
+pages_leaves = number_leaves 1 1024 (codes "pages") (λ config n. record config { pages = n }) (λ config n within settled. assumption)
+
+seal_leaves : Leaves with_seal
+seal_leaves = line_leaves (codes "seal") vault_in (λ config vault. record config { vault = vault }) (λ config word vault e settled. assumption)
 
 born_one_settled : IsSettled born_one
 born_one_settled = record { range = search rules; defaults = record { guests = refl; vcpus = refl; key = refl; born = refl; entropy = refl } }
@@ -257,33 +125,27 @@ from_commands config number rest (Some lines) s settled least greatest read e =
       },
     )
 
-from_test : (test : Bool) (config : Config) (number : ℕ) (rest : List (List ℕ)) (s : Script) → IsSettled config → 2 ≤ number → number ≤ 8 →
-    cond test (with_commands config (command_lines config.cpus (number + 2) rest)) None ≡ Some s → HasFirst (number + 2 + length rest) s
-from_test false config number rest s settled least greatest e = absurd (cc)
-from_test true config number rest s settled least greatest e =
-    from_commands config number rest (command_lines config.cpus (number + 2) rest) s settled least greatest refl e
+-- where a test gives what is found or nothing, and gives something, that is what is found
+past_test : {A : Type 0} (test : Bool) (found : Option A) (a : A) → cond test found None ≡ Some a → found ≡ Some a
+past_test {A} false found a e = absurd (cc)
+past_test {A} true found a e = e
 
 from_begun : (config : Config) (number total : ℕ) (rest : List (List ℕ)) (s : Script) → IsSettled config → 2 ≤ number → number ≤ 8 → number + length rest ≡ total →
     begun config number rest ≡ Some s → HasFirst total s
 from_begun config number total [] s settled least greatest all e = absurd (cc)
 from_begun config number total (born ∷ []) s settled least greatest all e = absurd (cc)
 from_begun config number total (born ∷ begin ∷ rest) s settled least greatest all e =
-    let found : HasFirst (number + 2 + length rest) s = from_test (bytes_eq born (codes "born 1") && bytes_eq begin (codes "begin")) config number rest s settled least greatest e in
+    let read = past_test (bytes_eq born (codes "born 1") && bytes_eq begin (codes "begin")) (with_commands config (command_lines config.cpus (number + 2) rest)) s e in
+    let found : HasFirst (number + 2 + length rest) s = from_commands config number rest (command_lines config.cpus (number + 2) rest) s settled least greatest refl read in
     let same : number + 2 + length rest ≡ total = omega (arith, all) in
     subst (λ (n : ℕ). HasFirst n s) same found
-
-from_first : (test : Bool) (rest : List (List ℕ)) (s : Script) → cond test (script_behind (header_of rest)) None ≡ Some s → HasFirst (length rest + 2) s
-from_first false rest s e = absurd (cc)
-from_first true rest s e =
-    let is = header_is rest in
-    from_begun (header_of rest).config (header_of rest).number (length rest + 2) (header_of rest).rest s is.config is.least is.greatest is.all e
 
 from_lines : (lines : List (List ℕ)) (s : Script) → script_in lines ≡ Some s → HasFirst (length lines + 1) s
 from_lines [] s e = absurd (cc)
 from_lines (first ∷ rest) s e =
-    let found : HasFirst (length rest + 2) s = from_first (bytes_eq first (codes "pef 1")) rest s e in
-    let same : length rest + 2 ≡ length (first ∷ rest) + 1 = omega arith in
-    subst (λ (n : ℕ). HasFirst n s) same found
+    let is = header_is rest in
+    let behind = past_test (bytes_eq first (codes "pef 1")) (script_behind (header_of rest)) s e in
+    from_begun (header_of rest).config (header_of rest).number (length (first ∷ rest) + 1) (header_of rest).rest s is.config is.least is.greatest (omega (arith, is.all)) behind
 
 from_text : (lines : Option (List (List ℕ))) (s : Script) → option_and_then script_in lines ≡ Some s →
     (first : ℕ) × IsWithin 4 10 first × IsWritable first s × IfSome lines (λ ls. first + length s.lines ≡ length ls + 1)

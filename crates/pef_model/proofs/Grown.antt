@@ -3,13 +3,14 @@ use Rattle.std.proofs.Common.{◌≡◌, ℕ, ◌<◌, List, [], ◌∷◌, ◌+
 use Rattle.std.specs.List.{filter}
 use Rattle.std.proofs.lemmas.Bool.{cases_eq}
 use Rattle.std.proofs.Math.Seq.{take-append_seam, take-length}
+use Rattle.std.proofs.lemmas.Bool.{ne_eqb}
 use Rattle.pef_model.specs.Plan.{Plan}
 use Rattle.pef_model.specs.Event.{Event}
 use Rattle.pef_model.specs.GuestPart.{Page, GuestPart, start_part_of, put, secured, begun_out, begun_in, refused_in, ended_out, is_secure, with_secure_page, with_running_vcpu, with_parked_vcpu, with_page_leaving, with_page_out, with_page_coming, with_page_refused}
 use Rattle.pef_model.specs.CountLaw.{part_after, OrderGrows}
 use Rattle.pef_model.proofs.Folds.{same_test}
 use Rattle.pef_model.proofs.Times.{times, times_passed, times_stopped, same_filter, filter_all}
-use Rattle.pef_model.proofs.Puts.{other_test, put-here, put-other}
+use Rattle.pef_model.proofs.Puts.{put-here, put-other}
 use Rattle.pef_model.proofs.Parts.{IsKept, holds_after}
 use Rattle.pef_model.proofs.Orders.{times-behind}
 
@@ -36,7 +37,7 @@ listed_kept g h = record {
         let none : times gfn (filter (λ n. not (n == at)) g.order) ≡ 0 = times_stopped (λ n. not (n == at)) gfn g.order (ap (λ (n : ℕ). not (n == at)) same ∙ ap not (same_test at)) in
         absurd (omega arith)
     | inr other ↦
-        let same : times gfn (filter (λ n. not (n == at)) g.order) ≡ times gfn g.order = times_passed (λ n. not (n == at)) gfn g.order (ap not (other_test gfn at other)) in
+        let same : times gfn (filter (λ n. not (n == at)) g.order) ≡ times gfn g.order = times_passed (λ n. not (n == at)) gfn g.order (ap not (ne_eqb gfn at other)) in
         ap is_secure (put-other g.pages at (ended_out (g.pages at)) gfn other) ∙ h gfn (omega arith)
   ];
   coming = λ at cpu gfn some. secure_put g at (begun_in (g.pages at) cpu) (λ secure. secure) gfn (h gfn some);
@@ -75,7 +76,7 @@ grows_kept g h = record {
   out = λ at. grows_by g (with_page_out g at) (filter (λ n. not (n == at)) g.order)
       (same_filter (λ n. is_secure (put g.pages at (ended_out (g.pages at)) n)) (λ n. not (n == at)) g.order (λ gfn some. elim (cases_eq gfn at) [
         | inl same ↦ ap (λ (n : ℕ). is_secure (put g.pages at (ended_out (g.pages at)) n)) same ∙ ap is_secure (put-here g.pages at (ended_out (g.pages at))) ∙ sym (ap (λ (n : ℕ). not (n == at)) same ∙ ap not (same_test at))
-        | inr other ↦ ap is_secure (put-other g.pages at (ended_out (g.pages at)) gfn other) ∙ h gfn some ∙ sym (ap not (other_test gfn at other))
+        | inr other ↦ ap is_secure (put-other g.pages at (ended_out (g.pages at)) gfn other) ∙ h gfn some ∙ sym (ap not (ne_eqb gfn at other))
       ]))
       (take-length (filter (λ n. not (n == at)) g.order));
   coming = λ at cpu. all_still (with_page_coming g at cpu) refl (secure_put g at (begun_in (g.pages at) cpu) (λ secure. secure));

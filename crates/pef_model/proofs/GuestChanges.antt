@@ -1,5 +1,6 @@
 -- Which change a step of a guest makes.
 use Rattle.std.proofs.Common.{◌≡◌, ℕ, ◌<◌, nat_lt, List, Bool, true, false, refl, ap, ◌∙◌, ◌==◌, if◌then◌else◌, Option, Some, None, is_some, arith}
+use Rattle.std.proofs.lemmas.Bool.{and_parts}
 use Rattle.std.proofs.lemmas.Bool.Decides.{nat_tests}
 use Rattle.pef_model.specs.declared.state.Kind.{Kind}
 use Rattle.pef_model.specs.declared.state.Kind.TheVariants as kind
@@ -19,7 +20,7 @@ use Rattle.pef_model.specs.Guest.{Guest, private_doubleword}
 use Rattle.pef_model.specs.Deed.{Deed, Reach, NoPage, InFrame, Backs, NoFrame, Moves, reach, reach_of, reach_kind, reach_invalid, deed_access, deed_running, deed_gone}
 use Rattle.pef_model.specs.History.{guest_after, pool_after, deed_after}
 use Rattle.pef_model.proofs.Changes as change
-use Rattle.pef_model.proofs.Changes.{Change, asked, entry, both, at_guest, at_guest_same, at_one}
+use Rattle.pef_model.proofs.Changes.{Change, asked, entry, at_guest, at_guest_same, at_one}
 
 -- a page that an access backs
 record IsBacked (page : Page) (any place : Bool) : Type 0 where
@@ -102,7 +103,7 @@ module _ (plan : Plan) (past : List Event) (cpu : CpuPart) (mark : Mark) (run : 
       target (part success ∙ backs ∙ ap (λ (b : Bool). if b then with_secure_page g.part (page_of plan gpa) else g.part) found) refl
   access cmd success gpa target part backs stays Backs found =
       let some : 0 < pool_after plan past = let t = found.some in grind (arith, nat_tests) in
-      let below : nat_lt (page_of plan gpa) plan.pages ≡ true = let place = both _ (nat_lt (page_of plan gpa) plan.pages) found.placed in place.1 in
+      let below : nat_lt (page_of plan gpa) plan.pages ≡ true = let place = and_parts _ (nat_lt (page_of plan gpa) plan.pages) found.placed in place.1 in
       change.Backs (record {
         run = run;
         gfn = page_of plan gpa;

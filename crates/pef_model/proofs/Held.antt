@@ -1,5 +1,5 @@
 -- What was stored is held until the next store.
-use Rattle.std.proofs.Common.{◌≡◌, ℕ, List, [], ◌∷◌, ◌++◌, Bool, true, false, refl, ap, sym, subst, ◌∙◌, ◌==◌, ◌&&◌, if◌then◌else◌, Option, Some, None, slice_index}
+use Rattle.std.proofs.Common.{◌≡◌, ℕ, List, [], ◌∷◌, ◌++◌, Bool, true, false, refl, ap, sym, subst, ◌∙◌, ◌==◌, if◌then◌else◌, Option, Some, None, slice_index}
 use Rattle.std.specs.Prelude.{unwrap_or}
 use Rattle.pef_model.specs.declared.state.Run.{Run}
 use Rattle.pef_model.specs.declared.state.Ctx.{Ctx}
@@ -15,6 +15,7 @@ use Rattle.pef_model.specs.GuestPart.{GuestPart, is_invalid, page_of, secured, w
 use Rattle.pef_model.specs.Guest.{Guest, start_guest, next_guest, stored_by, stored_in, stored_by_command, backed_by}
 use Rattle.pef_model.specs.History.{guest_after, reg}
 use Rattle.pef_model.specs.SearchLaw.{is_store, is_store_by, HasNoStore, IsStep, LastStoreIsStored}
+use Rattle.std.proofs.lemmas.Bool.{and_left, and_right}
 use Rattle.pef_model.proofs.Folds.{same_test, test_same, counts, skips}
 use Rattle.pef_model.proofs.Stores.{second_is_false}
 use Rattle.pef_model.proofs.Backed.{stays}
@@ -22,17 +23,12 @@ use Rattle.pef_model.proofs.Backed.{stays}
 -- an access backs no page that isn't Invalid
 backs_nothing : (plan : Plan) (g : Guest) (at gpa : ℕ) → is_invalid (g.part.pages (page_of plan gpa)) ≡ false → backed_by plan g at gpa ≡ None
 backs_nothing plan g at gpa h = by_test (page_of plan at == page_of plan gpa) refl where
-  choice : Bool → Bool → Option ℕ
-  choice a b = if a && b then Some 0 else None
-
-  elsewhere : (a : Bool) → choice a false ≡ None
-  elsewhere true = refl
-  elsewhere false = refl
+  choice : Bool → Option ℕ
+  choice b = if b then Some 0 else None
 
   by_test : (b : Bool) → (page_of plan at == page_of plan gpa) ≡ b → backed_by plan g at gpa ≡ None
-  by_test true t =
-      ap (λ (a : Bool). choice a (page_of plan at == page_of plan gpa)) (ap (λ (p : ℕ). is_invalid (g.part.pages p)) (test_same _ _ t) ∙ h)
-  by_test false t = ap (choice (is_invalid (g.part.pages (page_of plan at)))) t ∙ elsewhere (is_invalid (g.part.pages (page_of plan at)))
+  by_test true t = ap choice (and_left _ _ (ap (λ (p : ℕ). is_invalid (g.part.pages p)) (test_same _ _ t) ∙ h))
+  by_test false t = ap choice (and_right _ _ t)
 
 -- a guest's page isn't Invalid, and has this doubleword
 record Holds (plan : Plan) (g : Guest) (gpa value : ℕ) : Type 0 where

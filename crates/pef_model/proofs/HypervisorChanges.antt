@@ -1,49 +1,39 @@
 -- Which change a step of the hypervisor makes, and one of its call in progress.
 use Rattle.std.proofs.Common.{◌≡◌, ℕ, nat_lt, List, Bool, true, false, not, refl, ap, sym, ◌==◌, ◌&&◌, ◌||◌, if◌then◌else◌, Option, Some, None, is_some, arith}
+use Rattle.std.proofs.lemmas.Bool.{and_parts, not-false, or_parts}
 use Rattle.std.proofs.lemmas.Bool.Decides.{nat_tests}
 use Rattle.pef_model.specs.declared.state.Kind.{Kind}
 use Rattle.pef_model.specs.declared.state.Kind.TheVariants as kind
 use Rattle.pef_model.specs.declared.state.Move.{Move}
 use Rattle.pef_model.specs.declared.state.Mover.{Mover}
-use Rattle.pef_model.specs.declared.state.Work.TheVariants.{Outward}
+use Rattle.pef_model.specs.declared.state.Work.{Work}
+use Rattle.pef_model.specs.declared.state.Work.TheVariants.{Inward, Outward}
 use Rattle.pef_model.specs.declared.state.Ctx.TheVariants as ctx
 use Rattle.pef_model.specs.declared.command.TheConstants.{UV_SNAPSHOT}
 use Rattle.pef_model.specs.declared.command.Code.{Code}
 use Rattle.pef_model.specs.declared.command.Code.TheVariants.{USuccess, UParameter, UP2, UP3, UP4, UP5, UFunction, UBusy, UInvalid}
+use Rattle.pef_model.specs.declared.command.Cmd.{Cmd}
 use Rattle.pef_model.specs.declared.command.Cmd.TheVariants.{HLd, HSt, UPageout, UReturn, Go}
 use Rattle.pef_model.specs.declared.entry.Answer.TheVariants as answer
 use Rattle.pef_model.specs.Plan.{Plan}
 use Rattle.pef_model.specs.Event.{Event, Mark}
-use Rattle.pef_model.specs.Target.{Ask, Alone, AtGuest, AtFrame, frame_of, has_real_place, target_in, is_guest}
+use Rattle.pef_model.specs.Target.{Ask, Alone, AtGuest, AtFrame, frame_of, target_of_work, target_in, is_guest}
 use Rattle.pef_model.specs.Cpu.{CpuPart}
-use Rattle.pef_model.specs.GuestPart.{Page, GuestPart, page_of, with_running_vcpu, with_page_leaving, with_page_out}
+use Rattle.pef_model.specs.GuestPart.{Page, GuestPart, page_of, with_running_vcpu, with_page_leaving, with_page_out, part_after_work}
 use Rattle.pef_model.specs.Guest.{Guest}
 use Rattle.pef_model.specs.PageOut.{may_page_out_in, has_frame, has_page, can_go_out, is_shared, is_starting, page_out_code, sealed_page}
 use Rattle.pef_model.specs.Deed.{Deed, answering, giving, coming_back, returning, may_return_in, is_waiting, deed_page_out_begin, deed_return}
 use Rattle.pef_model.specs.History.{guest_after, deed_after}
 use Rattle.pef_model.specs.CountLaw.{part_after}
 use Rattle.pef_model.proofs.Folds.{test_same}
-use Rattle.pef_model.proofs.Changes.{Change, Begins, Copies, Ends, Drops, Takes, asked, entry, both, refused, at_none, at_nothing, at_one, at_guest, at_guest_same}
-
--- an address aims at no guest
-address_aims : (plan : Plan) (ra lpid : ℕ) (b : Bool) → is_guest lpid (if b then AtFrame (frame_of plan ra) else Alone) ≡ false
-address_aims plan ra lpid true = refl
-address_aims plan ra lpid false = refl
+use Rattle.pef_model.proofs.Aims.{address_is_no_guest}
+use Rattle.pef_model.proofs.Works.{move_of}
+use Rattle.pef_model.proofs.Changes.{Change, LeavesCpu, KeepsParts, Begins, Copies, Ends, Drops, Takes, asked, entry, refused, at_none, at_nothing, at_one, at_guest, at_guest_same}
 
 -- where a test holds that answers a code, no page begins to move
 pub passes : (b : Bool) (code : Code) (rest : Option Code) → (if b then Some code else rest) ≡ None → (b ≡ false) × (rest ≡ None)
 passes true code rest h = cc
 passes false code rest h = (refl, h)
-
--- what isn't denied holds
-pub not_false : (b : Bool) → not b ≡ false → b ≡ true
-not_false true h = refl
-not_false false h = cc
-
--- where one of two tests would do, and none did, each fails
-pub neither : (a b : Bool) → a || b ≡ false → (a ≡ false) × (b ≡ false)
-neither true b h = cc
-neither false b h = (refl, h)
 
 -- a page that can go out and isn't Shared is Secure
 secure_kind : (k : Kind) → can_go_out k ≡ true → is_shared k ≡ false → k ≡ kind.Secure
@@ -70,21 +60,31 @@ page_begins plan g dest gpa flags order h =
     let orders = passes (not (order == plan.shift)) UP5 _ flagged.1 in
     let shared = passes (is_shared page.kind) USuccess _ orders.1 in
     let busy = passes (is_starting g.phase || is_some page.mover) UBusy _ shared.1 in
-    let goes = both (has_page plan gpa) (can_go_out page.kind) (not_false (has_page plan gpa && can_go_out page.kind) pages.0) in
-    let rests = neither (is_starting g.phase) (is_some page.mover) busy.0 in
+    let goes = and_parts (has_page plan gpa) (can_go_out page.kind) (not-false (has_page plan gpa && can_go_out page.kind) pages.0) in
+    let rests = or_parts (is_starting g.phase) (is_some page.mover) busy.0 in
     (secure_kind page.kind goes.1 shared.0, no_mover page.mover rests.1)
+
+-- the next step of a call in progress aims as its move says
+pub work_aims : (work : Work) (b : Bool) → (move_of work).copied ≡ b → target_of_work work Go ≡ (if b then AtGuest (move_of work).lpid else AtFrame (move_of work).frame)
+work_aims (Inward move) b t = ap (λ (c : Bool). if c then AtGuest move.lpid else AtFrame move.frame) t
+work_aims (Outward move) b t = ap (λ (c : Bool). if c then AtGuest move.lpid else AtFrame move.frame) t
+
+-- a call that comes back with U_PARAMETER leaves the guest's public part
+gone_keeps : (g : GuestPart) (work : Work) → part_after_work g work (answer.Ret UParameter) ≡ g
+gone_keeps g (Inward move) = refl
+gone_keeps g (Outward move) = refl
 
 module _ (plan : Plan) (past : List Event) (cpu : CpuPart) (mark : Mark) where
   -- the hypervisor's loads and stores
   pub load : cpu.ctx ≡ ctx.Hv → (ra : ℕ) (b : Bool) →
       Change plan past cpu (entry cpu ctx.Hv mark (HLd ra) (deed_after plan past (asked cpu ctx.Hv (HLd ra)) (HLd ra) (if b then AtFrame (frame_of plan ra) else Alone)))
-  load h ra true = at_nothing plan past cpu _ (record { ctx_is = sym h; hand_is = refl; lpid_is = refl }) (λ lpid. address_aims plan ra lpid (has_real_place plan ra)) refl
-  load h ra false = at_nothing plan past cpu _ (record { ctx_is = sym h; hand_is = refl; lpid_is = refl }) (λ lpid. address_aims plan ra lpid (has_real_place plan ra)) refl
+  load h ra true = at_nothing plan past cpu _ (record { ctx_is = sym h; hand_is = refl; lpid_is = refl }) (λ lpid. address_is_no_guest plan ra lpid) refl
+  load h ra false = at_nothing plan past cpu _ (record { ctx_is = sym h; hand_is = refl; lpid_is = refl }) (λ lpid. address_is_no_guest plan ra lpid) refl
 
   pub store : cpu.ctx ≡ ctx.Hv → (ra value : ℕ) (b : Bool) →
       Change plan past cpu (entry cpu ctx.Hv mark (HSt ra value) (deed_after plan past (asked cpu ctx.Hv (HSt ra value)) (HSt ra value) (if b then AtFrame (frame_of plan ra) else Alone)))
-  store h ra value true = at_nothing plan past cpu _ (record { ctx_is = sym h; hand_is = refl; lpid_is = refl }) (λ lpid. address_aims plan ra lpid (has_real_place plan ra)) refl
-  store h ra value false = at_nothing plan past cpu _ (record { ctx_is = sym h; hand_is = refl; lpid_is = refl }) (λ lpid. address_aims plan ra lpid (has_real_place plan ra)) refl
+  store h ra value true = at_nothing plan past cpu _ (record { ctx_is = sym h; hand_is = refl; lpid_is = refl }) (λ lpid. address_is_no_guest plan ra lpid) refl
+  store h ra value false = at_nothing plan past cpu _ (record { ctx_is = sym h; hand_is = refl; lpid_is = refl }) (λ lpid. address_is_no_guest plan ra lpid) refl
 
   -- UV_RETURN takes up a vCPU that waits where the guest's phase allows it
   pub return : cpu.ctx ≡ ctx.Hv → (r0 r2 : ℕ) (outs : List ℕ) →
@@ -101,7 +101,7 @@ module _ (plan : Plan) (past : List Event) (cpu : CpuPart) (mark : Mark) where
 
     by_test : (b : Bool) → may_return_in g.phase && is_waiting (g.vcpus cpu.vid).state ≡ b → Change plan past cpu (entry cpu ctx.Hv mark (UReturn r0 r2 outs) (deed b))
     by_test true t =
-        let parts = both (may_return_in g.phase) (is_waiting (g.vcpus cpu.vid).state) t in
+        let parts = and_parts (may_return_in g.phase) (is_waiting (g.vcpus cpu.vid).state) t in
         Takes (record {
           before = h;
           allowed = parts.0;
@@ -142,11 +142,33 @@ module _ (plan : Plan) (past : List Event) (cpu : CpuPart) (mark : Mark) where
         })
     by_code (Some code) t = at_one plan past cpu _ lpid (record { ctx_is = sym h; hand_is = refl; lpid_is = refl }) target refl refl
 
-  -- whether it names a guest or not
-  pub any_page_out : cpu.ctx ≡ ctx.Hv → (lpid dest gpa flags order : ℕ) (b : Bool) → target_in plan ctx.Hv cpu.lpid (UPageout lpid dest gpa flags order) ≡ (if b then AtGuest lpid else Alone) →
-      Change plan past cpu (entry cpu ctx.Hv mark (UPageout lpid dest gpa flags order) (deed_after plan past (asked cpu ctx.Hv (UPageout lpid dest gpa flags order)) (UPageout lpid dest gpa flags order) (if b then AtGuest lpid else Alone)))
-  any_page_out h lpid dest gpa flags order true target = page_out h lpid dest gpa flags order target
-  any_page_out h lpid dest gpa flags order false target = refused plan past cpu mark ctx.Hv h (UPageout lpid dest gpa flags order) (record { ctx_is = refl; hand_is = refl; lpid_is = refl }) target
+  -- a call that names a guest makes a change there, and is refused where there is no guest of that number
+  pub named : cpu.ctx ≡ ctx.Hv → (cmd : Cmd) (lpid : ℕ) (b : Bool) → target_in plan ctx.Hv cpu.lpid cmd ≡ (if b then AtGuest lpid else Alone) →
+      LeavesCpu cpu (entry cpu ctx.Hv mark cmd (deed_after plan past (asked cpu ctx.Hv cmd) cmd Alone)) ctx.Hv cpu.hand cpu.lpid →
+      (target_in plan ctx.Hv cpu.lpid cmd ≡ AtGuest lpid → Change plan past cpu (entry cpu ctx.Hv mark cmd (deed_after plan past (asked cpu ctx.Hv cmd) cmd (AtGuest lpid)))) →
+      Change plan past cpu (entry cpu ctx.Hv mark cmd (deed_after plan past (asked cpu ctx.Hv cmd) cmd (if b then AtGuest lpid else Alone)))
+  named h cmd lpid true target left there = there target
+  named h cmd lpid false target left there = refused plan past cpu mark ctx.Hv h cmd left target
+
+  -- the copy of a call in progress changes no guest's public part
+  pub copy_keeps : (work : Work) → (move_of work).copied ≡ false →
+      KeepsParts plan past (entry cpu (ctx.Uv work) mark Go (deed_after plan past (asked cpu (ctx.Uv work) Go) Go (AtFrame (move_of work).frame)))
+  copy_keeps work t =
+      at_none plan past (entry cpu (ctx.Uv work) mark Go (deed_after plan past (asked cpu (ctx.Uv work) Go) Go (AtFrame (move_of work).frame)))
+      (λ lpid. ap (is_guest lpid) (work_aims work false t))
+
+  -- a call whose guest has ended comes back once its page is copied
+  pub gone : (work : Work) → cpu.ctx ≡ ctx.Uv work → (move_of work).copied ≡ true → ((move_of work).generation == (part_after plan past (move_of work).lpid).generation) ≡ false →
+      Change plan past cpu (entry cpu (ctx.Uv work) mark Go (coming_back (asked cpu (ctx.Uv work) Go) UParameter))
+  gone work h t other = Drops (record {
+    work = work;
+    before = h;
+    generation = grind (arith, nat_tests);
+    cpu_is = record { ctx_is = refl; hand_is = refl; lpid_is = refl };
+    parts = at_guest_same plan past (entry cpu (ctx.Uv work) mark Go (coming_back (asked cpu (ctx.Uv work) Go) UParameter)) (move_of work).lpid (work_aims work true t)
+        (gone_keeps (part_after plan past (move_of work).lpid) work);
+    pool = refl;
+  })
 
   -- the next step of a page-out in progress
   pub go : (move : Move) → cpu.ctx ≡ ctx.Uv (Outward move) → (b : Bool) → move.copied ≡ b →
@@ -155,8 +177,7 @@ module _ (plan : Plan) (past : List Event) (cpu : CpuPart) (mark : Mark) where
     move = move;
     before = h;
     cpu_is = record { ctx_is = refl; hand_is = refl; lpid_is = refl };
-    parts = at_none plan past (entry cpu (ctx.Uv (Outward move)) mark Go (deed_after plan past (asked cpu (ctx.Uv (Outward move)) Go) Go (AtFrame move.frame)))
-        (λ lpid. ap (λ (b : Bool). is_guest lpid (if b then AtGuest move.lpid else AtFrame move.frame)) t);
+    parts = copy_keeps (Outward move) t;
     pool = refl;
   })
   go move h true t = by_life (move.generation == g.generation) refl where
@@ -169,23 +190,13 @@ module _ (plan : Plan) (past : List Event) (cpu : CpuPart) (mark : Mark) where
     deed : Bool → Deed
     deed b = if b then giving (coming_back ask USuccess) 1 else coming_back ask UParameter
 
-    target : target_in plan (ctx.Uv (Outward move)) cpu.lpid Go ≡ AtGuest move.lpid
-    target = ap (λ (b : Bool). if b then AtGuest move.lpid else AtFrame move.frame) t
-
     by_life : (b : Bool) → (move.generation == g.generation) ≡ b → Change plan past cpu (entry cpu (ctx.Uv (Outward move)) mark Go (deed b))
     by_life true same = Ends (record {
       move = move;
       before = h;
       generation = test_same move.generation g.generation same;
       cpu_is = record { ctx_is = refl; hand_is = refl; lpid_is = refl };
-      parts = at_guest plan past (entry cpu (ctx.Uv (Outward move)) mark Go (deed true)) move.lpid (with_page_out g move.gfn) target refl;
+      parts = at_guest plan past (entry cpu (ctx.Uv (Outward move)) mark Go (deed true)) move.lpid (with_page_out g move.gfn) (work_aims (Outward move) true t) refl;
       pool = omega arith;
     })
-    by_life false other = Drops (record {
-      work = Outward move;
-      before = h;
-      generation = grind (arith, nat_tests);
-      cpu_is = record { ctx_is = refl; hand_is = refl; lpid_is = refl };
-      parts = at_guest_same plan past (entry cpu (ctx.Uv (Outward move)) mark Go (deed false)) move.lpid target refl;
-      pool = refl;
-    })
+    by_life false other = gone (Outward move) h t other

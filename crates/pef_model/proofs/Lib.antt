@@ -33,6 +33,7 @@ pub mod Fields
 pub mod Moving
 pub mod Paging
 pub mod Begun
+mod Tags
 pub mod Running
 pub mod Parts
 pub mod Times
@@ -40,7 +41,9 @@ pub mod Orders
 pub mod Grown
 pub mod First
 pub mod Frames
+pub mod KeptStores
 pub mod Fresh
+pub mod RefusedClashes
 pub mod ScriptLines
 pub mod WrittenWords
 pub mod WrittenLines
@@ -51,6 +54,8 @@ pub mod Rows
 pub mod Doublewords
 pub mod Places
 pub mod PageBytes
+pub mod Away
+pub mod SealedCopies
 pub mod Filled
 pub mod Streams
 pub mod Pairs
@@ -62,4 +67,9 @@ pub mod AlikeEntries
 pub mod Views
 pub mod AlikeRuns
 pub mod SeenReports
+pub mod SeenRegisters
+pub mod AlikeClashes
 pub mod SoundParts
+pub mod ThroughHand
+pub mod NormalLoads
+pub mod BegunCalls

@@ -1,8 +1,7 @@
 -- A history whose lines' numbers fall is cut into its lines' entries.
-use Rattle.std.proofs.Common.{◌≡◌, ◌≢◌, ℕ, ◌<◌, ◌+◌, ◌==◌, List, [], ◌∷◌, ◌++◌, get_or, map, reverse, append-nil, suc, Bool, true, false, cond, refl, ap, subst, ◌∙◌, arith}
+use Rattle.std.proofs.Common.{◌≡◌, ℕ, ◌<◌, ◌+◌, ◌==◌, List, [], ◌∷◌, ◌++◌, get_or, map, reverse, append-nil, suc, Bool, true, false, cond, refl, ap, subst, ◌∙◌, arith}
 use Rattle.std.specs.List.{filter, AllByRecursion}
 use Rattle.std.specs.List.Sorted.{IsStrictlyIncreasing}
-use Rattle.std.proofs.lemmas.Bool.Decides.{nat_tests}
 use Rattle.std.proofs.lemmas.List.Elements.{filter-append}
 use mathlib.Core.List.{reverse_aux}
 use Rattle.pef_model.specs.Event.{Event}
@@ -10,11 +9,9 @@ use Rattle.pef_model.specs.Target.{touches_cpu}
 use Rattle.pef_model.specs.Script.{Line}
 use Rattle.pef_model.specs.Run.{is_line_of, entries_at}
 use Rattle.pef_model.proofs.Folds.{same_test, test_same}
+use Rattle.std.proofs.lemmas.Bool.{ne_eqb}
 use Rattle.pef_model.proofs.Lists.{all_give, kept_pass, keeps_all, keeps_none}
 use Rattle.pef_model.proofs.LineEntries.{HaveNumber, AreOnCpu}
-
-other_test : (m n : ℕ) → m ≢ n → (m == n) ≡ false
-other_test m n h = grind (arith, nat_tests)
 
 -- each of the lines has a number below this one
 abbrev pub AreBelow : ℕ → List Line → Type 0
@@ -69,7 +66,7 @@ other_entries n line block past numbers less =
     let p : Event → Bool = λ (e : Event). e.trace.line == line.number in
     filter-append p block past
     ∙ ap (λ (xs : List Event). xs ++ filter p past)
-    (keeps_none p block (all_give (λ (e : Event). e.trace.line ≡ n) (λ (e : Event). p e ≡ false) block (λ e is. other_test e.trace.line line.number (λ same. absurd (omega (arith, is, same, less)))) numbers))
+    (keeps_none p block (all_give (λ (e : Event). e.trace.line ≡ n) (λ (e : Event). p e ≡ false) block (λ e is. ne_eqb e.trace.line line.number (λ same. absurd (omega (arith, is, same, less)))) numbers))
 
 -- the entries of a line's number are all of its entries, where those before have numbers below it
 pub own_entries : (line : Line) (block past : List Event) → HaveNumber line.number block → AllByRecursion (λ (e : Event). e.trace.line < line.number) past → entries_at (block ++ past) line ≡ block
@@ -79,7 +76,7 @@ own_entries line block past numbers below =
     ∙ ap (λ (xs : List Event). xs ++ filter p past)
     (keeps_all p block (all_give (λ (e : Event). e.trace.line ≡ line.number) (λ (e : Event). p e ≡ true) block (λ e is. ap (λ (n : ℕ). n == line.number) is ∙ same_test line.number) numbers))
     ∙ ap (λ (xs : List Event). block ++ xs)
-    (keeps_none p past (all_give (λ (e : Event). e.trace.line < line.number) (λ (e : Event). p e ≡ false) past (λ e less. other_test e.trace.line line.number (λ same. absurd (omega (arith, same, less)))) below))
+    (keeps_none p past (all_give (λ (e : Event). e.trace.line < line.number) (λ (e : Event). p e ≡ false) past (λ e less. ne_eqb e.trace.line line.number (λ same. absurd (omega (arith, same, less)))) below))
     ∙ append-nil block
 
 -- a history's entries of a line have its number

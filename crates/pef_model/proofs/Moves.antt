@@ -15,7 +15,7 @@ use Rattle.pef_model.specs.Target.{target_of_address, target_of_number, target_i
 use Rattle.pef_model.specs.Guest.{Guest, next_guest, registers_after_command, registers_after_in, entered_at}
 use Rattle.pef_model.specs.History.{guest_after}
 use Rattle.pef_model.specs.StepLaw.{Steps, IsInterrupted, IsStepOf, TakesUp, registers_of, EachEntryLeavesRegisters}
-use Rattle.pef_model.proofs.Folds.{same_test, test_same}
+use Rattle.pef_model.proofs.Folds.{either_same, same_test, test_same}
 use Rattle.pef_model.proofs.Assigned.{gpr_in_hypervisor}
 use Rattle.pef_model.proofs.Aims.{own_guest}
 use Rattle.pef_model.proofs.Outcomes.{Outcome, outcome}
@@ -96,11 +96,7 @@ put_elsewhere true registers regs lpid vid v h = by_test (vid == v) refl where
   by_test true t = h t refl
   by_test false t = refl
 
--- registers that an entry keeps are the same whether it touches the guest or not
-kept_by_test : (b : Bool) (regs : Regs) → (if b then regs else regs) ≡ regs
-kept_by_test true regs = refl
-kept_by_test false regs = refl
-
+-- an entry that neither runs a vCPU nor takes it up leaves its registers
 others_stay : (plan : Plan) (c : Ctx) (l v : ℕ) (cmd : Cmd) (a : Answer) (registers : ℕ → Regs) (lpid vid : ℕ) →
     ((run : Run) → c ≡ ctx.Guest run → run.lpid ≡ lpid → run.vid ≡ vid → ⊥) →
     ((r0 r2 : ℕ) (outs : List ℕ) → c ≡ ctx.Hv → cmd ≡ UReturn r0 r2 outs → a ≡ Enter → l ≡ lpid → v ≡ vid → ⊥) →
@@ -119,7 +115,7 @@ others_stay plan ctx.Hv l v (UReturn r0 r2 outs) Enter registers lpid vid own ta
 others_stay plan ctx.Hv l v (UReturn r0 r2 outs) a registers lpid vid own taken =
     put_elsewhere (l == lpid) registers (registers v) lpid vid v (λ t u. ap registers (sym (test_same vid v t)))
 others_stay plan ctx.Hv l v cmd a registers lpid vid own taken = refl
-others_stay plan (ctx.Uv work) l v cmd a registers lpid vid own taken = kept_by_test (is_guest lpid (target_in plan (ctx.Uv work) l cmd)) (registers vid)
+others_stay plan (ctx.Uv work) l v cmd a registers lpid vid own taken = either_same (is_guest lpid (target_in plan (ctx.Uv work) l cmd)) (registers vid)
 others_stay plan (ctx.Guest run) l v cmd a registers lpid vid own taken =
     put_elsewhere (is_guest lpid (target_in plan (ctx.Guest run) l cmd)) registers (registers_after_command (registers run.vid) cmd a) lpid vid run.vid
     (λ t u. absurd (own run refl (own_guest plan run l lpid cmd u) (sym (test_same vid run.vid t))))
@@ -130,7 +126,7 @@ gpr_stays plan ctx.Hv l v cmd a registers lpid vid own = by_test (is_guest lpid 
   by_test : (b : Bool) → (if b then registers_after_in ctx.Hv registers v cmd a vid else registers vid).gpr ≡ (registers vid).gpr
   by_test true = gpr_in_hypervisor registers v cmd a vid
   by_test false = refl
-gpr_stays plan (ctx.Uv work) l v cmd a registers lpid vid own = ap (λ (x : Regs). x.gpr) (kept_by_test (is_guest lpid (target_in plan (ctx.Uv work) l cmd)) (registers vid))
+gpr_stays plan (ctx.Uv work) l v cmd a registers lpid vid own = ap (λ (x : Regs). x.gpr) (either_same (is_guest lpid (target_in plan (ctx.Uv work) l cmd)) (registers vid))
 gpr_stays plan (ctx.Guest run) l v cmd a registers lpid vid own =
     ap (λ (x : Regs). x.gpr) (others_stay plan (ctx.Guest run) l v cmd a registers lpid vid own (λ r0 r2 outs h cmd_is answer_is here this. let no : ⊥ = cc in no))
 

@@ -22,7 +22,8 @@ use Rattle.pef_model.specs.Guest.{start_guest, next_guest}
 use Rattle.pef_model.specs.History.{frame_after, norm_by, last_norm, IsLegal}
 use Rattle.pef_model.specs.SearchLaw.{IsCommand}
 use Rattle.pef_model.specs.NormalLaw.{FramesHoldLastNorm, GuestLeavesFrames, StoreLeavesGuests}
-use Rattle.pef_model.proofs.Folds.{same_test, test_same, counts, skips}
+use Rattle.pef_model.proofs.Folds.{test_same, counts, skips}
+use Rattle.pef_model.proofs.Puts.{apart_by}
 use Rattle.pef_model.proofs.Aims.{address_is_no_guest}
 use Rattle.pef_model.proofs.Doublewords.{length-with_doubleword, doubleword-put, doubleword-other, doubleword-zeros}
 use Rattle.pef_model.proofs.Places.{room_at, apart_at}
@@ -50,15 +51,6 @@ pub store_leaves_guests : StoreLeavesGuests
 store_leaves_guests plan past e ra value lpid is =
     skips (touches_guest plan lpid) (next_guest plan) (start_guest plan lpid) e past
     (ap (λ (cmd : Cmd). is_guest lpid (target_in plan e.saw.before e.saw.lpid cmd)) is ∙ store_aims_at_none plan e.saw.before e.saw.lpid ra value lpid)
-
--- addresses in different frames differ
-differs : (plan : Plan) (at ra : ℕ) → (frame_of plan at == frame_of plan ra) ≡ false → (at == ra) ≡ false
-differs plan at ra elsewhere = by_test (at == ra) refl where
-  by_test : (b : Bool) → (at == ra) ≡ b → (at == ra) ≡ false
-  by_test false t = t
-  by_test true t =
-      let same : (frame_of plan at == frame_of plan ra) ≡ true = ap (λ (x : ℕ). frame_of plan at == frame_of plan x) (sym (test_same at ra t)) ∙ same_test (frame_of plan at) in
-      cc
 
 -- a frame has the size of a page, and this doubleword at a real address of it
 pub record Holds (plan : Plan) (bytes : List ℕ) (ra value : ℕ) : Type 0 where
@@ -152,7 +144,7 @@ frame_holds config (e ∷ past) ra range legal commands here = by_test (frame_ho
       (λ at value before cmd done_is.
       let placed = store_is_placed plan past e at value legal.0 before cmd done_is in
       let elsewhere : (frame_of plan at == n) ≡ false = ap (is_number n) (sym placed.frame) ∙ t in
-      differs plan at ra elsewhere)
+      apart_by (frame_of plan) at ra elsewhere)
       (λ move before cmd step_is.
       let copied = copy_is_placed plan past e move legal.0 before cmd step_is in
       ap (is_number n) (sym copied.frame) ∙ t) in

@@ -2,6 +2,7 @@
 use Rattle.std.proofs.Common.{◌≡◌, ◌≢◌, ℕ, ◌+◌, List, [], ◌∷◌, ◌++◌, Bool, true, false, not, cond, refl, ap, sym, subst, ◌∙◌, ◌==◌, if◌then◌else◌, arith, inl, inr}
 use Rattle.std.specs.List.{filter}
 use Rattle.std.proofs.lemmas.Bool.{cases_eq}
+use Rattle.std.proofs.lemmas.Bool.{ne_eqb}
 use Rattle.pef_model.specs.declared.state.Kind.{Kind}
 use Rattle.pef_model.specs.declared.state.Kind.TheVariants as kind
 use Rattle.pef_model.specs.declared.state.Work.TheVariants.{Inward}
@@ -12,7 +13,7 @@ use Rattle.pef_model.specs.History.{cpu_after, IsLegal}
 use Rattle.pef_model.specs.CountLaw.{part_after}
 use Rattle.pef_model.proofs.Folds.{same_test}
 use Rattle.pef_model.proofs.Times.{times, times-append, times_passed, times_stopped}
-use Rattle.pef_model.proofs.Puts.{other_test, put-here, put-other}
+use Rattle.pef_model.proofs.Puts.{put-here, put-other}
 use Rattle.pef_model.proofs.Changes.{Change, Quiet, Begins, Copies, Ends, Drops, Comes, Reads, Accepts, Refuses, Takes, Parked, Gone, Backs, KeepsParts, PutsPart}
 use Rattle.pef_model.proofs.ChangeOf.{change}
 use Rattle.pef_model.proofs.Paging.{pages, AllMoved, all_moved}
@@ -45,7 +46,7 @@ counts_put g at page order h others here gfn = elim (cases_eq gfn at) [
 -- what is put behind an order leaves every other number
 pub times-behind : (at gfn : ℕ) (order : List ℕ) → gfn ≢ at → times gfn (order ++ at ∷ []) ≡ times gfn order
 times-behind at gfn order other =
-    let none : (at == gfn) ≡ false = other_test at gfn (λ same. other (sym same)) in
+    let none : (at == gfn) ≡ false = ne_eqb at gfn (λ same. other (sym same)) in
     times-append gfn at order ∙ ap (λ (b : Bool). times gfn order + (0 + cond b 1 0)) none ∙ omega arith
 
 -- a page that isn't Secure comes behind the order as it becomes so
@@ -58,7 +59,7 @@ counts_behind g at none h =
 counts_out : (g : GuestPart) (at : ℕ) → ((gfn : ℕ) → CountsPage gfn g) → (gfn : ℕ) → CountsPage gfn (with_page_out g at)
 counts_out g at h =
     counts_put g at (ended_out (g.pages at)) (filter (λ n. not (n == at)) g.order) h
-    (λ gfn other. times_passed (λ n. not (n == at)) gfn g.order (ap not (other_test gfn at other)))
+    (λ gfn other. times_passed (λ n. not (n == at)) gfn g.order (ap not (ne_eqb gfn at other)))
     (times_stopped (λ n. not (n == at)) at g.order (ap not (same_test at)))
 
 -- each guest's order counts its pages

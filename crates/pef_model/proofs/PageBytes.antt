@@ -1,8 +1,8 @@
--- A page's bytes: as many as its size, and the doubleword of each address at its offset.
+-- A page's bytes: as many as its size, the doubleword of each address at its offset, and no other.
 use Rattle.std.proofs.Common.{◌≡◌, ℕ, zero, suc, ◌+◌, ◌*◌, ◌/◌, ◌%◌, ◌^◌, ◌<◌, List, [], ◌∷◌, length, drop, map, get_or, arith, refl, ap, sym, ◌∙◌, length-append}
 use Rattle.std.proofs.lemmas.List.{drop-drop}
-use Rattle.std.proofs.lemmas.List.FromFn.{length-map-range_with_len, get_or-map-range_with_len}
-use Rattle.std.proofs.lemmas.Nat.{pow_pos, mod_below, shr_split}
+use Rattle.std.proofs.lemmas.List.FromFn.{length-map-range_with_len, get_or-map-range_with_len, fill_by_all}
+use Rattle.std.proofs.lemmas.Nat.{pow_pos, mod_below, shr_split, div-mul-add}
 use Rattle.std.specs.List.{range_with_len}
 use Rattle.byteorder.specs.Endian.{big_number, big_bytes}
 use Rattle.byteorder.specs.Numbers.{big_number-reads_back}
@@ -58,3 +58,18 @@ page_has_each_doubleword shift value gpa range aligned small =
     let here : get_or values k 0 ≡ value gpa = get_or-map-range_with_len f 0 n k k 0 inside (omega arith) ∙ ap value (omega arith) in
     ap (doubleword (doublewords values)) eight
     ∙ doubleword-at values k (rw length-map-range_with_len inside) (rw here small) ∙ here
+
+-- values that agree at the addresses of a page give it the same bytes
+pub same_page_bytes : (shift : ℕ) (value other : ℕ → ℕ) (gfn : ℕ) → ((gpa : ℕ) → gpa / 2 ^ shift ≡ gfn → value gpa ≡ other gpa) → page_bytes shift value gfn ≡ page_bytes shift other gfn
+unfolding page_bytes
+same_page_bytes shift value other gfn same = ap doublewords (fill_by_all (λ i. other (at i)) (map (λ i. value (at i)) (range_with_len 0 n)) n 0
+    (length-map-range_with_len (λ i. value (at i)) 0 n)
+    (λ k below. get_or-map-range_with_len (λ i. value (at i)) 0 n k k 0 below (omega arith) ∙ same (at k) (within k below))) where
+      n : ℕ
+      n = 2 ^ shift / 8
+
+      at : ℕ → ℕ
+      at i = gfn * 2 ^ shift + 8 * i
+
+      within : (k : ℕ) → k < n → at k / 2 ^ shift ≡ gfn
+      within k below = let inside : 8 * k < 2 ^ shift = omega arith in div-mul-add gfn (2 ^ shift) (8 * k) inside

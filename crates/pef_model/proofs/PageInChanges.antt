@@ -1,5 +1,6 @@
 -- Which change a page-in makes: its begin, its copy and its end.
-use Rattle.std.proofs.Common.{◌≡◌, ℕ, ◌<◌, nat_lt, List, Bool, true, false, not, refl, ap, sym, ◌==◌, ◌&&◌, if◌then◌else◌, Option, Some, None, is_some, arith}
+use Rattle.std.proofs.Common.{◌≡◌, ℕ, ◌<◌, nat_lt, List, Bool, true, false, not, refl, sym, ◌==◌, ◌&&◌, if◌then◌else◌, Option, Some, None, is_some, arith}
+use Rattle.std.proofs.lemmas.Bool.{and_parts, not-false}
 use Rattle.std.proofs.lemmas.Bool.Decides.{nat_tests}
 use Rattle.pef_model.specs.declared.state.Kind.{Kind}
 use Rattle.pef_model.specs.declared.state.Kind.TheVariants as kind
@@ -12,7 +13,7 @@ use Rattle.pef_model.specs.declared.command.Code.TheVariants.{UParameter, UP2, U
 use Rattle.pef_model.specs.declared.command.Cmd.TheVariants.{UPagein, Go}
 use Rattle.pef_model.specs.Plan.{Plan}
 use Rattle.pef_model.specs.Event.{Event, Mark}
-use Rattle.pef_model.specs.Target.{Ask, Alone, AtGuest, AtFrame, frame_of, target_in, is_guest}
+use Rattle.pef_model.specs.Target.{Ask, AtGuest, AtFrame, frame_of, target_in}
 use Rattle.pef_model.specs.Cpu.{CpuPart}
 use Rattle.pef_model.specs.GuestPart.{Page, GuestPart, page_of, with_secure_page, with_page_coming, with_page_refused}
 use Rattle.pef_model.specs.PageOut.{has_frame, has_page}
@@ -21,8 +22,8 @@ use Rattle.pef_model.specs.Deed.{Deed, coming_back, returning, deed_page_in_with
 use Rattle.pef_model.specs.History.{pool_after, deed_after}
 use Rattle.pef_model.specs.CountLaw.{part_after}
 use Rattle.pef_model.proofs.Folds.{test_same}
-use Rattle.pef_model.proofs.Changes.{Change, Drops, Comes, Reads, Accepts, Refuses, asked, entry, both, refused, at_none, at_one, at_guest, at_guest_same}
-use Rattle.pef_model.proofs.HypervisorChanges.{passes, not_false, no_mover}
+use Rattle.pef_model.proofs.Changes.{Change, Comes, Reads, Accepts, Refuses, asked, entry, at_one, at_guest}
+use Rattle.pef_model.proofs.HypervisorChanges.{passes, no_mover, work_aims, copy_keeps, gone}
 
 -- a page that can come in is Out
 out_kind : (k : Kind) → can_come_in k ≡ true → k ≡ kind.Out
@@ -47,14 +48,14 @@ page_comes plan g src gpa flags order h =
     let flagged = passes (nat_lt PAGE_IN_FLAGS flags) UP4 _ pages.1 in
     let orders = passes (not (order == plan.shift)) UP5 _ flagged.1 in
     let busy = passes (is_some page.mover) UBusy _ orders.1 in
-    let comes = both (has_page plan gpa) (can_come_in page.kind) (not_false (has_page plan gpa && can_come_in page.kind) pages.0) in
-    let place = both _ (nat_lt (page_of plan gpa) plan.pages) comes.0 in
+    let comes = and_parts (has_page plan gpa) (can_come_in page.kind) (not-false (has_page plan gpa && can_come_in page.kind) pages.0) in
+    let place = and_parts _ (nat_lt (page_of plan gpa) plan.pages) comes.0 in
     let below : nat_lt (page_of plan gpa) plan.pages ≡ true = place.1 in
     record { placed = grind (arith, nat_tests); kind_is = out_kind page.kind comes.1; at_rest = no_mover page.mover busy.0 }
 
 module _ (plan : Plan) (past : List Event) (cpu : CpuPart) (mark : Mark) where
   -- UV_PAGE_IN of a guest begins to move a page that is Out at rest, where a frame is free
-  page_in : cpu.ctx ≡ ctx.Hv → (lpid src gpa flags order : ℕ) → target_in plan ctx.Hv cpu.lpid (UPagein lpid src gpa flags order) ≡ AtGuest lpid →
+  pub page_in : cpu.ctx ≡ ctx.Hv → (lpid src gpa flags order : ℕ) → target_in plan ctx.Hv cpu.lpid (UPagein lpid src gpa flags order) ≡ AtGuest lpid →
       Change plan past cpu (entry cpu ctx.Hv mark (UPagein lpid src gpa flags order) (deed_after plan past (asked cpu ctx.Hv (UPagein lpid src gpa flags order)) (UPagein lpid src gpa flags order) (AtGuest lpid)))
   page_in h lpid src gpa flags order target = by_code (page_in_operands plan g src gpa flags order) refl where
     ask : Ask
@@ -87,12 +88,6 @@ module _ (plan : Plan) (past : List Event) (cpu : CpuPart) (mark : Mark) where
     by_code None t = by_pool (page_comes plan g src gpa flags order t) (nat_lt 0 (pool_after plan past)) refl
     by_code (Some code) t = at_one plan past cpu _ lpid (record { ctx_is = sym h; hand_is = refl; lpid_is = refl }) target refl refl
 
-  -- whether it names a guest or not
-  pub any_page_in : cpu.ctx ≡ ctx.Hv → (lpid src gpa flags order : ℕ) (b : Bool) → target_in plan ctx.Hv cpu.lpid (UPagein lpid src gpa flags order) ≡ (if b then AtGuest lpid else Alone) →
-      Change plan past cpu (entry cpu ctx.Hv mark (UPagein lpid src gpa flags order) (deed_after plan past (asked cpu ctx.Hv (UPagein lpid src gpa flags order)) (UPagein lpid src gpa flags order) (if b then AtGuest lpid else Alone)))
-  any_page_in h lpid src gpa flags order true target = page_in h lpid src gpa flags order target
-  any_page_in h lpid src gpa flags order false target = refused plan past cpu mark ctx.Hv h (UPagein lpid src gpa flags order) (record { ctx_is = refl; hand_is = refl; lpid_is = refl }) target
-
   -- the next step of a page-in in progress
   pub go_in : (move : Move) → cpu.ctx ≡ ctx.Uv (Inward move) → (b : Bool) → move.copied ≡ b →
       Change plan past cpu (entry cpu (ctx.Uv (Inward move)) mark Go (deed_after plan past (asked cpu (ctx.Uv (Inward move)) Go) Go (if b then AtGuest move.lpid else AtFrame move.frame)))
@@ -101,8 +96,7 @@ module _ (plan : Plan) (past : List Event) (cpu : CpuPart) (mark : Mark) where
     before = h;
     read = refl;
     cpu_is = record { ctx_is = refl; hand_is = refl; lpid_is = refl };
-    parts = at_none plan past (entry cpu (ctx.Uv (Inward move)) mark Go (deed_after plan past (asked cpu (ctx.Uv (Inward move)) Go) Go (AtFrame move.frame)))
-        (λ lpid. ap (λ (b : Bool). is_guest lpid (if b then AtGuest move.lpid else AtFrame move.frame)) t);
+    parts = copy_keeps plan past cpu mark (Inward move) t;
     pool = refl;
   })
   go_in move h true t = by_life (move.generation == g.generation) refl where
@@ -119,7 +113,7 @@ module _ (plan : Plan) (past : List Event) (cpu : CpuPart) (mark : Mark) where
     fresh = is_last_sealed (g.pages move.gfn).sealed ask.hand
 
     target : target_in plan (ctx.Uv (Inward move)) cpu.lpid Go ≡ AtGuest move.lpid
-    target = ap (λ (b : Bool). if b then AtGuest move.lpid else AtFrame move.frame) t
+    target = work_aims (Inward move) true t
 
     by_test : move.generation ≡ g.generation → (b : Bool) → Change plan past cpu (entry cpu (ctx.Uv (Inward move)) mark Go (deed true b))
     by_test same true = Accepts (record {
@@ -141,11 +135,4 @@ module _ (plan : Plan) (past : List Event) (cpu : CpuPart) (mark : Mark) where
 
     by_life : (b : Bool) → (move.generation == g.generation) ≡ b → Change plan past cpu (entry cpu (ctx.Uv (Inward move)) mark Go (deed b fresh))
     by_life true same = by_test (test_same move.generation g.generation same) fresh
-    by_life false other = Drops (record {
-      work = Inward move;
-      before = h;
-      generation = grind (arith, nat_tests);
-      cpu_is = record { ctx_is = refl; hand_is = refl; lpid_is = refl };
-      parts = at_guest_same plan past (entry cpu (ctx.Uv (Inward move)) mark Go (deed false fresh)) move.lpid target refl;
-      pool = refl;
-    })
+    by_life false other = gone plan past cpu mark (Inward move) h t other

@@ -1,5 +1,6 @@
 -- A store that was done, and the copy of a page-out, tell the normal frame that they write.
-use Rattle.std.proofs.Common.{◌≡◌, ℕ, ◌%◌, List, [], Bool, true, false, refl, ap, sym, ◌∙◌, ◌==◌, ◌&&◌, if◌then◌else◌, Some}
+use Rattle.std.proofs.Common.{◌≡◌, ℕ, ◌%◌, List, [], Bool, true, false, refl, ap, sym, ◌∙◌, ◌==◌, if◌then◌else◌, Some}
+use Rattle.std.proofs.lemmas.Bool.{and_parts}
 use Rattle.pef_model.specs.declared.state.Move.{Move}
 use Rattle.pef_model.specs.declared.state.Work.TheVariants.{Outward}
 use Rattle.pef_model.specs.declared.state.Ctx.{Ctx}
@@ -54,14 +55,9 @@ store_is_placed plan past e at value extends before cmd done_is = by_place (has_
   by_place false t = absurd (alone_not_done ctx.Hv (HSt at value) (
       sym (ap (λ (x : Event). x.trace.answer) extends.is ∙ ap (λ (d : Deed). d.answer) same ∙ ap (λ (b : Bool). (deed b).answer) t) ∙ done_is))
 
--- the first of two tests that both hold
-first_holds : (a b : Bool) → a && b ≡ true → a ≡ true
-first_holds true b h = refl
-first_holds false b h = h
-
 -- an address with a place is a multiple of 8
 pub aligned : (plan : Plan) (ra : ℕ) → has_real_place plan ra ≡ true → ra % 8 ≡ 0
-aligned plan ra h = test_same (ra % 8) 0 (first_holds _ _ h)
+aligned plan ra h = test_same (ra % 8) 0 (and_parts _ _ h).0
 
 -- the copy of a page that moves writes the hand into the frame that the call names
 pub record IsCopied (plan : Plan) (past : List Event) (e : Event) (move : Move) : Type 0 where

@@ -1,13 +1,16 @@
 -- A function with another value at one place, and at one of two.
 use Rattle.std.proofs.Common.{◌≡◌, ◌≢◌, arith, ℕ, Bool, true, false, refl, ap, sym, ◌∙◌, ◌==◌, if◌then◌else◌, ◌⊎◌, inl, inr}
-use Rattle.std.proofs.lemmas.Bool.{cases_eq}
+use Rattle.std.proofs.lemmas.Bool.{cases_eq, ne_eqb}
 use Rattle.std.proofs.lemmas.Bool.Decides.{nat_tests}
 use Rattle.pef_model.specs.GuestPart.{put}
 use Rattle.pef_model.proofs.Folds.{same_test, test_same}
 
--- numbers that differ don't pass the test
-pub other_test : (n m : ℕ) → n ≢ m → (n == m) ≡ false
-other_test n m other = grind (arith, nat_tests)
+-- numbers that a function takes apart don't pass the test
+pub apart_by : (f : ℕ → ℕ) (m n : ℕ) → (f m == f n) ≡ false → (m == n) ≡ false
+apart_by f m n apart = by_test (m == n) refl where
+  by_test : (b : Bool) → (m == n) ≡ b → (m == n) ≡ false
+  by_test false t = t
+  by_test true t = let same : (f m == f n) ≡ true = ap (λ (x : ℕ). f m == f x) (sym (test_same m n t)) ∙ same_test (f m) in cc
 
 -- which number stands first makes no difference
 pub not_swapped : (m n : ℕ) → (m == n) ≡ true → (n == m) ≡ false → ⊥
@@ -19,7 +22,7 @@ put-here f at x = ap (λ (b : Bool). if b then x else f at) (same_test at)
 
 -- and at every other the old
 pub put-other : {X : Type 0} (f : ℕ → X) (at : ℕ) (x : X) (n : ℕ) → n ≢ at → put f at x n ≡ f n
-put-other f at x n other = ap (λ (b : Bool). if b then x else f n) (other_test n at other)
+put-other f at x n other = ap (λ (b : Bool). if b then x else f n) (ne_eqb n at other)
 
 -- the value that is there already changes nothing
 pub put-same : {X : Type 0} (f : ℕ → X) (at n : ℕ) → put f at (f at) n ≡ f n

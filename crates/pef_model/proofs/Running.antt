@@ -6,8 +6,6 @@ use Rattle.pef_model.specs.declared.state.Phase.TheVariants.{Secure}
 use Rattle.pef_model.specs.declared.state.VState.{VState}
 use Rattle.pef_model.specs.declared.state.VState.TheVariants as vstate
 use Rattle.pef_model.specs.declared.state.Run.{Run}
-use Rattle.pef_model.specs.declared.state.Move.{Move}
-use Rattle.pef_model.specs.declared.state.Work.TheVariants.{Inward, Outward}
 use Rattle.pef_model.specs.declared.state.Ctx.{Ctx}
 use Rattle.pef_model.specs.declared.state.Ctx.TheVariants as ctx
 use Rattle.pef_model.specs.Plan.{Plan}
@@ -19,7 +17,7 @@ use Rattle.pef_model.specs.History.{cpu_after, IsLegal}
 use Rattle.pef_model.specs.CountLaw.{part_after, EachCpuRunsItsVcpu, NoVcpuRunsTwice}
 use Rattle.pef_model.proofs.Puts.{put-here, put-other, put_in, IsElsewhere, put_in-here, put_in-elsewhere}
 use Rattle.pef_model.proofs.Parts.{secure_where_allowed}
-use Rattle.pef_model.proofs.Changes.{Change, Quiet, Begins, Copies, Ends, Drops, Comes, Reads, Accepts, Refuses, Takes, Parked, Gone, Backs, KeepsParts, PutsPart}
+use Rattle.pef_model.proofs.Changes.{Change, Quiet, Begins, Copies, Ends, Drops, Comes, Reads, Accepts, Refuses, Takes, Parked, Gone, Backs, LeavesCpu, KeepsParts, PutsPart}
 use Rattle.pef_model.proofs.ChangeOf.{change}
 use Rattle.pef_model.proofs.Fields.{ctxs, of_each, ctxs_after, same_ctxs, field_after, same_field, kept_field}
 
@@ -110,19 +108,27 @@ carry {c = c} {d = d} {v = v} {w = w} {g = g} {f = f} {p = p} {q = q} one two th
 abbrev AllRun : Plan → List Event → Type 0
 AllRun plan past = AreRun (ctxs plan past) (of_each (λ (g : GuestPart). g.vcpus) plan past) (of_each (λ (g : GuestPart). g.generation) plan past) (of_each (λ (g : GuestPart). g.phase) plan past)
 
--- a step that makes this context of its CPU's, and leaves each vCPU
+-- the same by the contexts after an entry and the vCPUs before it
+abbrev AreStill : Plan → List Event → Event → Type 0
+AreStill plan past e =
+    AreRun (ctxs plan (e ∷ past)) (of_each (λ (g : GuestPart). g.vcpus) plan past) (of_each (λ (g : GuestPart). g.generation) plan past) (of_each (λ (g : GuestPart). g.phase) plan past)
+
+-- a step that leaves its CPU in a context in which no vCPU runs
+runs_none : (plan : Plan) (past : List Event) (e : Event) (after : Ctx) (hand : List ℕ) (lpid : ℕ) → AllRun plan past → LeavesCpu (cpu_after plan e.trace.cpu past) e after hand lpid →
+    ((run : Run) → after ≡ ctx.Guest run → ⊥) → AreStill plan past e
+runs_none plan past e after hand lpid all left none = carry (ctxs_after plan past e after hand lpid left) refl refl refl (run_on _ _ _ _ e.trace.cpu all after none)
+
+-- one that leaves each vCPU
 keeps_vcpus : (plan : Plan) (past : List Event) (e : Event) (l : ℕ) (new : GuestPart) → PutsPart plan past e l new → new.vcpus ≡ (part_after plan past l).vcpus →
     new.generation ≡ (part_after plan past l).generation → new.phase ≡ (part_after plan past l).phase →
-    AreRun (ctxs plan (e ∷ past)) (of_each (λ (g : GuestPart). g.vcpus) plan past) (of_each (λ (g : GuestPart). g.generation) plan past) (of_each (λ (g : GuestPart). g.phase) plan past) →
-    AllRun plan (e ∷ past)
+    AreStill plan past e → AllRun plan (e ∷ past)
 keeps_vcpus plan past e l new parts vcpus generation phase =
     carry refl (same_field plan past e (λ (g : GuestPart). g.vcpus) l new parts vcpus) (same_field plan past e (λ (g : GuestPart). g.generation) l new parts generation)
     (same_field plan past e (λ (g : GuestPart). g.phase) l new parts phase)
 
 -- one that leaves each guest
 keeps_guests : (plan : Plan) (past : List Event) (e : Event) → KeepsParts plan past e →
-    AreRun (ctxs plan (e ∷ past)) (of_each (λ (g : GuestPart). g.vcpus) plan past) (of_each (λ (g : GuestPart). g.generation) plan past) (of_each (λ (g : GuestPart). g.phase) plan past) →
-    AllRun plan (e ∷ past)
+    AreStill plan past e → AllRun plan (e ∷ past)
 keeps_guests plan past e parts =
     carry refl (kept_field plan past e (λ (g : GuestPart). g.vcpus) parts) (kept_field plan past e (λ (g : GuestPart). g.generation) parts) (kept_field plan past e (λ (g : GuestPart). g.phase) parts)
 
@@ -138,23 +144,14 @@ puts_vcpu plan past e l new parts generation phase =
 -- each change keeps it so
 run_by : (plan : Plan) (past : List Event) (e : Event) → AllRun plan past → Change plan past (cpu_after plan e.trace.cpu past) e → AllRun plan (e ∷ past)
 run_by plan past e all (Quiet x) = keeps_guests plan past e x.parts (carry (same_ctxs plan past e _ _ x.cpu_is) refl refl refl all)
-run_by plan past e all (Begins x) =
-    keeps_vcpus plan past e _ _ x.parts refl refl refl (carry (ctxs_after plan past e _ _ _ x.cpu_is) refl refl refl (run_on _ _ _ _ e.trace.cpu all (ctx.Uv (Outward x.move)) (λ run is. cc)))
-run_by plan past e all (Copies x) =
-    keeps_guests plan past e x.parts
-    (carry (ctxs_after plan past e _ _ _ x.cpu_is) refl refl refl (run_on _ _ _ _ e.trace.cpu all (let copied : Move = record x.move { copied = true } in ctx.Uv (Outward copied)) (λ run is. cc)))
-run_by plan past e all (Ends x) =
-    keeps_vcpus plan past e _ _ x.parts refl refl refl (carry (ctxs_after plan past e _ _ _ x.cpu_is) refl refl refl (run_on _ _ _ _ e.trace.cpu all ctx.Hv (λ run is. cc)))
-run_by plan past e all (Drops x) = keeps_guests plan past e x.parts (carry (ctxs_after plan past e _ _ _ x.cpu_is) refl refl refl (run_on _ _ _ _ e.trace.cpu all ctx.Hv (λ run is. cc)))
-run_by plan past e all (Comes x) =
-    keeps_vcpus plan past e _ _ x.parts refl refl refl (carry (ctxs_after plan past e _ _ _ x.cpu_is) refl refl refl (run_on _ _ _ _ e.trace.cpu all (ctx.Uv (Inward x.move)) (λ run is. cc)))
-run_by plan past e all (Reads x) =
-    keeps_guests plan past e x.parts
-    (carry (ctxs_after plan past e _ _ _ x.cpu_is) refl refl refl (run_on _ _ _ _ e.trace.cpu all (let copied : Move = record x.move { copied = true } in ctx.Uv (Inward copied)) (λ run is. cc)))
-run_by plan past e all (Accepts x) =
-    keeps_vcpus plan past e _ _ x.parts refl refl refl (carry (ctxs_after plan past e _ _ _ x.cpu_is) refl refl refl (run_on _ _ _ _ e.trace.cpu all ctx.Hv (λ run is. cc)))
-run_by plan past e all (Refuses x) =
-    keeps_vcpus plan past e _ _ x.parts refl refl refl (carry (ctxs_after plan past e _ _ _ x.cpu_is) refl refl refl (run_on _ _ _ _ e.trace.cpu all ctx.Hv (λ run is. cc)))
+run_by plan past e all (Begins x) = keeps_vcpus plan past e _ _ x.parts refl refl refl (runs_none plan past e _ _ _ all x.cpu_is (λ run is. cc))
+run_by plan past e all (Copies x) = keeps_guests plan past e x.parts (runs_none plan past e _ _ _ all x.cpu_is (λ run is. cc))
+run_by plan past e all (Ends x) = keeps_vcpus plan past e _ _ x.parts refl refl refl (runs_none plan past e _ _ _ all x.cpu_is (λ run is. cc))
+run_by plan past e all (Drops x) = keeps_guests plan past e x.parts (runs_none plan past e _ _ _ all x.cpu_is (λ run is. cc))
+run_by plan past e all (Comes x) = keeps_vcpus plan past e _ _ x.parts refl refl refl (runs_none plan past e _ _ _ all x.cpu_is (λ run is. cc))
+run_by plan past e all (Reads x) = keeps_guests plan past e x.parts (runs_none plan past e _ _ _ all x.cpu_is (λ run is. cc))
+run_by plan past e all (Accepts x) = keeps_vcpus plan past e _ _ x.parts refl refl refl (runs_none plan past e _ _ _ all x.cpu_is (λ run is. cc))
+run_by plan past e all (Refuses x) = keeps_vcpus plan past e _ _ x.parts refl refl refl (runs_none plan past e _ _ _ all x.cpu_is (λ run is. cc))
 run_by plan past e all (Takes x) =
     let cpu : CpuPart = cpu_after plan e.trace.cpu past in
     puts_vcpu plan past e _ _ x.parts refl refl
@@ -162,7 +159,7 @@ run_by plan past e all (Takes x) =
 run_by plan past e all (Parked x) =
     puts_vcpu plan past e _ _ x.parts refl refl
     (carry (ctxs_after plan past e _ _ _ x.cpu_is) refl refl refl (run_parked _ _ _ _ e.trace.cpu all x.run _ x.before))
-run_by plan past e all (Gone x) = keeps_guests plan past e x.parts (carry (ctxs_after plan past e _ _ _ x.cpu_is) refl refl refl (run_on _ _ _ _ e.trace.cpu all ctx.Hv (λ run is. cc)))
+run_by plan past e all (Gone x) = keeps_guests plan past e x.parts (runs_none plan past e _ _ _ all x.cpu_is (λ run is. cc))
 run_by plan past e all (Backs x) = keeps_vcpus plan past e _ _ x.parts refl refl refl (carry (same_ctxs plan past e _ _ x.cpu_is) refl refl refl all)
 
 -- so it is after a legal history

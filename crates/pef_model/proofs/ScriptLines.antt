@@ -1,7 +1,6 @@
 -- Lemmas on the lines of a text: it is read from the front.
 use Rattle.std.proofs.Common.{◌≡◌, ◌<◌, ℕ, List, [], ◌∷◌, length, refl, ap, ◌∙◌, arith}
-use Rattle.std.specs.Prelude.{Option, Some, None, if◌then◌else◌, ◌==◌}
-use Rattle.std.specs.Str.{bytes_eq}
+use Rattle.std.specs.Prelude.{Option, Some, None, ◌==◌}
 use Rattle.std.specs.List.{slice_split}
 use Rattle.std.proofs.lemmas.List.Splits.{length-slice_split}
 use Rattle.pef_model.specs.Words.{ended_lines, lines_of}
@@ -25,7 +24,3 @@ ended_lines-cons line (next ∷ more) h = ended_more line next more (ended_lines
 -- where a text has a first LF, its lines are what stands before it, and the lines of what stands after it
 pub lines_first : (text line rest : List ℕ) → slice_split (λ b. b == 10) text ≡ line ∷ slice_split (λ b. b == 10) rest → lines_of text ≡ onto_lines line (lines_of rest)
 lines_first text line rest e = ap ended_lines e ∙ ended_lines-cons line (slice_split (λ b. b == 10) rest) (some_part rest)
-
--- a text without LF has no lines, or isn't lines
-pub lines_last : (text : List ℕ) → slice_split (λ b. b == 10) text ≡ text ∷ [] → lines_of text ≡ (if bytes_eq text [] then Some [] else None)
-lines_last text e = ap ended_lines e

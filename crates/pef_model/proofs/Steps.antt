@@ -1,7 +1,7 @@
 -- What an entry makes of its CPU and lets out.
-use Rattle.std.proofs.Common.{◌≡◌, ℕ, zero, suc, ◌<◌, List, [], ◌∷◌, ◌++◌, length, take, drop, replicate, get_or, refl, ap, sym, subst, ◌∙◌, if◌then◌else◌, arith, Bool, true, false, ◌==◌, ◌≢◌}
+use Rattle.std.proofs.Common.{◌≡◌, ℕ, ◌<◌, List, [], ◌∷◌, ◌++◌, length, take, drop, replicate, get_or, refl, ap, sym, subst, ◌∙◌, if◌then◌else◌, arith, Bool, true, false, ◌==◌, ◌≢◌}
 use Rattle.std.specs.Prelude.{unwrap_or, slice_set}
-use Rattle.std.proofs.lemmas.List.{set-get_or}
+use Rattle.std.proofs.lemmas.List.{get_or-replicate, set-get_or}
 use Rattle.std.proofs.Math.ListN.{length-set}
 use Rattle.std.proofs.lemmas.Grind.{common_steps}
 use Rattle.std.proofs.lemmas.Bool.Decides.{nat_tests}
@@ -154,17 +154,12 @@ own_by_load : (own : List ℕ) (a : Answer) (r : ℕ) → length own ≡ 32 → 
 own_by_load own (Val value) r full = set_value own 3 value r full (omega arith)
 own_by_load own a r full = refl
 
-zero_at : (n i : ℕ) → get_or (replicate {A = ℕ} n 0) i 0 ≡ 0
-zero_at zero i = refl
-zero_at (suc n) zero = refl
-zero_at (suc n) (suc i) = zero_at n i
-
 -- R3 shows the interrupt, and every other register 0
 interrupt_shows : (r : ℕ) → r < 32 → get_or interrupt_registers r 0 ≡ (if r == 3 then EXTERNAL_INTERRUPT else 0)
 interrupt_shows r small = by_test (r == 3) refl where
   by_test : (b : Bool) → (r == 3) ≡ b → get_or interrupt_registers r 0 ≡ (if b then EXTERNAL_INTERRUPT else 0)
   by_test true t = ap (λ (n : ℕ). get_or interrupt_registers n 0) (test_same r 3 t)
-  by_test false t = let other : 3 ≢ r = grind (arith, nat_tests) in let zero = zero_at 32 r in grind (arith, common_steps)
+  by_test false t = let other : 3 ≢ r = grind (arith, nat_tests) in let zero : get_or (replicate {A = ℕ} 32 0) r 0 ≡ 0 = get_or-replicate 32 r 0 0 small in grind (arith, common_steps)
 
 -- each of the hypervisor's registers after a step
 own_left : (cpu : CpuPart) (c after : Ctx) (cmd : Cmd) (a : Answer) (bytes : List ℕ) (r : ℕ) → IsCommand cmd → length cpu.own ≡ 32 → r < 32 →
@@ -176,7 +171,7 @@ own_left cpu ctx.Hv after (UReturn r0 r2 outs) a bytes r k full small = own_by_r
 own_left cpu ctx.Hv after cmd a bytes r k full small = refl
 own_left cpu (ctx.Uv work) after cmd a bytes r k full small = own_by_work cpu work after a bytes r full
 own_left cpu (ctx.Guest run) after cmd (Exit exit.Irq) bytes r k full small = interrupt_shows r small
-own_left cpu (ctx.Guest run) after cmd Gone bytes r k full small = zero_at 32 r
+own_left cpu (ctx.Guest run) after cmd Gone bytes r k full small = get_or-replicate 32 r 0 0 small
 own_left cpu (ctx.Guest run) after cmd a bytes r k full small = refl
 
 -- the hand after a step of a call in progress: the copy of a page-in takes the bytes

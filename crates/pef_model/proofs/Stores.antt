@@ -14,7 +14,7 @@ use Rattle.pef_model.specs.GuestPart.{is_invalid, page_of}
 use Rattle.pef_model.specs.Guest.{Guest, start_guest, next_guest, stored_by, stored_in, stored_by_command, backed_by}
 use Rattle.pef_model.specs.History.{guest_after, reg}
 use Rattle.pef_model.specs.SearchLaw.{zero_where_backed, access_decides, step_decides, decides_doubleword, LastStoreIsNewest, is_store_by, HasNoStore, LastStoreIsZero}
-use Rattle.pef_model.proofs.Folds.{test_same, counts, skips}
+use Rattle.pef_model.proofs.Folds.{either_same, test_same, counts, skips}
 
 -- both ways to say that an access backs the page of an address
 backs_alike : (plan : Plan) (past : List Event) (lpid at gpa : ℕ) → backed_by plan (guest_after plan lpid past) at gpa ≡ zero_where_backed plan lpid gpa past at
@@ -41,16 +41,11 @@ backs_alike plan past lpid at gpa = by_test (page_of plan at == page_of plan gpa
       ∙ swapped (invalid (page_of plan gpa)) (page_of plan at == page_of plan gpa)
   by_test false t = ap (choice (invalid (page_of plan at))) t ∙ elsewhere (invalid (page_of plan at)) ∙ sym (ap (λ (b : Bool). choice b (invalid (page_of plan gpa))) t)
 
--- an entry that gives no value decides none, wherever it aims
-nothing_decided : (b : Bool) → (if b then None else None) ≡ (let nothing : Option ℕ = None in nothing)
-nothing_decided true = refl
-nothing_decided false = refl
-
 -- the search decides what the entry gives
 decided_alike : (plan : Plan) (past : List Event) (lpid gpa l : ℕ) (c : Ctx) (cmd : Cmd) (a : Answer) →
     (if is_guest lpid (target_in plan c l cmd) then stored_in c plan (guest_after plan lpid past) cmd a gpa else None) ≡ step_decides plan lpid gpa past c cmd a
-decided_alike plan past lpid gpa l ctx.Hv cmd a = nothing_decided (is_guest lpid (target_in plan ctx.Hv l cmd))
-decided_alike plan past lpid gpa l (ctx.Uv work) cmd a = nothing_decided (is_guest lpid (target_in plan (ctx.Uv work) l cmd))
+decided_alike plan past lpid gpa l ctx.Hv cmd a = either_same (is_guest lpid (target_in plan ctx.Hv l cmd)) None
+decided_alike plan past lpid gpa l (ctx.Uv work) cmd a = either_same (is_guest lpid (target_in plan (ctx.Uv work) l cmd)) None
 decided_alike plan past lpid gpa l (ctx.Guest run) cmd a = by_command cmd a where
   g : Guest
   g = guest_after plan lpid past
@@ -58,18 +53,14 @@ decided_alike plan past lpid gpa l (ctx.Guest run) cmd a = by_command cmd a wher
   here : Bool
   here = run.lpid == lpid
 
-  nothing : (b : Bool) → (let none : Option ℕ = None in none) ≡ (if b then None else None)
-  nothing true = refl
-  nothing false = refl
-
   by_command : (cmd : Cmd) (a : Answer) →
       (if is_guest lpid (target_of_running run.lpid cmd) then stored_by_command plan g run.vid cmd a gpa else None) ≡ (if here then access_decides plan lpid gpa past run.vid cmd a else None)
-  by_command (HLd ra) a = nothing here
-  by_command (HSt ra value) a = nothing here
+  by_command (HLd ra) a = sym (either_same here None)
+  by_command (HSt ra value) a = sym (either_same here None)
   by_command (GLd rd at) (Val value) = ap (λ (o : Option ℕ). if here then o else None) (backs_alike plan past lpid at gpa)
   by_command (GSt rs at) Done =
       ap (λ (o : Option ℕ). if here then (if at == gpa then Some (reg plan past lpid run.vid rs) else o) else None) (backs_alike plan past lpid at gpa)
-  by_command Go a = nothing here
+  by_command Go a = sym (either_same here None)
   by_command cmd a = refl
 
 -- the content of a page is what the newest entry says that decided it

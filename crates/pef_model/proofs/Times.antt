@@ -1,8 +1,7 @@
 -- Lists of numbers, and how often a number is there.
-use Rattle.std.proofs.Common.{◌≡◌, ℕ, ◌+◌, ◌<◌, ◌≤◌, List, [], ◌∷◌, ◌++◌, length, Bool, true, false, not, cond, refl, ap, sym, ◌∙◌, ◌==◌, arith}
+use Rattle.std.proofs.Common.{◌≡◌, ℕ, ◌+◌, ◌<◌, ◌≤◌, List, [], ◌∷◌, ◌++◌, Bool, true, false, cond, refl, ap, sym, ◌∙◌, ◌==◌, arith}
 use Rattle.std.specs.List.{count_by, filter}
-use Rattle.std.proofs.lemmas.List.Sums.{sum_by-append, sum_by-cons, length-filter}
-use Rattle.std.proofs.lemmas.List.Filters.{length-filter_both}
+use Rattle.std.proofs.lemmas.List.Sums.{sum_by-append, sum_by-cons}
 use Rattle.pef_model.proofs.Folds.{same_test, test_same, keeps, leaves}
 
 -- how often a number is in a list
@@ -64,10 +63,3 @@ filter_true (x ∷ xs) = ap (λ (ys : List ℕ). x ∷ ys) (filter_true xs)
 -- a filter that passes all that is there leaves the list
 pub filter_all : (p : ℕ → Bool) (xs : List ℕ) → ((n : ℕ) → 0 < times n xs → p n ≡ true) → filter p xs ≡ xs
 filter_all p xs h = same_filter p (λ n. true) xs h ∙ filter_true xs
-
--- without a number a list is shorter by as often as it was there
-pub length-without : (n : ℕ) (xs : List ℕ) → length (filter (λ m. not (m == n)) xs) + times n xs ≡ length xs
-length-without n xs =
-    let parts = length-filter_both (λ (m : ℕ). m == n) (λ (m : ℕ). not (m == n)) (λ m. refl) xs in
-    let counted = length-filter (λ (m : ℕ). m == n) xs in
-    omega arith

@@ -171,8 +171,8 @@ module _ (plan : Plan) (past history : List Event) (e f : Event) (same : Same pl
     seen = ap (λ (s : Sight). s ∷ view plan past) sights ∙ ap (λ (xs : List Sight). sight plan history f ∷ xs) same.seen;
   }
 
--- by induction on both histories
-same_so_far : (plan : Plan) (past history : List Event) → IsLegal plan past → IsLegal plan history → AllAlikeOpen past history → SealedBytesAgree past history → Same plan past history
+-- two legal histories that are alike have as much in common, by induction on both
+pub same_so_far : (plan : Plan) (past history : List Event) → IsLegal plan past → IsLegal plan history → AllAlikeOpen past history → SealedBytesAgree past history → Same plan past history
 same_so_far plan [] [] p q alike sealed = record { cpu = λ n. refl; part = λ lpid. refl; pool = refl; frame = λ n. refl; seen = refl }
 same_so_far plan [] (f ∷ history) p q alike sealed = absurd alike
 same_so_far plan (e ∷ past) [] p q alike sealed = absurd alike

@@ -1,5 +1,5 @@
 -- Each normal frame is what the writes of the view leave.
-use Rattle.std.proofs.Common.{◌≡◌, ℕ, List, [], ◌∷◌, ◌++◌, length, take, Bool, true, false, refl, ap, sym, ◌∙◌, ◌==◌, if◌then◌else◌, Option, Some, arith}
+use Rattle.std.proofs.Common.{◌≡◌, ℕ, List, [], ◌∷◌, ◌++◌, length, take, refl, ap, sym, ◌∙◌, ◌==◌, if◌then◌else◌, Option, Some, arith}
 use Rattle.std.proofs.Math.ListN.{drop_of_length-le}
 use Rattle.std.proofs.lemmas.List.{append-nil, drop-drop}
 use Rattle.byteorder.specs.Endian.{big_bytes}
@@ -18,6 +18,7 @@ use Rattle.pef_model.specs.Memory.{offset_of, written_in}
 use Rattle.pef_model.specs.History.{frame_after}
 use Rattle.pef_model.specs.View.{after_writes, overwritten, writes_of}
 use Rattle.pef_model.specs.NormalLaw.{WritesMakeFrames}
+use Rattle.pef_model.proofs.Folds.{either_same}
 use Rattle.pef_model.proofs.Placed.{store_is_placed, copy_is_placed}
 use Rattle.pef_model.proofs.Hands.{all_fill}
 
@@ -31,11 +32,6 @@ all_overwritten : (old bytes : List ℕ) → length old ≡ length bytes → ove
 all_overwritten old bytes same =
     ap (λ (rest : List ℕ). bytes ++ rest) (drop_of_length-le old (omega (arith, same))) ∙ append-nil bytes
 
--- where nothing is written no test makes a difference
-same_either : (old : List ℕ) (b : Bool) → old ≡ (if b then old else old)
-same_either old true = refl
-same_either old false = refl
-
 -- what the writes of a step leave in a frame is what the step makes of it: a store and a copy tell their frame, and a copy has as many bytes as the frame
 step_writes : (plan : Plan) (n : ℕ) (old : List ℕ) (c : Ctx) (cmd : Cmd) (a : Answer) (bytes : List ℕ) (frame : Option ℕ) →
     ((at value : ℕ) → c ≡ ctx.Hv → cmd ≡ HSt at value → a ≡ Done → frame ≡ Some (frame_of plan at)) →
@@ -48,7 +44,7 @@ step_writes plan n old (ctx.Uv (Outward move)) Go Step bytes frame stores copies
     let copy = copies move refl refl refl in
     ap (λ (new : List ℕ). if move.frame == n then new else old) (all_overwritten old bytes copy.1)
     ∙ ap (λ (x : Option ℕ). if is_number n x then bytes else old) (sym copy.0)
-step_writes plan n old c cmd a bytes frame stores copies = same_either old (is_number n frame)
+step_writes plan n old c cmd a bytes frame stores copies = sym (either_same (is_number n frame) old)
 
 -- by induction over the history
 pub writes_make_frames : WritesMakeFrames

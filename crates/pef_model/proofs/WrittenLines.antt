@@ -1,11 +1,11 @@
 -- Lemmas on lines that are written: their words are read again, and the command lines.
 use Rattle.std.proofs.Common.{◌≡◌, ◌≤◌, ◌<◌, ℕ, ◌+◌, ◌^◌, Bool, true, false, cond, List, [], ◌∷◌, ◌++◌, map, refl, ap, ◌∙◌, sym, arith, rules, append_assoc}
-use Rattle.std.specs.Prelude.{Some, nat_lt, ◌==◌, ◌&&◌, codes, option_map}
+use Rattle.std.specs.Prelude.{Some, nat_lt, ◌==◌, codes, option_map}
 use Rattle.std.specs.Char.{digit_value}
 use Rattle.std.specs.Fmt.{digits, decimal}
 use Rattle.std.specs.List.{slice_split, onto_first, join_with_byte, list_all, flat_map, AllByRecursion}
 use Rattle.std.specs.Str.Parse.{AllDigits}
-use Rattle.std.proofs.lemmas.Bool.{ltb-true, ltb-false}
+use Rattle.std.proofs.lemmas.Bool.{and_parts, ltb-true, ltb-false}
 use Rattle.std.proofs.lemmas.Bool.Decides.{nat_tests}
 use Rattle.std.proofs.lemmas.Fmt.{digits_is_IsNumeral, decimal_is_IsNumeral}
 use Rattle.std.proofs.lemmas.List.Splits.{slice_split-cons_yes, slice_split-cons_no}
@@ -13,18 +13,17 @@ use Rattle.pef_model.specs.declared.command.Directive.{Directive}
 use Rattle.pef_model.specs.declared.command.Directive.TheVariants.{Once, GoAll}
 use Rattle.pef_model.specs.declared.command.Cmd.{Cmd}
 use Rattle.pef_model.specs.declared.command.Cmd.TheVariants.{HLd, HSt, UPagein, UPageout, UReturn, GLi, GLd, GSt, GIrq, Go}
-use Rattle.pef_model.specs.Script.{Line, directive_in, load_of, store_of, return_of, guest_command_of, page_out_of, page_in_of, numbered_line, line_in, before_lines, command_lines}
+use Rattle.pef_model.specs.Script.{Line, directive_in, guest_command_of, numbered_line, line_in, before_lines, command_lines}
 use Rattle.pef_model.specs.ScriptText.{number_text, register_text, command_text, directive_text, line_words, words_text, CanBeWritten, DirectiveCanBeWritten, CountsFrom}
 use Rattle.pef_model.specs.Words.{words_of, number_in, register_in, lines_of}
+use Rattle.pef_model.proofs.Folds.{same_test}
+use Rattle.pef_model.proofs.Lists.{all_give, all_append}
 use Rattle.pef_model.proofs.ScriptLines.{onto_lines, lines_first}
 use Rattle.pef_model.proofs.WrittenWords.{number_reads, number_below_reads, register_reads}
 
 -- each byte is above this one
 abbrev pub AllAbove : ℕ → List ℕ → Type 0
 AllAbove low xs = AllByRecursion (λ b. low < b) xs
-
-same_test : (a : ℕ) → (a == a) ≡ true
-same_test a = grind (arith, nat_tests)
 
 above_test : (a b : ℕ) → b < a → (a == b) ≡ false
 above_test a b h = grind (arith, nat_tests)
@@ -40,18 +39,11 @@ whole_above low [] h = refl
 whole_above low (x ∷ xs) h =
     slice_split-cons_no (λ b. b == low) x xs (above_test x low h.0) ∙ ap (onto_first x) (whole_above low xs h.1)
 
-above_append : (low : ℕ) (xs ys : List ℕ) → AllAbove low xs → AllAbove low ys → AllAbove low (xs ++ ys)
-above_append low [] ys h k = k
-above_append low (x ∷ xs) ys h k = (h.0, above_append low xs ys h.1 k)
-
+-- what is above a space is above a lower byte
 above_less : (low : ℕ) (xs : List ℕ) → low ≤ 32 → AllAbove 32 xs → AllAbove low xs
-above_less low [] le h = h
-above_less low (x ∷ xs) le h = (omega (arith, h.0), above_less low xs le h.1)
+above_less low xs le h = all_give (λ b. 32 < b) (λ b. low < b) xs (λ b more. omega arith) h
 
-and_parts : (a b : Bool) → (a && b) ≡ true → (a ≡ true) × (b ≡ true)
-and_parts true b e = (refl, e)
-and_parts false b e = absurd (cc)
-
+-- each byte is above one that a test finds below each
 pub above_tested : (low : ℕ) (xs : List ℕ) → list_all (λ b. nat_lt low b) xs ≡ true → AllAbove low xs
 above_tested low [] e = search rules
 above_tested low (x ∷ xs) e =
@@ -91,7 +83,7 @@ line_above : (words : List (List ℕ)) → AreWords words → AllAbove 10 (join_
 line_above [] h = search rules
 line_above (word ∷ []) h = above_less 10 word (omega arith) h.0
 line_above (word ∷ next ∷ more) h =
-    above_append 10 word (32 ∷ join_with_byte 32 (next ∷ more)) (above_less 10 word (omega arith) h.0) (omega arith, line_above (next ∷ more) h.1)
+    all_append (λ b. 10 < b) word (32 ∷ join_with_byte 32 (next ∷ more)) (above_less 10 word (omega arith) h.0) (omega arith, line_above (next ∷ more) h.1)
 
 -- the lines of a text that is written
 pub lines_again : (lines : List (List (List ℕ))) → AllByRecursion AreWords lines → lines_of (flat_map words_text lines) ≡ Some (map (join_with_byte 32) lines)
@@ -111,48 +103,34 @@ guest_again : (hex : Bool) (name : List ℕ) (cmd : ℕ → ℕ → Cmd) (r n : 
     directive_in (name ∷ register_text r ∷ number_text hex n ∷ []) ≡ option_map Once (guest_command_of cmd (register_in (register_text r)) (number_in (number_text hex n))) →
     IsReadAgain (name ∷ register_text r ∷ number_text hex n ∷ []) (Once (cmd r n))
 guest_again hex name cmd r n above register fits named = record {
-  reads = named
-      ∙ ap (λ first. option_map Once (guest_command_of cmd first (number_in (number_text hex n)))) (register_reads r register)
-      ∙ ap (λ second. option_map Once (guest_command_of cmd (Some r) second)) (number_reads hex n fits);
+  reads = named ∙ simp (register_reads r register, number_reads hex n fits);
   above = (above, (register_above r register, (number_above hex n fits, tt)));
 }
 
+-- five numbers are words
+numbers_above : (hex : Bool) (k l m n o : ℕ) → (k < 2 ^ 64) × (l < 2 ^ 64) × (m < 2 ^ 64) × (n < 2 ^ 64) × (o < 2 ^ 64) →
+    AreWords (number_text hex k ∷ number_text hex l ∷ number_text hex m ∷ number_text hex n ∷ number_text hex o ∷ [])
+numbers_above hex k l m n o h = (number_above hex k h.0, (number_above hex l h.1, (number_above hex m h.2, (number_above hex n h.3, (number_above hex o h.4, tt)))))
+
 command_again : (hex : Bool) (cmd : Cmd) → CanBeWritten cmd → IsReadAgain (command_text hex cmd) (Once cmd)
 command_again hex (HLd ra) h = record {
-  reads = ap (λ first. option_map Once (load_of first)) (number_reads hex ra h);
+  reads = simp (number_reads hex ra h);
   above = (above_tested 32 (codes "h.ld") refl, (number_above hex ra h, tt));
 }
 command_again hex (HSt ra value) h = record {
-  reads = ap (λ first. option_map Once (store_of first (number_in (number_text hex value)))) (number_reads hex ra h.0)
-      ∙ ap (λ second. option_map Once (store_of (Some ra) second)) (number_reads hex value h.1);
+  reads = simp (number_reads hex ra h.0, number_reads hex value h.1);
   above = (above_tested 32 (codes "h.st") refl, (number_above hex ra h.0, (number_above hex value h.1, tt)));
 }
-command_again hex (UPagein lpid src gpa flags order) h = record {
-  reads = ap (λ word. option_map Once (page_in_of word (number_in (number_text hex src)) (number_in (number_text hex gpa)) (number_in (number_text hex flags)) (number_in (number_text hex order)))) (number_reads hex lpid h.0)
-      ∙ ap (λ word. option_map Once (page_in_of (Some lpid) word (number_in (number_text hex gpa)) (number_in (number_text hex flags)) (number_in (number_text hex order)))) (number_reads hex src h.1)
-      ∙ ap (λ word. option_map Once (page_in_of (Some lpid) (Some src) word (number_in (number_text hex flags)) (number_in (number_text hex order)))) (number_reads hex gpa h.2)
-      ∙ ap (λ word. option_map Once (page_in_of (Some lpid) (Some src) (Some gpa) word (number_in (number_text hex order)))) (number_reads hex flags h.3)
-      ∙ ap (λ word. option_map Once (page_in_of (Some lpid) (Some src) (Some gpa) (Some flags) word)) (number_reads hex order h.4);
-  above = (
-    above_tested 32 (codes "u.pagein") refl,
-    (number_above hex lpid h.0, (number_above hex src h.1, (number_above hex gpa h.2, (number_above hex flags h.3, (number_above hex order h.4, tt))))),
-  );
+command_again hex (UPagein lpid ra gpa flags order) h = record {
+  reads = simp (number_reads hex lpid h.0, number_reads hex ra h.1, number_reads hex gpa h.2, number_reads hex flags h.3, number_reads hex order h.4);
+  above = (above_tested 32 (codes "u.pagein") refl, numbers_above hex lpid ra gpa flags order h);
 }
-command_again hex (UPageout lpid dest gpa flags order) h = record {
-  reads = ap (λ word. option_map Once (page_out_of word (number_in (number_text hex dest)) (number_in (number_text hex gpa)) (number_in (number_text hex flags)) (number_in (number_text hex order)))) (number_reads hex lpid h.0)
-      ∙ ap (λ word. option_map Once (page_out_of (Some lpid) word (number_in (number_text hex gpa)) (number_in (number_text hex flags)) (number_in (number_text hex order)))) (number_reads hex dest h.1)
-      ∙ ap (λ word. option_map Once (page_out_of (Some lpid) (Some dest) word (number_in (number_text hex flags)) (number_in (number_text hex order)))) (number_reads hex gpa h.2)
-      ∙ ap (λ word. option_map Once (page_out_of (Some lpid) (Some dest) (Some gpa) word (number_in (number_text hex order)))) (number_reads hex flags h.3)
-      ∙ ap (λ word. option_map Once (page_out_of (Some lpid) (Some dest) (Some gpa) (Some flags) word)) (number_reads hex order h.4);
-  above = (
-    above_tested 32 (codes "u.pageout") refl,
-    (number_above hex lpid h.0, (number_above hex dest h.1, (number_above hex gpa h.2, (number_above hex flags h.3, (number_above hex order h.4, tt))))),
-  );
+command_again hex (UPageout lpid ra gpa flags order) h = record {
+  reads = simp (number_reads hex lpid h.0, number_reads hex ra h.1, number_reads hex gpa h.2, number_reads hex flags h.3, number_reads hex order h.4);
+  above = (above_tested 32 (codes "u.pageout") refl, numbers_above hex lpid ra gpa flags order h);
 }
 command_again hex (UReturn r0 r2 outs) h = record {
-  reads = ap (λ first. option_map Once (return_of first (number_in (number_text hex r2)))) (number_reads hex r0 h.0)
-      ∙ ap (λ second. option_map Once (return_of (Some r0) second)) (number_reads hex r2 h.1)
-      ∙ ap (λ zeros. Some (Once (UReturn r0 r2 zeros))) (sym h.2);
+  reads = simp (number_reads hex r0 h.0, number_reads hex r2 h.1, h.2);
   above = (above_tested 32 (codes "u.return") refl, (number_above hex r0 h.0, (number_above hex r2 h.1, tt)));
 }
 command_again hex (GLi r n) h = guest_again hex (codes "g.li") GLi r n (above_tested 32 (codes "g.li") refl) h.0 h.1 refl

@@ -93,27 +93,18 @@ size_above : (hex : Bool) (name : List ℕ) (n : ℕ) → AllAbove 32 name → n
 size_above hex name n above few = (above, (number_above hex n (omega arith), tt))
 
 header_above : (hex : Bool) (c : Config) → IsInRange c → AllByRecursion AreWords (header_words hex c)
-header_above hex c range = (
-  (above_tested 32 (codes "pef") refl, (above_tested 32 (codes "1") refl, tt)),
-  (
-    size_above hex (codes "shift") c.shift (above_tested 32 (codes "shift") refl) (omega (arith, range.shift.1)),
-    (
-      size_above hex (codes "normal") c.normal (above_tested 32 (codes "normal") refl) range.normal.1,
-      (
-        size_above hex (codes "secure") c.secure (above_tested 32 (codes "secure") refl) range.secure.1,
-        (
-          size_above hex (codes "cpus") c.cpus (above_tested 32 (codes "cpus") refl) (omega (arith, range.cpus.1)),
-          (
-            size_above hex (codes "pages") c.pages (above_tested 32 (codes "pages") refl) range.pages.1,
-            (
-              (above_tested 32 (codes "seal") refl, (seal_above c.vault, tt)),
-              ((above_tested 32 (codes "born") refl, (above_tested 32 (codes "1") refl, tt)), ((above_tested 32 (codes "begin") refl, tt), tt)),
-            ),
-          ),
-        ),
-      ),
-    ),
-  ),
+header_above hex c range = assumption (
+  above_tested 32 (codes "pef") refl,
+  above_tested 32 (codes "1") refl,
+  size_above hex (codes "shift") c.shift (above_tested 32 (codes "shift") refl) (omega (arith, range.shift.1)),
+  size_above hex (codes "normal") c.normal (above_tested 32 (codes "normal") refl) range.normal.1,
+  size_above hex (codes "secure") c.secure (above_tested 32 (codes "secure") refl) range.secure.1,
+  size_above hex (codes "cpus") c.cpus (above_tested 32 (codes "cpus") refl) (omega (arith, range.cpus.1)),
+  size_above hex (codes "pages") c.pages (above_tested 32 (codes "pages") refl) range.pages.1,
+  above_tested 32 (codes "seal") refl,
+  seal_above c.vault,
+  above_tested 32 (codes "born") refl,
+  above_tested 32 (codes "begin") refl,
 )
 
 map_lines : (hex : Bool) (c : Config) (lines : List (List (List ℕ))) →

@@ -1,12 +1,12 @@
 -- Lemmas on words that are written: a number and a register are read again.
-use Rattle.std.proofs.Common.{◌≡◌, ◌≤◌, ◌<◌, ◌≢◌, ℕ, ◌+◌, ◌*◌, ◌/◌, ◌%◌, ◌^◌, Bool, true, false, cond, ◌&&◌, List, [], ◌∷◌, length, get_or, refl, sym, subst, arith, zero, suc}
-use Rattle.std.specs.Prelude.{Option, Some, None, nat_eq, nat_lt, nat_le, ◌==◌, codes, option_and_then, if◌then◌else◌}
+use Rattle.std.proofs.Common.{◌≡◌, ◌≤◌, ◌<◌, ◌≢◌, ℕ, ◌+◌, ◌*◌, ◌/◌, ◌%◌, ◌^◌, Bool, true, false, cond, List, [], ◌∷◌, length, get_or, refl, sym, subst, arith, zero, suc}
+use Rattle.std.specs.Prelude.{Some, nat_eq, ◌==◌, codes}
 use Rattle.pef_model.specs.Plan.{IsWithin}
 use Rattle.std.specs.Char.{digit_value, is_digit}
 use Rattle.std.specs.Fmt.{digits, decimal, digit_glyph, digits_onto}
 use Rattle.std.specs.List.{list_all, starts_with}
 use Rattle.std.specs.Str.Parse.{AllDigits, digits_value}
-use Rattle.std.proofs.lemmas.Bool.{lt-ltb}
+use Rattle.std.proofs.lemmas.Bool.{and_right, le-leb, lt-ltb, ne_eqb}
 use Rattle.std.proofs.lemmas.Bool.Decides.{nat_tests}
 use Rattle.std.proofs.lemmas.Nat.{div_below}
 use Rattle.std.proofs.lemmas.Fmt.{digits_is_IsNumeral, decimal_is_IsNumeral, length-decimal-le, decimal_digit, first_decimal}
@@ -18,12 +18,6 @@ abbrev hex_room : ℕ → ℕ
 hex_room zero = 16
 hex_room (suc m) = hex_room m * 16
 
-eqb_other : (a b : ℕ) → a ≢ b → nat_eq a b ≡ false
-eqb_other a b h = grind (arith, nat_tests)
-
-le_test : (a b : ℕ) → a ≤ b → nat_le a b ≡ true
-le_test a b h = grind (arith, nat_tests)
-
 all_digits_tested : (radix : ℕ) (ds : List ℕ) → AllDigits radix ds → list_all (λ c. is_digit c radix) ds ≡ true
 all_digits_tested radix [] h = refl
 all_digits_tested radix (d ∷ ds) h = rw (lt-ltb (digit_value d) radix h.0, all_digits_tested radix ds h.1) refl
@@ -31,7 +25,7 @@ all_digits_tested radix (d ∷ ds) h = rw (lt-ltb (digit_value d) radix h.0, all
 -- digits that are few enough are the number that they write
 numeral_is : (radix most n : ℕ) (ds : List ℕ) → 0 < length ds → length ds ≤ most → AllDigits radix ds → digits_value radix ds ≡ n → n < 2 ^ 64 → numeral_in radix most ds ≡ Some n
 numeral_is radix most n ds some few all is fits =
-    rw (lt-ltb 0 (length ds) some, le_test (length ds) most few, all_digits_tested radix ds all, is, lt-ltb n (2 ^ 64) fits) refl
+    rw (lt-ltb 0 (length ds) some, le-leb (length ds) most few, all_digits_tested radix ds all, is, lt-ltb n (2 ^ 64) fits) refl
 
 -- a decimal number is read again
 decimal_reads : (most n : ℕ) → 0 < most → n < 10 ^ most → n < 2 ^ 64 → numeral_in 10 most (decimal n) ≡ Some n
@@ -64,20 +58,16 @@ hex_reads n fits =
     let numeral = digits_is_IsNumeral 16 false (omega arith) (omega arith) n (omega arith) in
     numeral_is 16 16 n (digits 16 false n) numeral.0.0 (length-hex-le n fits) numeral.0.1 numeral.1 fits
 
-and_false : (b : Bool) → (b && false) ≡ false
-and_false true = refl
-and_false false = refl
-
 not_x : (b : ℕ) → digit_value b < 10 → nat_eq 120 b ≡ false
 not_x b h =
     let other : b ≢ 120 = λ e. let large : digit_value 120 < 10 = subst (λ z. digit_value z < 10) e h in omega arith in
-    eqb_other 120 b (λ e. other (sym e))
+    ne_eqb 120 b (λ e. other (sym e))
 
 -- decimal digits don't begin as a hexadecimal number does
 no_prefix : (ds : List ℕ) → AllDigits 10 ds → starts_with nat_eq ds (codes "0x") ≡ false
 no_prefix [] h = refl
-no_prefix (a ∷ []) h = and_false (nat_eq 48 a)
-no_prefix (a ∷ b ∷ ds) h = rw (not_x b h.1.0) (and_false (nat_eq 48 a))
+no_prefix (a ∷ []) h = and_right (nat_eq 48 a) false refl
+no_prefix (a ∷ b ∷ ds) h = rw (not_x b h.1.0) (and_right (nat_eq 48 a) false refl)
 
 -- a number is read again
 pub number_reads : (hex : Bool) (n : ℕ) → n < 2 ^ 64 → number_in (number_text hex n) ≡ Some n
@@ -87,7 +77,7 @@ number_reads false n fits =
 
 no_zero : (ds : List ℕ) → 48 < get_or ds 0 0 → has_leading_zero ds ≡ false
 no_zero [] h = refl
-no_zero (d ∷ ds) h = rw (eqb_other 48 d (λ e. let less : 48 < d = h in omega arith)) refl
+no_zero (d ∷ ds) h = rw (ne_eqb 48 d (λ e. let less : 48 < d = h in omega arith)) refl
 
 no_leading_zero : (r : ℕ) → r < 32 → has_leading_zero (decimal r) ≡ false
 no_leading_zero zero h = rw (decimal_digit 0 (omega arith)) refl
@@ -98,22 +88,10 @@ pub register_reads : (r : ℕ) → r < 32 → register_in (register_text r) ≡ 
 register_reads r h =
     rw (no_leading_zero r h, decimal_reads 2 r (omega arith) (omega arith) (omega arith), lt-ltb r 32 h) refl
 
-within_reads : (least greatest n : ℕ) (found : Option ℕ) → found ≡ Some n → least ≤ n → n ≤ greatest → option_and_then (λ m. if nat_le least m && nat_le m greatest then Some m else None) found ≡ Some n
-within_reads least greatest n None e low high = absurd (cc)
-within_reads least greatest n (Some m) e low high =
-    let same : m ≡ n = cc in
-    rw (same, le_test least n low, le_test n greatest high) refl
-
 -- a number in its range is read again
 pub number_within_reads : (hex : Bool) (least greatest n : ℕ) → n < 2 ^ 64 → IsWithin least greatest n → number_within least greatest (number_text hex n) ≡ Some n
-number_within_reads hex least greatest n fits within = within_reads least greatest n (number_in (number_text hex n)) (number_reads hex n fits) within.0 within.1
-
-below_reads : (limit n : ℕ) (found : Option ℕ) → found ≡ Some n → n < limit → option_and_then (λ m. if nat_lt m limit then Some m else None) found ≡ Some n
-below_reads limit n None e below = absurd (cc)
-below_reads limit n (Some m) e below =
-    let same : m ≡ n = cc in
-    rw (same, lt-ltb n limit below) refl
+number_within_reads hex least greatest n fits within = rw (number_reads hex n fits, le-leb least n within.0, le-leb n greatest within.1) refl
 
 -- a number below a limit is read again
 pub number_below_reads : (hex : Bool) (limit n : ℕ) → n < 2 ^ 64 → n < limit → number_below limit (number_text hex n) ≡ Some n
-number_below_reads hex limit n fits below = below_reads limit n (number_in (number_text hex n)) (number_reads hex n fits) below
+number_below_reads hex limit n fits below = rw (number_reads hex n fits, lt-ltb n limit below) refl

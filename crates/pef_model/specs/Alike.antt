@@ -7,6 +7,7 @@ use Rattle.pef_model.specs.Plan.{Plan, plan_of}
 use Rattle.pef_model.specs.Event.{Event}
 use Rattle.pef_model.specs.History.{public_state, IsLegal}
 use Rattle.pef_model.specs.SecretLaw.{open_cmd, is_sealing}
+use Rattle.pef_model.specs.Sound.{is_clean, sound}
 use Rattle.pef_model.specs.View.{view}
 
 -- how many entropy words a guest has
@@ -78,3 +79,14 @@ abbrev pub UnsealedIsAlike : Type 0
 UnsealedIsAlike =
     (one other : Config) (past history : List Event) → AllByRecursion (λ (e : Event). begins_sealing e ≡ false) past →
     IsAlikeOpen one past other history → IsAlike one past other history
+
+-- two histories have clashes at the same entries, and sound parts of one length
+pub record ClashTogether (plan other_plan : Plan) (past history : List Event) : Type 0 where
+  pub clean : is_clean plan past ≡ is_clean other_plan history
+  pub sound_parts : length (sound plan past) ≡ length (sound other_plan history)
+
+-- legal histories that are alike do
+abbrev pub AlikeClashTogether : Type 0
+AlikeClashTogether =
+    (one other : Config) (past history : List Event) → IsAlike one past other history → IsLegal (plan_of one) past → IsLegal (plan_of other) history →
+    ClashTogether (plan_of one) (plan_of other) past history

@@ -67,7 +67,7 @@ sum_below (suc n) f = sum_below n f + f n
 abbrev pub frames_held : Plan → List Event → ℕ → ℕ
 frames_held plan past lpid = sum_below plan.pages (λ gfn. if has_secure_frame ((part_after plan past lpid).pages gfn) then 1 else 0)
 
--- each secure frame is free or a page's
+-- the secure frames are counted: free, or pages'
 pub record CountsFrames (plan : Plan) (past : List Event) : Type 0 where
   -- the free frames and those of all guests' pages are as many as the secure frames
   pub all : pool_after plan past + sum_below plan.guests (λ i. frames_held plan past (i + 1)) ≡ plan.secure

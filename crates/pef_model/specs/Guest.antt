@@ -50,7 +50,7 @@ stored_by plan g e gpa = stored_in e.saw.before plan g e.trace.cmd e.trace.answe
 abbrev pub at_next_instruction : Regs → List ℕ → Regs
 at_next_instruction regs gpr = record regs { gpr = gpr; nip = (regs.nip + 4) % 2 ^ 64 }
 
--- a vCPU's registers after a command of its own, by its answer: one that answers Hole or Gone keeps them
+-- a vCPU's registers after a command of its own, by its answer: one that met a hole, a page on the move or an interrupt, or whose guest has ended, keeps them
 abbrev pub registers_after_command : Regs → Cmd → Answer → Regs
 registers_after_command regs (UPagein lpid src gpa flags order) (answer.Ret code) = at_next_instruction regs (with_code (load_page_in regs.gpr lpid src gpa flags order) code)
 registers_after_command regs (UPageout lpid dest gpa flags order) (answer.Ret code) = at_next_instruction regs (with_code (load_page_out regs.gpr lpid dest gpa flags order) code)

@@ -10,7 +10,6 @@ use Rattle.pef_model.specs.declared.state.Pending.{Pending}
 use Rattle.pef_model.specs.declared.state.Pending.TheVariants as pending
 use Rattle.pef_model.specs.declared.state.VState.{VState}
 use Rattle.pef_model.specs.declared.state.VState.TheVariants as vstate
-use Rattle.pef_model.specs.declared.state.Move.{Move}
 use Rattle.pef_model.specs.declared.state.Work.{Work}
 use Rattle.pef_model.specs.declared.state.Work.TheVariants.{Inward, Outward}
 use Rattle.pef_model.specs.declared.state.Ctx.{Ctx}

@@ -18,6 +18,7 @@ pub mod Script
 pub mod Run
 pub mod Report
 pub mod RunLaw
+pub mod RefusalLaw
 pub mod WordLaw
 pub mod ReadLaw
 pub mod SecretLaw
@@ -27,11 +28,14 @@ pub mod Authority
 pub mod MoveLaw
 pub mod Sound
 pub mod FreshLaw
+pub mod TransitionLaw
 pub mod CountLaw
 pub mod ScriptText
 pub mod GrammarLaw
 pub mod NormalLaw
 pub mod View
+pub mod SeenLaw
 pub mod Alike
 pub mod SeenReport
 pub mod PairLaw
+pub mod NameLaw

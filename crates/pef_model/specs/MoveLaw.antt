@@ -1,5 +1,5 @@
 -- Laws of pages on the move, and of what is sealed.
-use Rattle.std.specs.Prelude.{◌≡◌, ℕ, ◌+◌, ◌/◌, ◌%◌, ◌^◌, ◌<◌, ◌↔◌, ◌==◌, Bool, false, ◌&&◌, if◌then◌else◌, List, [], ◌∷◌, length, Option, Some, None, IsSome, option_map}
+use Rattle.std.specs.Prelude.{◌≡◌, ◌≢◌, ℕ, ◌+◌, ◌/◌, ◌%◌, ◌^◌, ◌<◌, ◌↔◌, ◌==◌, Bool, true, false, ◌&&◌, if◌then◌else◌, List, [], ◌∷◌, ◌++◌, length, Option, Some, None, IsSome, option_map}
 use Rattle.std.specs.List.{count_by}
 use Rattle.pef_model.specs.declared.config.Config.{Config}
 use Rattle.pef_model.specs.declared.state.Tag.{Tag}
@@ -13,18 +13,18 @@ use Rattle.pef_model.specs.declared.state.Work.TheVariants.{Inward, Outward}
 use Rattle.pef_model.specs.declared.state.Ctx.{Ctx}
 use Rattle.pef_model.specs.declared.state.Ctx.TheVariants as ctx
 use Rattle.pef_model.specs.declared.command.Cmd.{Cmd}
-use Rattle.pef_model.specs.declared.command.Cmd.TheVariants.{UPageout}
+use Rattle.pef_model.specs.declared.command.Cmd.TheVariants.{UPagein, UPageout, Go}
 use Rattle.pef_model.specs.declared.entry.Answer.{Answer}
 use Rattle.pef_model.specs.declared.entry.Answer.TheVariants as answer
 use Rattle.pef_model.specs.Plan.{Plan, IsWithin, IsInRange, plan_of}
 use Rattle.pef_model.specs.Event.{Event}
 use Rattle.pef_model.specs.Doubleword.{doubleword}
 use Rattle.pef_model.specs.Seal.{image}
+use Rattle.pef_model.specs.Target.{frame_of}
 use Rattle.pef_model.specs.GuestPart.{Page, page_of}
 use Rattle.pef_model.specs.PageOut.{tag_of, page_bytes}
-use Rattle.pef_model.specs.Authority.{authority_of}
-use Rattle.pef_model.specs.History.{cpu_after, guest_after, last_store, Extends, IsLegal}
-use Rattle.pef_model.specs.SearchLaw.{IsCommand}
+use Rattle.pef_model.specs.Authority.{InSealedBytes, authority}
+use Rattle.pef_model.specs.History.{cpu_after, guest_after, frame_after, last_store, public_state, Extends, IsLegal}
 
 -- a page of a guest after a history
 abbrev pub page_after : Plan → List Event → ℕ → ℕ → Page
@@ -99,16 +99,27 @@ abbrev pub LastSealedIsBegun : Type 0
 LastSealedIsBegun =
     (plan : Plan) (past : List Event) (lpid gfn : ℕ) → IsLegal plan past → (page_after plan past lpid gfn).kind ≡ Out → (page_after plan past lpid gfn).sealed ≡ last_begun plan lpid gfn past
 
--- a page's version is how many page-outs of it began, so no tag comes twice
+-- a page's version is how many page-outs of it began
 abbrev pub VersionsCountPageOuts : Type 0
 VersionsCountPageOuts = (plan : Plan) (past : List Event) (lpid gfn : ℕ) → IsLegal plan past → (page_after plan past lpid gfn).version ≡ count_by (begins_out plan lpid gfn) past
+
+-- the tag under which the next page-out of a page seals it: that of its next version
+abbrev pub sealing_tag : Plan → List Event → ℕ → ℕ → Tag
+sealing_tag plan past lpid gfn = tag_of (guest_after plan lpid past).part lpid gfn ((page_after plan past lpid gfn).version + 1)
+
+-- no two page-outs of a history seal under one tag
+abbrev pub NoTagTwice : Type 0
+NoTagTwice =
+    (plan : Plan) (past since : List Event) (e f : Event) (lpid gfn other_lpid other_gfn : ℕ) →
+    IsLegal plan (f ∷ (since ++ e ∷ past)) → begins_out plan lpid gfn e ≡ true → begins_out plan other_lpid other_gfn f ≡ true →
+    sealing_tag plan past lpid gfn ≢ sealing_tag plan (since ++ e ∷ past) other_lpid other_gfn
 
 -- what a page-out that begins seals is the image of the page of last_store, under the tag of the page's next version
 abbrev pub PageOutSealsLastStore : Type 0
 PageOutSealsLastStore =
     (config : Config) (past : List Event) (e : Event) (lpid dest gpa flags order : ℕ) →
     Extends (plan_of config) past e → e.saw.before ≡ ctx.Hv → e.trace.cmd ≡ UPageout lpid dest gpa flags order → e.trace.answer ≡ answer.Step →
-    e.bytes ≡ image config (tag_of (guest_after (plan_of config) lpid past).part lpid (page_of (plan_of config) gpa) ((page_after (plan_of config) past lpid (page_of (plan_of config) gpa)).version + 1))
+    e.bytes ≡ image config (sealing_tag (plan_of config) past lpid (page_of (plan_of config) gpa))
     (page_bytes config.shift (last_store (plan_of config) past lpid) (page_of (plan_of config) gpa))
 
 -- the bytes of a page have the doubleword of each address at its offset
@@ -124,3 +135,37 @@ PageHasItsLength = (shift : ℕ) (value : ℕ → ℕ) (gfn : ℕ) → IsWithin 
 -- a configuration's sealed pages have as many bytes as its pages
 abbrev pub SealedPagesFill : Type 0
 SealedPagesFill = (config : Config) (tag : Tag) (plain : List ℕ) → IsInRange config → length plain ≡ 2 ^ config.shift → length (image config tag plain) ≡ 2 ^ config.shift
+
+-- the sealed page of a page's last stores, under the tag of the page's version
+abbrev pub sealed_last_stores : Config → List Event → ℕ → ℕ → List ℕ
+sealed_last_stores config past lpid gfn =
+    image config (tag_of (guest_after (plan_of config) lpid past).part lpid gfn (page_after (plan_of config) past lpid gfn).version) (page_bytes config.shift (last_store (plan_of config) past lpid) gfn)
+
+-- the one copy that counts of a page that is Out are the sealed bytes of its last stores
+abbrev pub OutPageIsSealed : Type 0
+OutPageIsSealed =
+    (config : Config) (past : List Event) (lpid gfn : ℕ) → IsLegal (plan_of config) past → (page_after (plan_of config) past lpid gfn).kind ≡ Out →
+    authority (public_state (plan_of config) past) lpid gfn ≡ Some (InSealedBytes (sealed_last_stores config past lpid gfn))
+
+-- the steps of a page's move go through the CPU's hand: a page-out writes it, a page-in reads the normal frame that the call names, and tests what it has in the hand
+pub record GoesThroughHand (plan : Plan) (past : List Event) (e : Event) : Type 0 where
+  pub writes : (move : Move) → e.saw.before ≡ ctx.Uv (Outward move) → e.trace.cmd ≡ Go → move.copied ≡ false → e.bytes ≡ (cpu_after plan e.trace.cpu past).hand
+  pub reads : (move : Move) → e.saw.before ≡ ctx.Uv (Inward move) → e.trace.cmd ≡ Go → move.copied ≡ false → e.bytes ≡ frame_after plan move.frame past
+  pub tests : (move : Move) → e.saw.before ≡ ctx.Uv (Inward move) → e.trace.cmd ≡ Go → move.copied ≡ true → e.bytes ≡ (cpu_after plan e.trace.cpu past).hand
+
+abbrev pub EachMoveGoesThroughHand : Type 0
+EachMoveGoesThroughHand = (plan : Plan) (past : List Event) (e : Event) → Extends plan past e → GoesThroughHand plan past e
+
+-- the move of a call that names a guest, a real address and a guest address
+abbrev pub move_named : Plan → List Event → ℕ → ℕ → ℕ → Move
+move_named plan past lpid ra gpa = record { lpid = lpid; generation = (guest_after plan lpid past).part.generation; gfn = page_of plan gpa; frame = frame_of plan ra; copied = false }
+
+-- a call that begins moves the page that it names, from or into the normal frame that it names
+pub record BeginsWhatIsNamed (plan : Plan) (past : List Event) (e : Event) (lpid ra gpa flags order : ℕ) : Type 0 where
+  pub page_out : e.trace.cmd ≡ UPageout lpid ra gpa flags order → e.saw.after ≡ ctx.Uv (Outward (move_named plan past lpid ra gpa))
+  pub page_in : e.trace.cmd ≡ UPagein lpid ra gpa flags order → e.saw.after ≡ ctx.Uv (Inward (move_named plan past lpid ra gpa))
+
+abbrev pub EachCallBeginsWhatIsNamed : Type 0
+EachCallBeginsWhatIsNamed =
+    (plan : Plan) (past : List Event) (e : Event) (lpid ra gpa flags order : ℕ) → Extends plan past e → e.saw.before ≡ ctx.Hv → e.trace.answer ≡ answer.Step →
+    BeginsWhatIsNamed plan past e lpid ra gpa flags order

@@ -5,8 +5,10 @@ use Rattle.pef_model.specs.declared.config.Config.{Config}
 use Rattle.pef_model.specs.declared.state.Run.{Run}
 use Rattle.pef_model.specs.declared.state.Ctx.TheVariants as ctx
 use Rattle.pef_model.specs.declared.state.Move.{Move}
-use Rattle.pef_model.specs.declared.state.Work.TheVariants.{Outward}
-use Rattle.pef_model.specs.declared.command.Cmd.TheVariants.{HSt, UPageout}
+use Rattle.pef_model.specs.declared.state.Work.{Work}
+use Rattle.pef_model.specs.declared.state.Work.TheVariants.{Inward, Outward}
+use Rattle.pef_model.specs.declared.command.Cmd.TheVariants.{HLd, HSt, UPagein, UPageout}
+use Rattle.pef_model.specs.declared.entry.Answer.TheVariants as answer
 use Rattle.pef_model.specs.Plan.{Plan, plan_of, IsInRange}
 use Rattle.pef_model.specs.Event.{Event}
 use Rattle.pef_model.specs.Doubleword.{doubleword}
@@ -41,11 +43,24 @@ WritesMakeFrames =
     (config : Config) (past : List Event) (n : ℕ) → IsInRange config → IsLegal (plan_of config) past → AllByRecursion (λ (e : Event). IsCommand e.trace.cmd) past →
     n < config.normal → memory_seen (plan_of config) (view (plan_of config) past) n ≡ frame_after (plan_of config) n past
 
--- the steps of a page's move keep to their objects: a begin and an end change no normal frame, and a copy changes no guest
+-- the move of a call in progress
+abbrev pub move_of : Work → Move
+move_of (Inward move) = move
+move_of (Outward move) = move
+
+-- the steps of a page's move keep to their objects: begins and ends change no normal frame, and copies no guest; the copy of a page-in only reads
 pub record KeepsToItsObjects (plan : Plan) (past : List Event) (e : Event) : Type 0 where
-  pub begin : (lpid dest gpa flags order n : ℕ) → e.trace.cmd ≡ UPageout lpid dest gpa flags order → frame_after plan n (e ∷ past) ≡ frame_after plan n past
-  pub copy : (move : Move) (lpid : ℕ) → e.saw.before ≡ ctx.Uv (Outward move) → move.copied ≡ false → guest_after plan lpid (e ∷ past) ≡ guest_after plan lpid past
-  pub end : (move : Move) (n : ℕ) → e.saw.before ≡ ctx.Uv (Outward move) → move.copied ≡ true → frame_after plan n (e ∷ past) ≡ frame_after plan n past
+  pub begin_out : (lpid dest gpa flags order n : ℕ) → e.trace.cmd ≡ UPageout lpid dest gpa flags order → frame_after plan n (e ∷ past) ≡ frame_after plan n past
+  pub begin_in : (lpid src gpa flags order n : ℕ) → e.trace.cmd ≡ UPagein lpid src gpa flags order → frame_after plan n (e ∷ past) ≡ frame_after plan n past
+  pub copy : (work : Work) (lpid : ℕ) → e.saw.before ≡ ctx.Uv work → (move_of work).copied ≡ false → guest_after plan lpid (e ∷ past) ≡ guest_after plan lpid past
+  pub read : (move : Move) (n : ℕ) → e.saw.before ≡ ctx.Uv (Inward move) → frame_after plan n (e ∷ past) ≡ frame_after plan n past
+  pub end : (work : Work) (n : ℕ) → e.saw.before ≡ ctx.Uv work → (move_of work).copied ≡ true → frame_after plan n (e ∷ past) ≡ frame_after plan n past
 
 abbrev pub EachMoveKeepsToItsObjects : Type 0
 EachMoveKeepsToItsObjects = (plan : Plan) (past : List Event) (e : Event) → Extends plan past e → KeepsToItsObjects plan past e
+
+-- a load of the hypervisor that is done gives what was last written at its real address
+abbrev pub LoadGivesLastNorm : Type 0
+LoadGivesLastNorm =
+    (config : Config) (past : List Event) (e : Event) (ra value : ℕ) → IsInRange config → IsLegal (plan_of config) (e ∷ past) → AllByRecursion (λ (f : Event). IsCommand f.trace.cmd) past →
+    e.saw.before ≡ ctx.Hv → e.trace.cmd ≡ HLd ra → e.trace.answer ≡ answer.Val value → value ≡ last_norm (plan_of config) past ra

@@ -12,7 +12,7 @@ use Rattle.pef_model.specs.declared.command.Code.TheVariants.{USuccess, UParamet
 use Rattle.pef_model.specs.Plan.{Plan}
 use Rattle.pef_model.specs.Seal.{doublewords}
 use Rattle.pef_model.specs.Target.{frame_of}
-use Rattle.pef_model.specs.GuestPart.{Page, GuestPart, page_of}
+use Rattle.pef_model.specs.GuestPart.{GuestPart, page_of}
 use Rattle.pef_model.specs.Guest.{Guest, private_doubleword}
 
 -- whether UV_PAGE_OUT is for a guest in this phase

@@ -1,7 +1,7 @@
 -- Pairs of runs, computed: one in which a secret differs, and one in which the hypervisor's own values do.
 use Rattle.std.specs.Prelude.{◌≡◌, ◌≢◌, ℕ, true, [], ◌∷◌, length, replicate}
 use Rattle.pef_model.specs.declared.config.Config.{Config}
-use Rattle.pef_model.specs.declared.command.Cmd.TheVariants.{HLd, HSt, UPagein, UPageout, UReturn, GLi, GLd, GSt, GIrq, Go}
+use Rattle.pef_model.specs.declared.command.Cmd.TheVariants.{HLd, HSt, UReturn, GLi, GLd, GSt, GIrq}
 use Rattle.pef_model.specs.Plan.{plan_of}
 use Rattle.pef_model.specs.Script.{Script}
 use Rattle.pef_model.specs.Run.{run_of}

@@ -120,6 +120,6 @@ asks_pool ctx.Hv = true
 asks_pool (ctx.Uv work) = false
 asks_pool (ctx.Guest run) = true
 
--- a step that needs a free frame tells whether one was free, and one that only gives a frame back tells nothing of it
+-- a step that tells of the pool tells whether a frame was free where it may need one, and nothing of it where it only gives one back
 abbrev pub AskedIsTold : Type 0
 AskedIsTold = (plan : Plan) (g : Guest) (any : Bool) (ask : Ask) (cmd : Cmd) (saw : PoolSaw) → (deed_guest plan g any ask cmd).pool ≡ Some saw → saw.any ≡ (if asks_pool ask.before then any else false)

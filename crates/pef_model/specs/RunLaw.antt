@@ -59,7 +59,7 @@ small_script = record {
       ∷ line_at 11 0 (GLd 31 0x300) ∷ [];
 }
 
--- each answer but Gone, on a machine with one secure frame
+-- accesses, done and refused, on a machine with one secure frame
 abbrev pub OneFrame : Type 0
 OneFrame =
     report (plan_of small_config) (run_of small_script)
@@ -71,9 +71,13 @@ NoneIsBorn =
     report (plan_of default_config) (run_of (record { config = default_config; lines = line_at 1 0 (return_with 0) ∷ [] }))
     ≡ codes "1 0 u.return ret U_INVALID\nfree 16\nend\n"
 
--- places count each CPU's entries from 0, stamps all entries from 1
+-- places count each CPU's entries from 0
 abbrev pub MarksOfOneFrame : Type 0
 MarksOfOneFrame = map (λ (e : Event). e.trace.place) (run_of small_script) ≡ 8 ∷ 7 ∷ 6 ∷ 5 ∷ 4 ∷ 3 ∷ 2 ∷ 1 ∷ 1 ∷ 0 ∷ 0 ∷ []
+
+-- stamps count all entries from 1
+abbrev pub StampsOfOneFrame : Type 0
+StampsOfOneFrame = map (λ (e : Event). e.trace.stamp) (run_of small_script) ≡ 11 ∷ 10 ∷ 9 ∷ 8 ∷ 7 ∷ 6 ∷ 5 ∷ 4 ∷ 3 ∷ 2 ∷ 1 ∷ []
 
 -- the guest stores a value and leaves; the hypervisor pages its page out into normal frame 1
 abbrev pub page_out_script : Config → ℕ → Script
@@ -99,9 +103,13 @@ page_out_at number dest = line_at number 0 (UPageout 1 dest 0x0 0 8) ∷ go_all_
 abbrev pub store_lines : List Line
 store_lines = line_at 1 0 (return_with 0) ∷ line_at 2 0 (GLi 20 7) ∷ line_at 3 0 (GSt 20 0x0) ∷ line_at 4 0 GIrq ∷ []
 
--- what the entries of lines answer under a vault, the oldest first
+-- what the entries of lines answer on a machine, the oldest first
+abbrev pub answers_on : Config → List Line → List Answer
+answers_on config lines = reverse (map (λ (e : Event). e.trace.answer) (run_of (record { config = config; lines = lines })))
+
+-- and under a vault
 abbrev pub answers_of : List Line → List Answer
-answers_of lines = reverse (map (λ (e : Event). e.trace.answer) (run_of (record { config = record small_config { vault = true }; lines = lines })))
+answers_of lines = answers_on (record small_config { vault = true }) lines
 
 -- the answers of a page's move that is accepted, and of one inward that is refused
 abbrev pub moved : List Answer
@@ -119,16 +127,25 @@ OutAndIn =
     answers_of (store_lines ++ (page_out_at 5 0x0 ++ (page_in_at 7 0x0 ++ (line_at 9 0 (return_with 0) ∷ line_at 10 0 (GLd 6 0x0) ∷ []))))
     ≡ stored ++ (moved ++ (moved ++ (Enter ∷ Val 7 ∷ [])))
 
+-- a page goes out, comes in and goes out again: what lies in the frames is its tag, the guest's number, its generation, the page's number and its version, and then zeros
+abbrev pub TagIsSeen : Type 0
+TagIsSeen =
+    answers_of
+    (line_at 1 0 (return_with 0) ∷ line_at 2 0 (GLi 20 7) ∷ line_at 3 0 (GSt 20 0x300) ∷ line_at 4 0 GIrq ∷ line_at 5 0 (UPageout 1 0x200 0x300 0 8) ∷ go_all_at 6 0
+    ∷ line_at 7 0 (UPagein 1 0x200 0x300 0 8) ∷ go_all_at 8 0 ∷ line_at 9 0 (UPageout 1 0x400 0x300 0 8) ∷ go_all_at 10 0
+    ∷ line_at 11 0 (HLd 0x400) ∷ line_at 12 0 (HLd 0x408) ∷ line_at 13 0 (HLd 0x410) ∷ line_at 14 0 (HLd 0x418) ∷ line_at 15 0 (HLd 0x420) ∷ line_at 16 0 (HLd 0x218) ∷ [])
+    ≡ stored ++ (moved ++ (moved ++ (moved ++ (Val 1 ∷ Val 1 ∷ Val 3 ∷ Val 2 ∷ Val 0 ∷ Val 1 ∷ []))))
+
 -- a page goes out twice: its older image is refused, and its newer one comes in
 abbrev pub AnOlderImage : Type 0
 AnOlderImage =
     answers_of (store_lines ++ (page_out_at 5 0x0 ++ (page_in_at 7 0x0 ++ (page_out_at 9 0x100 ++ (page_in_at 11 0x0 ++ page_in_at 13 0x100)))))
     ≡ stored ++ (moved ++ (moved ++ (moved ++ (refused ++ moved))))
 
--- a normal frame that is changed after the copy changes nothing: what was copied is compared, and comes in
+-- a normal frame that is changed after the copy changes nothing: what another CPU copied is compared, and comes in
 abbrev pub ChangeAfterCopy : Type 0
 ChangeAfterCopy =
-    answers_of (store_lines ++ (page_out_at 5 0x0 ++ (line_at 7 0 (UPagein 1 0x0 0x0 0 8) ∷ line_at 8 0 Go ∷ line_at 9 1 (HSt 0x0 1) ∷ line_at 10 0 Go ∷ line_at 11 0 (return_with 0) ∷ line_at 12 0 (GLd 6 0x0) ∷ [])))
+    answers_of (store_lines ++ (page_out_at 5 0x0 ++ (line_at 7 1 (UPagein 1 0x0 0x0 0 8) ∷ line_at 8 1 Go ∷ line_at 9 0 (HSt 0x0 1) ∷ line_at 10 1 Go ∷ line_at 11 0 (return_with 0) ∷ line_at 12 0 (GLd 6 0x0) ∷ [])))
     ≡ stored ++ (moved ++ (Step ∷ Step ∷ Done ∷ Ret USuccess ∷ Enter ∷ Val 7 ∷ []))
 
 -- a normal frame that is changed before the copy is refused, and comes in once the change is undone

@@ -1,6 +1,7 @@
 -- Laws of what a guest loads: the last store, as a search from the newest entry on.
-use Rattle.std.specs.Prelude.{◌≡◌, ℕ, ◌-◌, ◌^◌, ◌<◌, ◌==◌, nat_lt, nat_le, Bool, false, ◌&&◌, if◌then◌else◌, List, ◌∷◌, ◌++◌, length, Option, Some, None, slice_index}
+use Rattle.std.specs.Prelude.{◌≡◌, ℕ, ◌-◌, ◌/◌, ◌%◌, ◌^◌, ◌<◌, ◌==◌, nat_lt, nat_le, Bool, false, ◌&&◌, if◌then◌else◌, List, ◌∷◌, ◌++◌, length, Option, Some, None, slice_index}
 use Rattle.std.specs.List.{AllByRecursion}
+use Rattle.pef_model.specs.declared.state.Kind.TheVariants.{Secure}
 use Rattle.pef_model.specs.declared.state.Run.{Run}
 use Rattle.pef_model.specs.declared.state.Ctx.{Ctx}
 use Rattle.pef_model.specs.declared.state.Ctx.TheVariants as ctx
@@ -136,3 +137,14 @@ LastStoreIsStored =
 -- where nothing was stored the last store is 0
 abbrev pub LastStoreIsZero : Type 0
 LastStoreIsZero = (plan : Plan) (past : List Event) (lpid gpa : ℕ) → HasNoStore lpid gpa past → last_store plan past lpid gpa ≡ 0
+
+-- an access to an address in a page of the guest that is Secure and at rest is done
+pub record AccessIsDone (plan : Plan) (past : List Event) (e : Event) (run : Run) (gpa : ℕ) : Type 0 where
+  pub load : (rd : ℕ) → e.trace.cmd ≡ GLd rd gpa → e.trace.answer ≡ answer.Val (last_store plan past run.lpid gpa)
+  pub store : (rs : ℕ) → e.trace.cmd ≡ GSt rs gpa → e.trace.answer ≡ answer.Done
+
+abbrev pub SecurePageIsReached : Type 0
+SecurePageIsReached =
+    (plan : Plan) (past : List Event) (e : Event) (run : Run) (gpa : ℕ) → Extends plan past e → e.saw.before ≡ ctx.Guest run → run.generation ≡ (guest_after plan run.lpid past).part.generation →
+    gpa % 8 ≡ 0 → gpa / 2 ^ plan.shift < plan.pages → ((guest_after plan run.lpid past).part.pages (page_of plan gpa)).kind ≡ Secure → ((guest_after plan run.lpid past).part.pages (page_of plan gpa)).mover ≡ None →
+    AccessIsDone plan past e run gpa

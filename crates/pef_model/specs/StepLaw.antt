@@ -15,7 +15,8 @@ use Rattle.pef_model.specs.Plan.{Plan}
 use Rattle.pef_model.specs.Event.{Event}
 use Rattle.pef_model.specs.Registers.{number_of}
 use Rattle.pef_model.specs.View.{is_hypervisor}
-use Rattle.pef_model.specs.History.{cpu_after, guest_after, Extends}
+use Rattle.pef_model.specs.Target.{told}
+use Rattle.pef_model.specs.History.{cpu_after, guest_after, ask_of, Extends}
 use Rattle.pef_model.specs.SearchLaw.{loaded_value, value_of_page_call, IsCommand}
 use Rattle.pef_model.specs.SecretLaw.{takes_bytes}
 
@@ -162,3 +163,7 @@ pub record LeavesRegisters (plan : Plan) (past : List Event) (e : Event) (lpid v
 
 abbrev pub EachEntryLeavesRegisters : Type 0
 EachEntryLeavesRegisters = (plan : Plan) (past : List Event) (e : Event) (lpid vid : ℕ) → Extends plan past e → LeavesRegisters plan past e lpid vid
+
+-- an entry tells what its step learnt of its CPU
+abbrev pub EachEntryTells : Type 0
+EachEntryTells = (plan : Plan) (past : List Event) (e : Event) → Extends plan past e → told e ≡ ask_of (cpu_after plan e.trace.cpu past) e.trace.cmd

@@ -1,15 +1,15 @@
 //! The laws of pages that come in: each is the contract of a function that does nothing.
 
-ghost use Rattle.pef_model.specs.FreshLaw.{Freshness, MovesKeepLastStore, EachSoundPart, OwnEntriesClash};
-ghost use Rattle.pef_model.specs.RunLaw.{OutAndIn, AnOlderImage, ChangeAfterCopy, OneBitBeforeCopy};
+ghost use Rattle.pef_model.specs.FreshLaw.{Freshness, MovesKeepLastStore, EachSoundPart, OwnEntriesClash, EachClashIsRefused, EachCollisionIsClash, NoRefusalIsClean};
+ghost use Rattle.pef_model.specs.RunLaw.{OutAndIn, TagIsSeen, AnOlderImage, ChangeAfterCopy, OneBitBeforeCopy};
 
-/// What comes in is accepted exactly where it is what was last paged out of the page, and the guest then finds its last
-/// stores.
+/// What comes in is accepted exactly where it is what was last paged out of the page, which is Secure then; other bytes are
+/// refused, and the page stays as it was. The guest's last stores stay either way.
 pub fn freshness()
     ensures { Freshness }
 {}
 
-/// No step but a guest's own changes what was last stored.
+/// No step but one of the guest's own changes what it last stored.
 pub fn moves_keep_last_store()
     ensures { MovesKeepLastStore }
 {}
@@ -30,6 +30,11 @@ pub fn out_and_in()
     ensures { OutAndIn }
 {}
 
+/// What lies in normal memory of a page under the vault is its tag, and zeros.
+pub fn tag_is_seen()
+    ensures { TagIsSeen }
+{}
+
 /// An older image of a page is refused, and the newer one comes in.
 pub fn an_older_image()
     ensures { AnOlderImage }
@@ -43,4 +48,20 @@ pub fn change_after_copy()
 /// A change of the normal frame before the copy is refused, and the page comes in once it is undone.
 pub fn one_bit_before_copy()
     ensures { OneBitBeforeCopy }
+{}
+
+/// A digest collision is a page-in that is refused: what was last paged out of the page are other bytes, with the same
+/// SHA-256.
+pub fn each_clash_is_refused()
+    ensures { EachClashIsRefused }
+{}
+
+/// Each page-in of other bytes, with the SHA-256 of what was last paged out of the page, is a digest collision.
+pub fn each_collision_is_clash()
+    ensures { EachCollisionIsClash }
+{}
+
+/// A history in which no step answers U_P2 has no digest collision.
+pub fn no_refusal_is_clean()
+    ensures { NoRefusalIsClean }
 {}

@@ -1,14 +1,15 @@
 //! The laws of the definitions: each is the contract of a function that does nothing.
 
-ghost use Rattle.pef_model.specs.RunLaw.{OneRun, StoreAndLoad, OneFrame, MarksOfOneFrame, NoneIsBorn, GoesOut, EachGoAllEnds};
+ghost use Rattle.pef_model.specs.RunLaw.{OneRun, StoreAndLoad, OneFrame, MarksOfOneFrame, StampsOfOneFrame, NoneIsBorn, GoesOut, EachGoAllEnds};
 ghost use Rattle.pef_model.specs.WordLaw.{WordsAtTheEdge};
 ghost use Rattle.pef_model.specs.ReadLaw.{EachOwnEntriesDecide, TheseFieldsDecide, TouchedObjectsDecide, AskedIsTold, UnaskedMakesNoDifference};
 ghost use Rattle.pef_model.specs.SecretLaw.{NoSecretInPublicState, NoSecretInOneEntry, NoSecretInDeeds};
-ghost use Rattle.pef_model.specs.SearchLaw.{LastStoreIsNewest, RegIsNewest, LoadGivesLastStore, LastStoreIsStored, LastStoreIsZero};
-ghost use Rattle.pef_model.specs.Alike.{AlikeShowTheSame, OpenIsAlike, UnsealedIsAlike};
+ghost use Rattle.pef_model.specs.SearchLaw.{LastStoreIsNewest, RegIsNewest, LoadGivesLastStore, SecurePageIsReached, LastStoreIsStored, LastStoreIsZero};
+ghost use Rattle.pef_model.specs.Alike.{AlikeShowTheSame, AlikeClashTogether, OpenIsAlike, UnsealedIsAlike};
 ghost use Rattle.pef_model.specs.SeenReport.{AlikeReportTheSame, SecretsGiveAlikeRuns};
 ghost use Rattle.pef_model.specs.PairLaw.{SecretStaysIn, ViewShowsStores, StreamTells, VaultIsShut};
-ghost use Rattle.pef_model.specs.NormalLaw.{FramesHoldLastNorm, GuestLeavesFrames, StoreLeavesGuests, WritesMakeFrames, EachMoveKeepsToItsObjects};
+ghost use Rattle.pef_model.specs.SeenLaw.{RegistersAreSeen, SeenIsShown};
+ghost use Rattle.pef_model.specs.NormalLaw.{FramesHoldLastNorm, LoadGivesLastNorm, GuestLeavesFrames, StoreLeavesGuests, WritesMakeFrames, EachMoveKeepsToItsObjects};
 
 /// A secure guest that stores 7 loads 7, and the report says so.
 pub fn store_and_load()
@@ -52,6 +53,11 @@ pub fn load_gives_last_store()
     ensures { LoadGivesLastStore }
 {}
 
+/// An access to a page that is Secure and at rest is done, and a load gives the last store.
+pub fn secure_page_is_reached()
+    ensures { SecurePageIsReached }
+{}
+
 /// What was stored, and not overwritten, is the last store.
 pub fn last_store_is_stored()
     ensures { LastStoreIsStored }
@@ -62,9 +68,14 @@ pub fn last_store_is_zero()
     ensures { LastStoreIsZero }
 {}
 
-/// Each answer but Gone, on a machine with two CPUs and one secure frame: the report, computed from the definitions.
+/// A guest's accesses on a machine with two CPUs and one secure frame: the report, computed from the definitions.
 pub fn one_frame()
     ensures { OneFrame }
+{}
+
+/// The stamps of that run's entries.
+pub fn stamps_of_one_frame()
+    ensures { StampsOfOneFrame }
 {}
 
 /// The places of that run's entries.
@@ -99,7 +110,7 @@ pub fn touched_objects_decide()
     ensures { TouchedObjectsDecide }
 {}
 
-/// A step that needs a free frame tells whether one was free, and one that only gives a frame back doesn't.
+/// A step that tells of the pool tells whether a frame was free where it needs one, and not where it only gives one back.
 pub fn asked_is_told()
     ensures { AskedIsTold }
 {}
@@ -114,14 +125,19 @@ pub fn writes_make_frames()
     ensures { WritesMakeFrames }
 {}
 
-/// The begin and the end of a page-out change no normal frame, and its copy no guest.
+/// The begin and the end of a page's move change no normal frame, and its copy no guest; that of a page-in only reads.
 pub fn each_move_keeps_to_its_objects()
     ensures { EachMoveKeepsToItsObjects }
 {}
 
-/// The frames of the public state hold what was last stored at each real address.
+/// The frames of the public state hold what was last written at each real address, by a store or by a copy.
 pub fn frames_hold_last_norm()
     ensures { FramesHoldLastNorm }
+{}
+
+/// Each load of the hypervisor that is done gives what was last written at its real address.
+pub fn load_gives_last_norm()
+    ensures { LoadGivesLastNorm }
 {}
 
 /// A guest's step changes no normal frame.
@@ -138,6 +154,21 @@ pub fn store_leaves_guests()
 /// views. It says nothing of histories whose guests let out different values, nor of time.
 pub fn alike_show_the_same()
     ensures { AlikeShowTheSame }
+{}
+
+/// Two legal histories that are alike have their digest collisions at the same entries.
+pub fn alike_clash_together()
+    ensures { AlikeClashTogether }
+{}
+
+/// The view shows each step that the hypervisor sees, and no other.
+pub fn seen_is_shown()
+    ensures { SeenIsShown }
+{}
+
+/// The registers that the hypervisor can read in a CPU are those that the view showed of it last.
+pub fn registers_are_seen()
+    ensures { RegistersAreSeen }
 {}
 
 /// Two legal histories that are alike have reports that agree in the hypervisor's lines: the steps that it sees, the frames,

@@ -8,6 +8,7 @@ pub mod fresh_laws;
 pub mod grammar_laws;
 pub mod laws;
 pub mod move_laws;
+pub mod refusal_laws;
 pub mod state;
 pub mod step_laws;
 

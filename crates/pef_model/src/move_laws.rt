@@ -1,8 +1,8 @@
 //! The laws of pages on the move: each is the contract of a function that does nothing.
 
-ghost use Rattle.pef_model.specs.MoveLaw.{EachCpuMovesItsPage, EachCpuMovesItsPageIn, EachMoverHasItsCall, EachPageKeepsWhatIsSealed, LastSealedIsBegun, VersionsCountPageOuts, PageOutSealsLastStore, PageHasEachDoubleword, PageHasItsLength, SealedPagesFill};
+ghost use Rattle.pef_model.specs.MoveLaw.{EachCpuMovesItsPage, EachCpuMovesItsPageIn, EachMoverHasItsCall, EachPageKeepsWhatIsSealed, LastSealedIsBegun, VersionsCountPageOuts, NoTagTwice, PageOutSealsLastStore, PageHasEachDoubleword, PageHasItsLength, SealedPagesFill, OutPageIsSealed, EachMoveGoesThroughHand, EachCallBeginsWhatIsNamed};
 
-/// A CPU with a page-out in progress moves the page that its call names, and has in its hand what is pending of it.
+/// A CPU with a page-out in progress, in its guest's generation, moves the page that its call names, and has in its hand what is pending of it.
 pub fn each_cpu_moves_its_page()
     ensures { EachCpuMovesItsPage }
 {}
@@ -12,7 +12,7 @@ pub fn each_mover_has_its_call()
     ensures { EachMoverHasItsCall }
 {}
 
-/// A page has last sealed bytes exactly where it is Out, and pending ones exactly where it moves.
+/// A page has last sealed bytes exactly where it is Out, and pending ones exactly where it moves outward.
 pub fn each_page_keeps_what_is_sealed()
     ensures { EachPageKeepsWhatIsSealed }
 {}
@@ -22,9 +22,14 @@ pub fn last_sealed_is_begun()
     ensures { LastSealedIsBegun }
 {}
 
-/// A page's version is how many page-outs of it began, so no tag comes twice.
+/// A page's version is how many page-outs of it began.
 pub fn versions_count_page_outs()
     ensures { VersionsCountPageOuts }
+{}
+
+/// No two page-outs of a history seal under one tag.
+pub fn no_tag_twice()
+    ensures { NoTagTwice }
 {}
 
 /// A page-out seals the page of the last stores, under the tag of the page's next version.
@@ -47,7 +52,23 @@ pub fn sealed_pages_fill()
     ensures { SealedPagesFill }
 {}
 
-/// A CPU with a page-in in progress moves the page that its call names, which is still Out.
+/// A CPU with a page-in in progress, in its guest's generation, moves the page that its call names, which is still Out.
 pub fn each_cpu_moves_its_page_in()
     ensures { EachCpuMovesItsPageIn }
+{}
+
+/// The one copy that counts of a page that is Out are the sealed bytes of its last stores, under the tag of its version.
+pub fn out_page_is_sealed()
+    ensures { OutPageIsSealed }
+{}
+
+/// The copy of a page-out writes what its CPU has in its hand; that of a page-in reads the normal frame that the call names;
+/// and the end of a page-in tests what its CPU has in its hand.
+pub fn each_move_goes_through_hand()
+    ensures { EachMoveGoesThroughHand }
+{}
+
+/// A call that begins moves the page that it names, from or into the normal frame that it names, in the guest's generation.
+pub fn each_call_begins_what_is_named()
+    ensures { EachCallBeginsWhatIsNamed }
 {}

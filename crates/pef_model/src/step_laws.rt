@@ -1,6 +1,7 @@
 //! The laws of one step and of counts: each is the contract of a function that does nothing.
 
-ghost use Rattle.pef_model.specs.StepLaw.{EachEntryLeavesCpu, EachEntryLeavesRegisters};
+ghost use Rattle.pef_model.specs.StepLaw.{EachEntryLeavesCpu, EachEntryLeavesRegisters, EachEntryTells};
+ghost use Rattle.pef_model.specs.TransitionLaw.{EachEntryLeavesKinds, EachEntryLeavesStates};
 ghost use Rattle.pef_model.specs.CountLaw.{EachCpuRunsItsVcpu, NoVcpuRunsTwice, FramesAreCounted, OrderHasSecurePages, OrderGrows};
 
 /// An entry leaves its CPU in the context that it tells, with these registers, last answer, selection and hand, and shows
@@ -9,8 +10,8 @@ pub fn each_entry_leaves_cpu()
     ensures { EachEntryLeavesCpu }
 {}
 
-/// A vCPU's next instruction and SRR0 change at its own steps and where UV_RETURN takes it up, and R0 to R31 at its own
-/// steps alone.
+/// A vCPU's next instruction changes at its own steps and where UV_RETURN takes it up, SRR0 at the latter alone, and R0 to
+/// R31 at its own steps alone.
 pub fn each_entry_leaves_registers()
     ensures { EachEntryLeavesRegisters }
 {}
@@ -25,7 +26,7 @@ pub fn no_vcpu_runs_twice()
     ensures { NoVcpuRunsTwice }
 {}
 
-/// Each secure frame is free or holds a Secure page.
+/// The free frames, and the pages that are Secure or move inward, are together as many as the secure frames.
 pub fn frames_are_counted()
     ensures { FramesAreCounted }
 {}
@@ -38,4 +39,21 @@ pub fn order_has_secure_pages()
 /// The pages that stay Secure keep their order, and a page that becomes Secure stands behind them.
 pub fn order_grows()
     ensures { OrderGrows }
+{}
+
+/// A page becomes Secure by an access that was done or by a page-in that was accepted, and Out by a page-out that ends; no
+/// other entry changes its kind.
+pub fn each_entry_leaves_kinds()
+    ensures { EachEntryLeavesKinds }
+{}
+
+/// A vCPU runs on a CPU from where UV_RETURN takes it up there, in the guest's generation, until an interrupt parks it; no
+/// other entry changes its state or its generation.
+pub fn each_entry_leaves_states()
+    ensures { EachEntryLeavesStates }
+{}
+
+/// An entry tells what its step learnt of its CPU.
+pub fn each_entry_tells()
+    ensures { EachEntryTells }
 {}

@@ -1,0 +1,72 @@
+-- Names and numbers, computed: those of a report, those in registers, those of a script.
+use Rattle.std.specs.Prelude.{◌≡◌, ℕ, List, [], ◌∷◌, ◌++◌, map, replicate, codes, Some}
+use Rattle.hex.specs.Hex.{encode_lower}
+use Rattle.sha2.specs.Sha256.{sha256}
+use Rattle.pef_model.specs.declared.command.TheConstants.{UV_PAGE_IN, UV_PAGE_OUT, UV_RETURN, EXTERNAL_INTERRUPT}
+use Rattle.pef_model.specs.declared.command.Code.TheVariants.{USuccess, UParameter, UP2, UP3, UP4, UP5, UFunction, UBusy, UPermission, UInvalid}
+use Rattle.pef_model.specs.declared.command.Cmd.{Cmd}
+use Rattle.pef_model.specs.declared.command.Cmd.TheVariants.{HLd, HSt, UPagein, UPageout, UReturn, GLi, GLd, GSt, GIrq}
+use Rattle.pef_model.specs.declared.command.Directive.TheVariants.{Once}
+use Rattle.pef_model.specs.Plan.{plan_of}
+use Rattle.pef_model.specs.Registers.{number_of}
+use Rattle.pef_model.specs.Header.{born_one}
+use Rattle.pef_model.specs.Script.{Line, Script, script_of}
+use Rattle.pef_model.specs.Run.{run_of}
+use Rattle.pef_model.specs.Report.{report}
+use Rattle.pef_model.specs.View.{view}
+use Rattle.pef_model.specs.SeenLaw.{registers_seen}
+use Rattle.pef_model.specs.RunLaw.{small_config, line_at, go_all_at, return_with, store_lines}
+use Rattle.pef_model.specs.RefusalLaw.{page_out_to}
+use Rattle.pef_model.specs.WordLaw.{idle}
+use Rattle.pef_model.specs.PairLaw.{vault_config}
+
+-- a run with each command's name, each code and each answer that a run gives; what is sealed is overwritten by zeros
+abbrev pub names_script : Script
+names_script = record {
+  config = vault_config;
+  lines =
+      line_at 1 0 (return_with 0) ∷ line_at 2 0 (GLi 20 7) ∷ line_at 3 0 (GSt 20 0x0) ∷ line_at 4 0 (UPagein 0 0 0 0 0) ∷ line_at 5 0 (return_with 0) ∷ line_at 6 0 GIrq
+      ∷ line_at 7 0 (UPageout 0 0x80 0x80 9 9) ∷ line_at 8 0 (UPageout 1 0x80 0x80 9 9) ∷ line_at 9 0 (UPageout 1 0x0 0x80 9 9) ∷ line_at 10 0 (UPageout 1 0x0 0x0 1 9)
+      ∷ line_at 11 0 (UPageout 1 0x0 0x0 2 9) ∷ line_at 12 0 (UPageout 1 0x0 0x0 0 9) ∷ line_at 13 0 (page_out_to 0x0) ∷ line_at 14 1 (page_out_to 0x0) ∷ line_at 15 1 (return_with 0)
+      ∷ line_at 16 1 (GLd 6 0x0) ∷ line_at 17 1 (HLd 0x0) ∷ go_all_at 18 0 ∷ line_at 19 1 (GLd 6 0x0) ∷ line_at 20 0 (HLd 0x0) ∷ line_at 21 0 (HSt 0x0 0) ∷ line_at 22 0 (HSt 0x8 0)
+      ∷ line_at 23 0 (HSt 0x18 0) ∷ [];
+}
+
+-- its report
+abbrev pub EachNameIsWritten : Type 0
+EachNameIsWritten =
+    report (plan_of vault_config) (run_of names_script)
+    ≡ codes "1 0 u.return enter\n2 0 g.li done\n3 0 g.st done\n4 0 u.pagein ret U_PERMISSION\n5 0 u.return ret U_INVALID\n6 0 g.irq exit irq\n7 0 u.pageout ret U_PARAMETER\n8 0 u.pageout ret U_P2\n9 0 u.pageout ret U_P3\n10 0 u.pageout ret U_FUNCTION\n11 0 u.pageout ret U_P4\n12 0 u.pageout ret U_P5\n13 0 u.pageout step\n14 1 u.pageout ret U_BUSY\n15 1 u.return enter\n16 1 g.ld again\n17 1 h.ld context\n18 0 go step\n18 0 go ret U_SUCCESS\n19 1 g.ld hole\n20 0 h.ld val 0x1\n21 0 h.st done\n22 0 h.st done\n23 0 h.st done\nfree 1\nend\n"
+
+-- a normal frame that isn't all zero has a line, with the SHA-256 of its bytes
+abbrev pub FrameHasItsLine : Type 0
+FrameHasItsLine =
+    report (plan_of small_config) (run_of (record { config = small_config; lines = line_at 1 0 (HSt 0x108 5) ∷ [] }))
+    ≡ codes "1 0 h.st done\nframe 1 " ++ (encode_lower (sha256 (replicate 15 0 ++ 5 ∷ replicate 240 0)) ++ codes "\nfree 1\nend\n")
+
+-- what the view shows of CPU 0's registers after lines
+abbrev pub seen_after : List Line → List ℕ
+seen_after lines = registers_seen (view (plan_of vault_config) (run_of (record { config = vault_config; lines = lines }))) 0
+
+-- the numbers that registers show: of an interrupt, of a call that was refused, of a load, of each code, of each call
+pub record AreNumbers : Type 0 where
+  pub interrupt : seen_after store_lines ≡ 0 ∷ 0 ∷ 0 ∷ 0x500 ∷ replicate 28 0
+  pub refused : seen_after (line_at 1 0 (UPageout 1 0x400 0x300 1 8) ∷ []) ≡ 0 ∷ 0 ∷ 0 ∷ 3 ∷ 1 ∷ 0x400 ∷ 0x300 ∷ 1 ∷ 8 ∷ replicate 23 0
+  pub loaded : seen_after (line_at 1 0 (HSt 0x8 6) ∷ line_at 2 0 (HLd 0x8) ∷ []) ≡ 0 ∷ 0 ∷ 0 ∷ 6 ∷ replicate 28 0
+  pub numbers : map number_of (USuccess ∷ UParameter ∷ UP2 ∷ UP3 ∷ UP4 ∷ UP5 ∷ UFunction ∷ UBusy ∷ UPermission ∷ UInvalid ∷ []) ≡ 0 ∷ 1 ∷ 2 ∷ 3 ∷ 4 ∷ 5 ∷ 6 ∷ 7 ∷ 8 ∷ 9 ∷ []
+  pub calls : UV_PAGE_IN ∷ UV_PAGE_OUT ∷ UV_RETURN ∷ EXTERNAL_INTERRUPT ∷ [] ≡ 4 ∷ 5 ∷ 8 ∷ 0x500 ∷ []
+
+-- a script of one line
+abbrev pub of_one_line : Cmd → Script
+of_one_line cmd = record { config = born_one; lines = record { number = 4; cpu = 0; directive = Once cmd } ∷ [] }
+
+-- a script that says each size as it is where none is said, and commands with operands that differ
+pub record AreRead : Type 0 where
+  pub sizes : script_of (codes "pef 1\nshift 16\nnormal 16\nsecure 16\ncpus 1\npages 16\nseal stream\nborn 1\nbegin\n") ≡ idle born_one
+  pub load : script_of (codes "pef 1\nborn 1\nbegin\n0 h.ld 8\n") ≡ Some (of_one_line (HLd 8))
+  pub store : script_of (codes "pef 1\nborn 1\nbegin\n0 h.st 8 5\n") ≡ Some (of_one_line (HSt 8 5))
+  pub page_in : script_of (codes "pef 1\nborn 1\nbegin\n0 u.pagein 1 2 3 4 5\n") ≡ Some (of_one_line (UPagein 1 2 3 4 5))
+  pub page_out : script_of (codes "pef 1\nborn 1\nbegin\n0 u.pageout 1 2 3 4 5\n") ≡ Some (of_one_line (UPageout 1 2 3 4 5))
+  pub returns : script_of (codes "pef 1\nborn 1\nbegin\n0 u.return 1 2\n") ≡ Some (of_one_line (UReturn 1 2 (replicate 9 0)))
+  pub guest_load : script_of (codes "pef 1\nborn 1\nbegin\n0 g.ld r2 8\n") ≡ Some (of_one_line (GLd 2 8))
+  pub guest_store : script_of (codes "pef 1\nborn 1\nbegin\n0 g.st r2 8\n") ≡ Some (of_one_line (GSt 2 8))

@@ -1,0 +1,59 @@
+//! Refusals, names and numbers, computed from the definitions: each is the contract of a function that does nothing.
+
+ghost use Rattle.pef_model.specs.RefusalLaw.{PageOutRefusals, PageInRefusals, NoFrameIsFree, TheLastGuest, AGuestMeanwhile, AGuestMeanwhileIn, NormalAtTheEdge};
+ghost use Rattle.pef_model.specs.NameLaw.{EachNameIsWritten, FrameHasItsLine, AreNumbers, AreRead};
+
+/// The codes of UV_PAGE_OUT, each where what would be refused later is wrong too.
+pub fn page_out_refusals()
+    ensures { PageOutRefusals }
+{}
+
+/// The codes of UV_PAGE_IN, each where what would be refused later is wrong too.
+pub fn page_in_refusals()
+    ensures { PageInRefusals }
+{}
+
+/// A page-in for which no secure frame is free answers U_BUSY.
+pub fn no_frame_is_free()
+    ensures { NoFrameIsFree }
+{}
+
+/// On a machine with one guest a page of guest 1 goes out, and there is no guest 2.
+pub fn the_last_guest()
+    ensures { TheLastGuest }
+{}
+
+/// What a guest is answered while its page is paged out.
+pub fn a_guest_meanwhile()
+    ensures { AGuestMeanwhile }
+{}
+
+/// What a guest is answered while its page is paged in.
+pub fn a_guest_meanwhile_in()
+    ensures { AGuestMeanwhileIn }
+{}
+
+/// Which real addresses the hypervisor can load and store.
+pub fn normal_at_the_edge()
+    ensures { NormalAtTheEdge }
+{}
+
+/// A report with each command's name, each code and each answer that a run gives.
+pub fn each_name_is_written()
+    ensures { EachNameIsWritten }
+{}
+
+/// The line of a normal frame.
+pub fn frame_has_its_line()
+    ensures { FrameHasItsLine }
+{}
+
+/// The numbers that registers show.
+pub fn registers_have_numbers()
+    ensures { AreNumbers }
+{}
+
+/// Commands as a script has them, with operands that differ, and sizes as they are where none is said.
+pub fn each_name_is_read()
+    ensures { AreRead }
+{}
