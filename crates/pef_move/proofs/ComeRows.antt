@@ -1,5 +1,5 @@
 -- The rows of the end of a page-in: the page is Secure with what was last stored there, or Out as before.
-use Rattle.std.proofs.Common.{◌≡◌, ℕ, ◌+◌, ◌^◌, ◌<◌, ◌==◌, Bool, true, false, if◌then◌else◌, List, [], ◌∷◌, ◌++◌, length, Option, Some, None, is_some, option_map, IsTrue, ◌↔◌, arith, refl, ap, sym, subst, ◌∙◌}
+use Rattle.std.proofs.Common.{◌≡◌, ℕ, ◌+◌, ◌^◌, ◌<◌, ◌==◌, Bool, true, false, ◌&&◌, if◌then◌else◌, List, [], ◌∷◌, ◌++◌, length, Option, Some, None, is_some, option_map, IsTrue, ◌↔◌, arith, refl, ap, sym, subst, ◌∙◌}
 use Rattle.std.proofs.lemmas.Bool.Decides.{nat_tests}
 use Rattle.pef_model.specs.declared.state.Kind.{Kind}
 use Rattle.pef_model.specs.declared.state.Kind.TheVariants as kind
@@ -20,7 +20,7 @@ use Rattle.pef_model.specs.GuestPart.{page_of, is_invalid, secured, refused_in a
 use Rattle.pef_model.specs.Guest.{Guest as GuestWhole, private_doubleword}
 use Rattle.pef_model.specs.PageOut.{tag_of, private_page}
 use Rattle.pef_model.specs.PageIn.{is_last_sealed}
-use Rattle.pef_model.specs.Sound.{collides_with}
+use Rattle.pef_model.specs.Sound.{collides_with, ends_in_clash}
 use Rattle.pef_model.specs.Deed.{coming_back, deed_page_in_test, deed_page_in_end}
 use Rattle.pef_model.specs.History.{entry_of}
 use Rattle.pef_model.specs.Memory.{offset_of}
@@ -41,7 +41,7 @@ use Rattle.pef_move.proofs.Come.{comes, refused, page_refused, refused_is, accep
 
 module _ {S : Type 0} (stands : S → Tag → List ℕ → List ℕ → Type 0) (image : S → Tag → List ℕ → List ℕ) (plan : Plan) (g : GuestWhole) (c : CpuPart) (mark : Mark) (old : Guest S) (cpu : Cpu) (move : Move) (pool : PoolState)
     (below : move.gfn < length old.pages.pages) (moves : mover_at old.pages move.gfn ≡ Some (record { cpu = cpu.number; way = way.Inward }))
-    (shows : Shows stands image plan old g) (shows_cpu : ShowsCpu cpu c) (now : move.generation ≡ old.generation) (apart : collides_with (g.part.pages move.gfn).sealed c.hand ≡ false)
+    (shows : Shows stands image plan old g) (shows_cpu : ShowsCpu cpu c) (now : move.generation ≡ old.generation) (clean : ends_in_clash g.part (record move { copied = true }) c.hand ≡ false)
     (kept : Bool) (test : IsTrue kept ↔ (digest_at old.pages move.gfn ≡ Some (digest_by cpu.hand))) where
   -- its number
   abbrev gfn : ℕ
@@ -61,6 +61,14 @@ module _ {S : Type 0} (stands : S → Tag → List ℕ → List ℕ → Type 0) 
   -- so what is sealed of it is what was last sealed
   sealed : sealed_of (g.part.pages gfn) ≡ (g.part.pages gfn).sealed
   sealed = ap (λ (one : Option (List ℕ)). first_there one (g.part.pages gfn).sealed) none_pending
+
+  -- the move is of the guest's generation
+  lives : (move.generation == g.part.generation) ≡ true
+  lives = let own = shows.generation in grind (arith, nat_tests)
+
+  -- so the hand doesn't collide with what was last sealed
+  apart : collides_with (g.part.pages gfn).sealed c.hand ≡ false
+  apart = sym (ap (λ (own : Bool). own && collides_with (g.part.pages gfn).sealed c.hand) lives) ∙ clean
 
   -- the test is the model's
   is_kept : is_last_sealed (g.part.pages gfn).sealed c.hand ≡ kept
@@ -84,9 +92,8 @@ module _ {S : Type 0} (stands : S → Tag → List ℕ → List ℕ → Type 0) 
 
   row_by : (new : Guest S) (one : Code) (free : ℕ) → RowBy kept new one free → RowOf new one free
   row_by new one free row =
-      let life : (move.generation == g.part.generation) ≡ true = (let lives = shows.generation in grind (arith, nat_tests)) in
       subst (λ (same : Bool). RowWithPool stands image plan g c (entry_of (ask_inward move c) mark Go
-      (if same then deed_page_in_test (ask_inward move c) (is_last_sealed (g.part.pages gfn).sealed c.hand) else coming_back (ask_inward move c) UParameter)) new (cpu_back one) (length pool.free) free (answer.Ret one)) (sym life)
+      (if same then deed_page_in_test (ask_inward move c) (is_last_sealed (g.part.pages gfn).sealed c.hand) else coming_back (ask_inward move c) UParameter)) new (cpu_back one) (length pool.free) free (answer.Ret one)) (sym lives)
       (subst (λ (same : Bool). RowBy same new one free) (sym is_kept) row)
 
   shows_back : (one : Code) → ShowsCpu (cpu_back one) (record c { ctx = ctx.Hv; own = with_code c.own one; last = answer.Ret one })

@@ -1,12 +1,12 @@
 -- The steps of a page-in do what their rows of the model say, whatever guest, CPU and frame of the model are shown, but for a digest collision.
-use Rattle.std.specs.Prelude.{◌≡◌, ◌≢◌, ℕ, ◌<◌, nat_lt, false, List, length, Some}
+use Rattle.std.specs.Prelude.{◌≡◌, ◌≢◌, ◌↔◌, ℕ, ◌<◌, nat_lt, true, false, List, length, Some}
 use Rattle.pef_model.specs.declared.state.Ctx.{Ctx}
 use Rattle.pef_model.specs.declared.state.Ctx.TheVariants as ctx
 use Rattle.pef_model.specs.declared.state.Way.TheVariants.{Inward as IsInward}
 use Rattle.pef_model.specs.declared.state.Move.{Move}
 use Rattle.pef_model.specs.declared.state.Work.TheVariants.{Inward}
 use Rattle.pef_model.specs.declared.state.Tag.{Tag}
-use Rattle.pef_model.specs.declared.command.Code.TheVariants.{UParameter, UP2}
+use Rattle.pef_model.specs.declared.command.Code.TheVariants.{USuccess, UParameter, UP2}
 use Rattle.pef_model.specs.declared.command.Cmd.TheVariants.{UPagein, Go}
 use Rattle.pef_model.specs.declared.entry.Answer.{Answer}
 use Rattle.pef_model.specs.declared.entry.Answer.TheVariants as answer
@@ -17,13 +17,13 @@ use Rattle.pef_model.specs.Cpu.{CpuPart, next_cpu}
 use Rattle.pef_model.specs.Guest.{Guest as GuestWhole}
 use Rattle.pef_model.specs.Deed.{deed_page_in, deed_page_in_copy, deed_page_in_end}
 use Rattle.pef_model.specs.History.{entry_of}
-use Rattle.pef_model.specs.Sound.{collides_with}
+use Rattle.pef_model.specs.Sound.{ends_in_clash}
 use Rattle.pef_frames.specs.Frame.{FrameState}
 use Rattle.pef_frames.specs.Pool.{PoolState, with_free}
 use Rattle.pef_pages.specs.Pages.{mover_at, frame_at, kind_at, digest_at, ended_in}
 use Rattle.pef_guest.specs.declared.cpu.Cpu.{Cpu}
 use Rattle.pef_guest.specs.declared.guest.Guest.{Guest}
-use Rattle.pef_guest.specs.Shows.{ShowsCpu, Shows}
+use Rattle.pef_guest.specs.Shows.{ShowsCpu, Shows, digest_by}
 use Rattle.pef_guest.specs.Refused.{RefusesCpu, SameGuest}
 use Rattle.pef_guest.specs.Rows.{RowWithPool, ask_hypervisor, ask_reading, ask_inward}
 use Rattle.pef_move.specs.declared.page_call.PageCall.{PageCall}
@@ -93,8 +93,13 @@ abbrev pub RefusesLate : {S : Type 0} → Move → Guest S → Guest S → PoolS
 RefusesLate move old new pool pool_new (answer.Ret UP2) = PutsBack move old new pool pool_new
 RefusesLate move old new pool pool_new other = Unit {0}
 
--- the end of a page-in, unless what was copied collides with what was last sealed of the page
+-- an end accepts a page exactly where the hand has the digest that the page keeps, and else refuses it
+pub record AcceptsByDigest {S : Type 0} (move : Move) (guest : Guest S) (hand : List ℕ) (a : Answer) : Type 0 where
+  pub accepts : (a ≡ answer.Ret USuccess) ↔ (digest_at guest.pages move.gfn ≡ Some (digest_by hand))
+  pub refuses : (a ≡ answer.Ret UP2) ↔ (digest_at guest.pages move.gfn ≢ Some (digest_by hand))
+
+-- the end of a page-in, unless it ends in a clash, as the model says of a copied move
 abbrev pub EndsPageIn : {S : Type 0} → (S → Tag → List ℕ → List ℕ → Type 0) → (S → Tag → List ℕ → List ℕ) → Move → Guest S → Guest S → Cpu → Cpu → PoolState → PoolState → Answer → Type 0
 EndsPageIn stands image move old new cpu cpu_new pool pool_new answer =
-    (plan : Plan) (g : GuestWhole) (c : CpuPart) (mark : Mark) → Shows stands image plan old g → ShowsCpu cpu c → collides_with (g.part.pages move.gfn).sealed c.hand ≡ false →
+    (plan : Plan) (g : GuestWhole) (c : CpuPart) (mark : Mark) → Shows stands image plan old g → ShowsCpu cpu c → ends_in_clash g.part (record move { copied = true }) c.hand ≡ false →
     RowWithPool stands image plan g c (entry_of (ask_inward move c) mark Go (deed_page_in_end g.part (ask_inward move c) move)) new cpu_new (length pool.free) (length pool_new.free) answer

@@ -1,5 +1,5 @@
 -- What a call is to move, and what the begin of a page-out does.
-use Rattle.std.specs.Prelude.{◌≡◌, ◌≢◌, ◌↔◌, ℕ, ◌+◌, ◌-◌, ◌/◌, ◌^◌, ◌<◌, false, List, length, Option, Some, None, Result, Ok, Err}
+use Rattle.std.specs.Prelude.{◌≡◌, ◌≢◌, ◌↔◌, ℕ, ◌+◌, ◌-◌, ◌/◌, ◌^◌, ◌<◌, false, List, [], ◌∷◌, length, Option, Some, None, Result, Ok, Err}
 use Rattle.pef_model.specs.declared.state.Phase.TheVariants as phase
 use Rattle.pef_model.specs.declared.state.Kind.TheVariants as kind
 use Rattle.pef_model.specs.declared.state.VState.TheVariants.{Idle}
@@ -7,6 +7,7 @@ use Rattle.pef_model.specs.declared.state.Ctx.TheVariants as ctx
 use Rattle.pef_model.specs.declared.state.Work.TheVariants.{Outward}
 use Rattle.pef_model.specs.declared.state.Tag.{Tag}
 use Rattle.pef_model.specs.declared.command.Code.{Code}
+use Rattle.pef_model.specs.declared.command.Code.TheVariants.{UBusy}
 use Rattle.pef_model.specs.declared.entry.Answer.TheVariants as answer
 use Rattle.pef_model.specs.Plan.{Plan}
 use Rattle.pef_model.specs.GuestPart.{Page as PagePart, GuestPart, new_vcpu}
@@ -118,6 +119,12 @@ module _ {S : Type 0} where
     pub size : length cpu_new.hand ≡ length cpu.hand
     pub cpu_is : cpu_new ≡ cpu_begun old route cpu cpu_new.hand
     pub guest_is : new ≡ record old { pages = with_page old.pages route.gfn (page_begun old.pages route.gfn cpu.number cpu_new.hand); sealer = new.sealer }
+
+-- the code of the operands, or U_BUSY where they have none and no secure frame is free
+abbrev pub code_or_busy : Option Code → List ℕ → Option Code
+code_or_busy (Some code) free = Some code
+code_or_busy None [] = Some UBusy
+code_or_busy None (number ∷ more) = None
 
 -- the code of a result
 abbrev pub code_of : {X : Type 0} → Result X Code → Option Code

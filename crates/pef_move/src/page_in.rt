@@ -10,7 +10,8 @@ ghost use Rattle.pef_guest.specs.Refused.{RefusesCpu};
 ghost use Rattle.pef_guest.specs.Whole.{IsFrameOf, IsWhole};
 ghost use Rattle.pef_guest.specs.Keeps.{IsPoolOf, KeepsGuest, KeepsFrames, KeepsMovers};
 ghost use Rattle.pef_move.specs.PageOut.{KeepsCpu, ComesBackWith};
-ghost use Rattle.pef_move.specs.PageIn.{ComesOrBack, RefusesPageIn, BeginsPageIn, CopiesPageIn, IsReadyIn, EndsOldIn, RefusesLate, EndsPageIn};
+ghost use Rattle.pef_move.specs.PageIn.{ComesOrBack, RefusesPageIn, BeginsPageIn, CopiesPageIn, IsReadyIn, EndsOldIn, AcceptsByDigest, RefusesLate, EndsPageIn};
+ghost use Rattle.pef_move.specs.Route.{operands_for, code_or_busy};
 ghost use Rattle.pef_move.specs.Unseal.{GivesBack, Unseals};
 
 use crate::page_call::PageCall;
@@ -50,6 +51,7 @@ pub fn page_in_begin<S: Seal>(
     ensures cpu { KeepsCpu cpu.old cpu.new }
     ensures leaves { ComesOrBack guest.new cpu.new cpu.new.ctx }
     ensures sealer { guest.new.sealer ≡ guest.old.sealer }
+    ensures code { (code : Code) → (result ≡ Answer.Ret code) ↔ (code_or_busy (operands_for guest.old call.now) pool.old.free ≡ Some code) }
     ensures refused { RefusesPageIn call.now guest.old guest.new cpu.old cpu.new pool.old pool.new result }
     ensures row { BeginsPageIn S.stands S.image call.now guest.old guest.new cpu.old cpu.new pool.old pool.new result }
 {
@@ -99,7 +101,8 @@ pub fn page_in_copy(cpu: &mut Cpu, inward: Move, frame: &NormalFrame) -> Answer
 
 /// The end: where the hand has the digest that the page keeps, the page is Secure again with what the hand unseals to. Else
 /// the call comes back with U_P2, the page is Out at rest under the same digest, and its frame goes back zeroed. Where the
-/// guest has ended since, the call comes back with U_PARAMETER and the CPU alone changes.
+/// guest has ended since, the call comes back with U_PARAMETER, and nothing changes but the CPU and the guest's count of
+/// steps.
 ///
 /// The test is of what was copied. That it comes after the copy, and that a page has one digest, is this project's own.
 pub fn page_in_end<S: Seal>(
@@ -121,6 +124,7 @@ pub fn page_in_end<S: Seal>(
     ensures back { ComesBackWith cpu.old cpu.new result }
     ensures sealer { guest.new.sealer ≡ guest.old.sealer }
     ensures old { EndsOldIn inward guest.old guest.new cpu.old cpu.new pool.old pool.new result }
+    ensures accepted { inward.generation ≡ guest.old.generation → AcceptsByDigest inward guest.old cpu.old.hand result }
     ensures refused { RefusesLate inward guest.old guest.new pool.old pool.new result }
     ensures parameter { result ≡ Answer.Ret Code.UParameter → inward.generation ≢ guest.old.generation }
     ensures row { EndsPageIn S.stands S.image inward guest.old guest.new cpu.old cpu.new pool.old pool.new result }

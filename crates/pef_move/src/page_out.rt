@@ -1,14 +1,14 @@
 //! A page-out seals the page at its begin, so that what is written and what is kept are of one moment.
 
-ghost use Rattle.std.specs.Prelude.{◌≡◌, ◌≢◌, ◌↔◌, ◌/◌, ◌^◌, ◌<◌, true, ℕ, List, length};
+ghost use Rattle.std.specs.Prelude.{◌≡◌, ◌≢◌, ◌↔◌, ◌/◌, ◌^◌, ◌<◌, true, ℕ, List, length, Some};
 ghost use Rattle.pef_model.specs.declared.state.Tag.{Tag};
 ghost use Rattle.pef_model.specs.Registers.{load_page_out, with_code};
 ghost use Rattle.pef_num.specs.DoublewordLaw.{AreBytes};
 ghost use Rattle.pef_guest.specs.Whole.{IsWhole};
 ghost use Rattle.pef_guest.specs.Keeps.{IsPoolOf, KeepsGuest, KeepsFrames, KeepsMovers, times_held};
 ghost use Rattle.pef_guest.specs.Refused.{RefusesCpu};
-ghost use Rattle.pef_move.specs.PageOut.{BeginsOrBack, ComesBackWith, KeepsCpu, RefusesCall, BeginsPageOut, CopiesPageOut, IsReady, EndsOld, EndsPageOut};
-ghost use Rattle.pef_move.specs.Route.{CanBegin, HasBegun};
+ghost use Rattle.pef_move.specs.PageOut.{BeginsOrBack, ComesBackWith, KeepsCpu, RefusesCall, BeginsPageOut, CopiesPageOut, IsReady, EndsOld, EndsNow, EndsPageOut};
+ghost use Rattle.pef_move.specs.Route.{code_for, CanBegin, HasBegun};
 
 use crate::page_call::PageCall;
 use crate::route::{Route, route_of};
@@ -42,6 +42,7 @@ pub fn page_out_begin<S: Seal>(guest: &mut Guest<S>, cpu: &mut Cpu, call: &PageC
     ensures cpu { KeepsCpu cpu.old cpu.new }
     ensures leaves { BeginsOrBack guest.new cpu.new cpu.new.ctx }
     ensures sealer { (tag : Tag) (page sealed : List ℕ) → tag.gfn ≢ call.now.gpa / 2 ^ guest.old.shift → S.stands guest.new.sealer tag page sealed ↔ S.stands guest.old.sealer tag page sealed }
+    ensures code { (code : Code) → (result ≡ Answer.Ret code) ↔ (code_for guest.old call.now ≡ Some code) }
     ensures refused { RefusesCall call.now guest.old guest.new cpu.old cpu.new result }
     ensures row { BeginsPageOut S.stands S.image call.now guest.old guest.new cpu.old cpu.new result }
 {
@@ -102,6 +103,7 @@ pub fn page_out_end<S: Seal>(
     ensures back { ComesBackWith cpu.old cpu.new result }
     ensures sealer { guest.new.sealer ≡ guest.old.sealer }
     ensures old { EndsOld outward guest.old guest.new cpu.old cpu.new pool.old pool.new result }
+    ensures ended { EndsNow outward guest.old guest.new pool.old pool.new result }
     ensures parameter { result ≡ Answer.Ret Code.UParameter → outward.generation ≢ guest.old.generation }
     ensures row { EndsPageOut S.stands S.image outward guest.old guest.new cpu.old cpu.new pool.old pool.new result }
 {

@@ -1,4 +1,4 @@
-//! Each step of a page-out, and each code with which it comes back at once. Sealed bytes and digests are Python's.
+//! Each step of a page-out, and the refusals that no script reaches. Sealed bytes and digests are Python's.
 
 ghost use Rattle.std.specs.Prelude.{◌≡◌, ◌<◌, length, IfOk, IfSome};
 ghost use Rattle.pef_model.specs.Plan.{IsInRange};
@@ -6,12 +6,12 @@ ghost use Rattle.pef_frames.specs.Pool.{full_pool};
 ghost use Rattle.pef_guest.specs.Whole.{IsOutside, IsWhole};
 
 use super::*;
-use pef_frames::{NormalFrame, Pool};
+use pef_frames::{NormalFrame, Pool, SecFrame};
 use pef_guest::{Cpu, Guest};
-use pef_model::{Answer, Code, Config, Ctx, Digest32, Kind, Move, Mover, Phase, Way, Work};
+use pef_model::{Answer, Code, Config, Ctx, Digest32, Kind, Move, Phase, Work};
+use pef_pages::Pages;
 use pef_seal::{Seal, StreamSeal};
 use std::alloc::{AllocError, Global};
-use std::process::Abort;
 use std::test::Fail;
 
 // What a page of zeros is sealed as, under the key of zeros and the tag of guest 2, generation 1, page 0 and version 1; and
@@ -131,38 +131,24 @@ pub(crate) fn outward_of(cpu: &Cpu) -> Option<Move>
     }
 }
 
-// What a call is answered by a guest in a phase that has pages, which it leaves as it was.
-fn refused(rt: &impl Abort, alloc: Global, phase: Phase, call: &PageCall) -> Result<Answer, Fail>
+// What a call is answered by guest 2 in a phase that has pages.
+fn refused(alloc: Global, phase: Phase, call: &PageCall) -> Result<Answer, AllocError>
     requires phase { IsOutside phase → ⊥ }
     requires named { call.now.lpid ≡ 2 }
 {
     let mut pool = Pool::build(alloc, 4, 256)?;
     let mut guest = guest_in(alloc, &mut pool, phase)?;
     let mut cpu = Cpu::build(alloc, 1, 256)?;
-    let answer = page_out_begin(&mut guest, &mut cpu, call);
-    assert_eq!(rt; cpu.ctx, Ctx::Hv);
-    assert_eq!(rt; cpu.last, answer);
-    assert_eq!(rt; cpu.hand(), [0; 256].as_slice());
-    assert_eq!(rt;
-        &cpu.gpr[4..9],
-        [call.lpid, call.ra, call.gpa, call.flags, call.order].as_slice()
-    );
-    assert_eq!(rt; (guest.phase, guest.generation), (phase, 1));
-    assert_eq!(rt; guest.pages.kind(0), Kind::Secure);
-    assert_eq!(rt;
-        guest.pages.kind(1),
-        Kind::Shared {
-            frame: None,
-            fresh: true
-        }
-    );
-    assert_eq!(rt; guest.pages.kind(2), Kind::Invalid);
-    for gfn in 0..3 {
-        assert_eq!(rt; guest.pages.mover(gfn), None);
-        assert_eq!(rt; guest.pages.version(gfn), 0);
-    }
-    assert_eq!(rt; pool.free(), 3);
-    Ok(answer)
+    Ok(page_out_begin(&mut guest, &mut cpu, call))
+}
+
+// Whether page 0 is Out with its digest, and at rest.
+fn is_out(pages: &Pages<SecFrame>) -> bool
+    requires { length pages.now.pages ≡ 3 }
+{
+    pages.kind(0) == Kind::Out
+        && pages.mover(0).is_none()
+        && pages.digest(0) == Some(Digest32 { bytes: DIGEST })
 }
 
 #[test]
@@ -170,89 +156,36 @@ fn a_page_goes_out(rt: HostRuntime) -> Result<(), Fail> {
     let mut pool = Pool::build(rt.alloc(), 4, 256)?;
     let mut guest = guest_in(rt.alloc(), &mut pool, Phase::Secure)?;
     let mut cpu = Cpu::build(rt.alloc(), 1, 256)?;
+    let mut frame = NormalFrame::build(rt.alloc(), 256)?;
     let begun = page_out_begin(&mut guest, &mut cpu, &call(0));
     assert_eq!(rt; (begun, cpu.last), (Answer::Step, Answer::Step));
     let outward = outward_of(&cpu).expect(&rt, "a page is on its way");
     assert_eq!(rt; outward, OUTWARD);
-    let mut frame = NormalFrame::build(rt.alloc(), 256)?;
-    let copied = page_out_copy(&mut cpu, outward, &mut frame);
-    assert_eq!(rt; copied, Answer::Step);
+    page_out_copy(&mut cpu, outward, &mut frame);
     assert_eq!(rt; frame.bytes(), SEALED.as_slice());
     let outward = outward_of(&cpu).expect(&rt, "the page is still on its way");
-    let want = Move {
-        copied: true,
-        ..OUTWARD
-    };
-    assert_eq!(rt; outward, want);
+    assert!(rt; outward.copied);
     let ended = page_out_end(&mut guest, &mut cpu, outward, &mut pool);
     assert_eq!(rt; (ended, cpu.ctx), (Answer::Ret(Code::USuccess), Ctx::Hv));
     assert_eq!(rt; &cpu.gpr[3..9], [0, 2, 0x300, 0, 0, 8].as_slice());
-    assert_eq!(rt; guest.pages.kind(0), Kind::Out);
-    assert_eq!(rt; guest.pages.digest(0), Some(Digest32 { bytes: DIGEST }));
-    assert_eq!(rt; (guest.pages.mover(0), pool.free()), (None, 4));
-    let again = page_out_begin(&mut guest, &mut cpu, &call(0));
-    assert_eq!(rt; again, Answer::Ret(Code::UP3));
+    assert!(rt; is_out(&guest.pages));
+    assert_eq!(rt; pool.free(), 4);
     Ok(())
 }
 
-#[test]
-fn a_page_on_the_move_is_busy(rt: HostRuntime) -> Result<(), Fail> {
-    let mut pool = Pool::build(rt.alloc(), 4, 256)?;
-    let mut guest = guest_in(rt.alloc(), &mut pool, Phase::Secure)?;
-    let mut first = Cpu::build(rt.alloc(), 1, 256)?;
-    let mut second = Cpu::build(rt.alloc(), 2, 256)?;
-    assert_eq!(rt;
-        page_out_begin(&mut guest, &mut first, &call(0)),
-        Answer::Step
-    );
-    let busy = page_out_begin(&mut guest, &mut second, &call(0));
-    assert_eq!(rt; busy, Answer::Ret(Code::UBusy));
-    assert_eq!(rt; second.hand(), [0; 256].as_slice());
-    assert_eq!(rt; guest.pages.kind(0), Kind::Secure);
-    let mover = Mover {
-        cpu: 1,
-        way: Way::Outward,
-    };
-    assert_eq!(rt; guest.pages.mover(0), Some(mover));
-    assert_eq!(rt; guest.pages.version(0), 1);
-    Ok(())
-}
-
-// The operands and the code, the first wrong operand from the left to the right; then pairs of wrong ones.
-const REFUSED: [(Phase, u64, u64, u64, u64, Code); 22] = [
-    (Phase::Aborting, 0x300, 0, 0, 8, Code::UParameter),
-    (Phase::Secure, 0x301, 0, 0, 8, Code::UP2),
-    (Phase::Secure, 0x380, 0, 0, 8, Code::UP2),
-    (Phase::Secure, 0x1000, 0, 0, 8, Code::UP2),
-    (Phase::Secure, 0x100_0000_0000, 0, 0, 8, Code::UP2),
-    (Phase::Secure, 0x300, 0x80, 0, 8, Code::UP3),
-    (Phase::Secure, 0x300, 0x300, 0, 8, Code::UP3),
-    (Phase::Secure, 0x300, 0x100_0000_0000, 0, 8, Code::UP3),
-    (Phase::Secure, 0x300, 0x200, 0, 8, Code::UP3),
-    (Phase::Secure, 0x300, 0, 1, 8, Code::UFunction),
-    (Phase::Secure, 0x300, 0, 2, 8, Code::UP4),
-    (Phase::Secure, 0x300, 0, 3, 8, Code::UP4),
-    (Phase::Secure, 0x300, 0, 0, 9, Code::UP5),
-    (Phase::Secure, 0x300, 0x100, 0, 8, Code::USuccess),
-    (Phase::Starting, 0x300, 0x100, 0, 8, Code::USuccess),
-    (Phase::Starting, 0xf00, 0, 0, 8, Code::UBusy),
-    (Phase::Aborting, 0x301, 0, 0, 8, Code::UParameter),
-    (Phase::Secure, 0x301, 0x200, 0, 8, Code::UP2),
-    (Phase::Secure, 0x300, 0x200, 1, 8, Code::UP3),
-    (Phase::Secure, 0x300, 0, 2, 9, Code::UP4),
-    (Phase::Secure, 0x300, 0x100, 0, 9, Code::UP5),
-    (Phase::Starting, 0x300, 0, 0, 9, Code::UP5),
+// Operands that are wrong, or of a page that is Shared, and the code.
+const REFUSED: [(u64, u64, u64, u64, Code); 6] = [
+    (0x100_0000_0000, 0, 0, 8, Code::UP2),
+    (0x300, 0x100_0000_0000, 0, 8, Code::UP3),
+    (0x300, 0, 3, 8, Code::UP4),
+    (0x300, 0, 0, 9, Code::UP5),
+    (0x300, 0x100, 0, 9, Code::UP5),
+    (0x300, 0x100, 0, 8, Code::USuccess),
 ];
 
 #[test]
 fn wrong_operands_come_back(rt: HostRuntime) -> Result<(), Fail> {
-    for (phase, ra, gpa, flags, order, code) in REFUSED {
-        // Each row's phase is one of those in which a guest has pages.
-        let phase = match phase {
-            Phase::Aborting => Phase::Aborting,
-            Phase::Starting => Phase::Starting,
-            Phase::Absent | Phase::Normal | Phase::Secure => Phase::Secure,
-        };
+    for (ra, gpa, flags, order, code) in REFUSED {
         let call = PageCall {
             lpid: 2,
             ra,
@@ -260,25 +193,33 @@ fn wrong_operands_come_back(rt: HostRuntime) -> Result<(), Fail> {
             flags,
             order,
         };
-        let answer = refused(&rt, rt.alloc(), phase, &call)?;
-        assert_eq!(rt; answer, Answer::Ret(code), "{phase:?} {call:?}");
+        let secure = refused(rt.alloc(), Phase::Secure, &call)?;
+        assert_eq!(rt; secure, Answer::Ret(code), "{call:?}");
+        let starting = refused(rt.alloc(), Phase::Starting, &call)?;
+        assert_eq!(rt; starting, Answer::Ret(code), "{call:?}");
+        let aborting = refused(rt.alloc(), Phase::Aborting, &call)?;
+        assert_eq!(rt; aborting, Answer::Ret(Code::UParameter));
     }
+    let starting = refused(rt.alloc(), Phase::Starting, &call(0))?;
+    assert_eq!(rt; starting, Answer::Ret(Code::UBusy));
     Ok(())
+}
+
+// What a call is answered by guest 2 in a phase in which nothing is private.
+fn refused_outside(alloc: Global, phase: Phase, gpa: u64) -> Result<Answer, AllocError>
+    requires phase { IsOutside phase }
+{
+    let mut guest = guest_outside(alloc, phase)?;
+    let mut cpu = Cpu::build(alloc, 1, 256)?;
+    Ok(page_out_begin(&mut guest, &mut cpu, &call(gpa)))
 }
 
 #[test]
 fn a_guest_that_is_not_private_has_no_page_to_go_out(rt: HostRuntime) -> Result<(), Fail> {
-    let mut absent = guest_outside(rt.alloc(), Phase::Absent)?;
-    let mut normal = guest_outside(rt.alloc(), Phase::Normal)?;
-    let mut cpu = Cpu::build(rt.alloc(), 1, 256)?;
-    let answer = page_out_begin(&mut absent, &mut cpu, &call(0));
-    assert_eq!(rt; answer, Answer::Ret(Code::UParameter));
-    assert_eq!(rt; cpu.gpr[3], 1);
-    assert_eq!(rt; absent.pages.kind(0), Kind::Invalid);
-    let mut cpu = Cpu::build(rt.alloc(), 1, 256)?;
-    let answer = page_out_begin(&mut normal, &mut cpu, &call(0x301));
-    assert_eq!(rt; answer, Answer::Ret(Code::UParameter));
-    assert_eq!(rt; normal.pages.kind(0), Kind::Invalid);
+    let absent = refused_outside(rt.alloc(), Phase::Absent, 0)?;
+    assert_eq!(rt; absent, Answer::Ret(Code::UParameter));
+    let normal = refused_outside(rt.alloc(), Phase::Normal, 0x301)?;
+    assert_eq!(rt; normal, Answer::Ret(Code::UParameter));
     Ok(())
 }
 
@@ -287,17 +228,15 @@ fn a_call_that_names_no_guest_comes_back(rt: HostRuntime) -> Result<(), Fail> {
     let mut cpu = Cpu::build(rt.alloc(), 1, 256)?;
     let answer = page_out_of_none(&mut cpu, &call(0));
     assert_eq!(rt; answer, Answer::Ret(Code::UParameter));
-    assert_eq!(rt; cpu.last, answer);
-    assert_eq!(rt; cpu.ctx, Ctx::Hv);
     assert_eq!(rt; &cpu.gpr[3..9], [1, 2, 0x300, 0, 0, 8].as_slice());
     Ok(())
 }
 
-#[test]
-fn an_end_in_a_later_generation_leaves_the_page(rt: HostRuntime) -> Result<(), Fail> {
-    let mut pool = Pool::build(rt.alloc(), 4, 256)?;
-    let mut guest = guest_in(rt.alloc(), &mut pool, Phase::Secure)?;
-    let mut cpu = Cpu::build(rt.alloc(), 1, 256)?;
+// What the end of a page-out of an older generation answers, and what page 0 and the pool are then.
+fn ends_late(alloc: Global) -> Result<(Answer, Kind, u32), AllocError> {
+    let mut pool = Pool::build(alloc, 4, 256)?;
+    let mut guest = guest_in(alloc, &mut pool, Phase::Secure)?;
+    let mut cpu = Cpu::build(alloc, 1, 256)?;
     let outward = Move {
         generation: 0,
         copied: true,
@@ -305,11 +244,12 @@ fn an_end_in_a_later_generation_leaves_the_page(rt: HostRuntime) -> Result<(), F
     };
     cpu.ctx = Ctx::Uv(Work::Outward(outward));
     let answer = page_out_end(&mut guest, &mut cpu, outward, &mut pool);
-    assert_eq!(rt; answer, Answer::Ret(Code::UParameter));
-    assert_eq!(rt; cpu.ctx, Ctx::Hv);
-    assert_eq!(rt; cpu.gpr[3], 1);
-    assert_eq!(rt; guest.pages.kind(0), Kind::Secure);
-    assert_eq!(rt; guest.pages.mover(0), None);
-    assert_eq!(rt; pool.free(), 3);
+    Ok((answer, guest.pages.kind(0), pool.free()))
+}
+
+#[test]
+fn an_end_in_a_later_generation_leaves_the_page(rt: HostRuntime) -> Result<(), Fail> {
+    let late = ends_late(rt.alloc())?;
+    assert_eq!(rt; late, (Answer::Ret(Code::UParameter), Kind::Secure, 3));
     Ok(())
 }

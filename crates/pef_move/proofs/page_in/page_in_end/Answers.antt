@@ -28,11 +28,11 @@ returns-then-not-is_kept-clause-frames g c =
     (refused_frames c.args.guest.now c.args.cpu.now c.args.inward (moving_below c.args.guest.now.pages c.args.inward.gfn _ moves) moves c.refuse.ensures.frame c.args.pool.now c.refuse.ensures.there)
 
 pub returns-then-not-is_kept-clause-row : goal.returns-then-not-is_kept-clause-row
-returns-then-not-is_kept-clause-row g c plan guest part mark shows shows_cpu apart =
+returns-then-not-is_kept-clause-row g c plan guest part mark shows shows_cpu clean =
     let moves = (c.requires.ready c.if-inward-guest.false).0 in
     let test = subst (λ (hand : List ℕ). IsTrue c.is_kept.result ↔ (digest_at c.args.guest.now.pages c.args.inward.gfn ≡ Some (digest_by hand))) c.hand.ensures c.is_kept.ensures in
     rw (c.come_back-then-not-is_kept.ensures.answer, c.come_back-then-not-is_kept.ensures.cpu, c.refuse.ensures.pages, c.refuse.ensures.pool_is)
-    (row_refused g.S.Seal.stands g.S.Seal.image plan guest part mark c.args.guest.now c.args.cpu.now c.args.inward c.args.pool.now (moving_below c.args.guest.now.pages c.args.inward.gfn _ moves) moves shows shows_cpu c.if-inward-guest.false apart
+    (row_refused g.S.Seal.stands g.S.Seal.image plan guest part mark c.args.guest.now c.args.cpu.now c.args.inward c.args.pool.now (moving_below c.args.guest.now.pages c.args.inward.gfn _ moves) moves shows shows_cpu c.if-inward-guest.false clean
     c.is_kept.result test c.if-not-is_kept.true c.refuse.ensures.frame.number)
 
 -- A page that was accepted is Secure with what the hand unsealed to.
@@ -53,13 +53,13 @@ returns-clause-frames g c =
     (accepted_frames c.args.guest.now c.args.cpu.now c.args.inward below moves c.unseal.ensures.frame c.unseal.ensures.there c.unseal.ensures.bytes c.unseal.ensures.size c.args.pool.now)
 
 pub returns-clause-row : goal.returns-clause-row
-returns-clause-row g c plan guest part mark shows shows_cpu apart =
+returns-clause-row g c plan guest part mark shows shows_cpu clean =
     let moves = (c.requires.ready c.if-inward-guest.false).0 in
     let below = moving_below c.args.guest.now.pages c.args.inward.gfn _ moves in
     let test = subst (λ (hand : List ℕ). IsTrue c.is_kept.result ↔ (digest_at c.args.guest.now.pages c.args.inward.gfn ≡ Some (digest_by hand))) c.hand.ensures c.is_kept.ensures in
     rw (c.come_back-2.ensures.answer, c.come_back-2.ensures.cpu)
-    (subst (λ (new : Guest g.row.S.Denot). RowOf g.S.Seal.stands g.S.Seal.image plan guest part mark c.args.guest.now c.args.cpu.now c.args.inward c.args.pool.now below moves shows shows_cpu c.if-inward-guest.false apart c.is_kept.result test new USuccess (length c.args.pool.now.free))
+    (subst (λ (new : Guest g.row.S.Denot). RowOf g.S.Seal.stands g.S.Seal.image plan guest part mark c.args.guest.now c.args.cpu.now c.args.inward c.args.pool.now below moves shows shows_cpu c.if-inward-guest.false clean c.is_kept.result test new USuccess (length c.args.pool.now.free))
     (sym (accepted_guest c.args.guest.now c.args.cpu.now c.args.inward below moves c.unseal.ensures.frame c.unseal.ensures.there c.unseal.ensures.bytes c.unseal.ensures.size c.unseal.new.guest c.end_in.new.self c.unseal.ensures.guest_is c.end_in.ensures.pages))
-    (row_accepted g.S.Seal.stands g.S.Seal.image plan guest part mark c.args.guest.now c.args.cpu.now c.args.inward c.args.pool.now below moves shows shows_cpu c.if-inward-guest.false apart
+    (row_accepted g.S.Seal.stands g.S.Seal.image plan guest part mark c.args.guest.now c.args.cpu.now c.args.inward c.args.pool.now below moves shows shows_cpu c.if-inward-guest.false clean
     c.is_kept.result test c.if-not-is_kept.false c.requires.whole.shift c.unseal.ensures.frame c.unseal.ensures.there c.unseal.ensures.bytes c.unseal.ensures.size
     (λ page stands. c.unseal.ensures.plain page (subst (λ (hand : List ℕ). g.S.Seal.stands c.args.guest.now.sealer (last_tag c.args.guest.now c.args.inward.gfn) page hand) (sym c.hand-2.ensures) stands))))
