@@ -1,5 +1,5 @@
 -- A step that does what its row says makes the one entry that the model gives.
-use Rattle.std.proofs.Common.{◌≡◌, ℕ, ◌+◌, ◌<◌, ◌==◌, Bool, true, false, if◌then◌else◌, List, ◌∷◌, length, Option, Some, None, refl, ap, sym, subst, ◌∙◌}
+use Rattle.std.proofs.Common.{◌≡◌, ℕ, ◌+◌, ◌<◌, ◌==◌, Bool, true, false, List, ◌∷◌, length, Some, None, refl, ap, sym, subst, ◌∙◌}
 use Rattle.std.specs.Prelude.{slice_get, slice_set}
 use Rattle.std.proofs.Math.ListN.{length-set}
 use Rattle.pef_model.specs.declared.state.Run.{Run}
@@ -9,18 +9,17 @@ use Rattle.pef_model.specs.declared.state.Ctx.{Ctx}
 use Rattle.pef_model.specs.declared.state.Ctx.TheVariants as ctx
 use Rattle.pef_model.specs.declared.state.Tag.{Tag}
 use Rattle.pef_model.specs.declared.command.Cmd.{Cmd}
-use Rattle.pef_model.specs.declared.command.Cmd.TheVariants.{HLd, HSt, UPagein, UPageout, UReturn, GLi, GLd, GSt, GIrq, Go}
+use Rattle.pef_model.specs.declared.command.Cmd.TheVariants.{HLd, HSt, UPagein, UPageout, UReturn, Go}
 use Rattle.pef_model.specs.declared.entry.Answer.{Answer}
 use Rattle.pef_model.specs.declared.entry.Answer.TheVariants as answer
-use Rattle.pef_model.specs.declared.entry.PoolSaw.{PoolSaw}
 use Rattle.pef_model.specs.Plan.{Plan}
 use Rattle.pef_model.specs.Event.{Event, Mark}
-use Rattle.pef_model.specs.Target.{Ask, Target, Alone, AtGuest, is_guest, target_of_address, target_in, touches_guest, has_real_place}
+use Rattle.pef_model.specs.Target.{Ask, Alone, AtGuest, is_guest, target_of_address, target_in, touches_guest, has_real_place}
 use Rattle.pef_model.specs.Cpu.{CpuPart, next_cpu}
 use Rattle.pef_model.specs.Guest.{Guest as GuestWhole}
 use Rattle.pef_model.specs.Memory.{pool_with}
 use Rattle.pef_model.specs.Deed.{deed_alone, deed_return}
-use Rattle.pef_model.specs.History.{ask_of, cpu_after, guest_after, pool_after, frame_after, deed_after, entry_of, next_entry}
+use Rattle.pef_model.specs.History.{ask_of, cpu_after, guest_after, pool_after, frame_after, entry_of, next_entry}
 use Rattle.pef_model.proofs.Aims.{address_is_no_guest}
 use Rattle.pef_frames.specs.Pool.{PoolState}
 use Rattle.pef_guest.specs.declared.cpu.Cpu.{Cpu}

@@ -6,9 +6,9 @@ use Rattle.pef_model.specs.declared.state.Work.{Work}
 use Rattle.pef_model.specs.declared.state.Work.TheVariants.{Inward, Outward}
 use Rattle.pef_model.specs.declared.state.Ctx.TheVariants as ctx
 use Rattle.pef_model.specs.declared.command.Code.{Code}
-use Rattle.pef_model.specs.declared.command.Code.TheVariants.{USuccess, UParameter, UP2, UBusy, UInvalid}
+use Rattle.pef_model.specs.declared.command.Code.TheVariants.{USuccess, UParameter, UInvalid}
 use Rattle.pef_model.specs.declared.command.Cmd.{Cmd}
-use Rattle.pef_model.specs.declared.command.Cmd.TheVariants.{HLd, HSt, UPagein, UPageout, UReturn, GLi, GLd, GSt, GIrq, Go}
+use Rattle.pef_model.specs.declared.command.Cmd.TheVariants.{HLd, HSt, GLd, GSt, Go}
 use Rattle.pef_model.specs.declared.entry.Answer.{Answer}
 use Rattle.pef_model.specs.declared.entry.Answer.TheVariants as answer
 use Rattle.pef_model.specs.Plan.{Plan}
@@ -19,7 +19,7 @@ use Rattle.pef_model.specs.GuestPart.{GuestPart}
 use Rattle.pef_model.specs.Guest.{Guest as GuestWhole, private_doubleword}
 use Rattle.pef_model.specs.PageOut.{page_out_code}
 use Rattle.pef_model.specs.PageIn.{page_in_operands, is_last_sealed}
-use Rattle.pef_model.specs.Deed.{Deed, Reach, NoPage, InFrame, Backs, NoFrame, Moves, answering, returning, giving, coming_back, deed_access, deed_alone, deed_frame, deed_running, deed_gone, deed_return, deed_page_out, deed_page_out_begin, deed_page_out_end, deed_page_in, deed_page_in_begin, deed_page_in_end, deed_page_in_test, deed_page_in_with, taking, may_return_in, is_waiting, reach}
+use Rattle.pef_model.specs.Deed.{Deed, Reach, NoPage, InFrame, Backs, NoFrame, Moves, answering, returning, giving, coming_back, deed_access, deed_alone, deed_frame, deed_running, deed_gone, deed_return, deed_page_out, deed_page_out_begin, deed_page_out_end, deed_page_in, deed_page_in_end, deed_page_in_test, deed_page_in_with, may_return_in, is_waiting, reach}
 use Rattle.pef_model.specs.History.{ask_of, cpu_after, guest_after, pool_after, frame_after, deed_after, entry_of, next_entry, next_entry_by}
 use Rattle.pef_guest.specs.Rows.{ask_hypervisor, ask_reading, ask_inward, ask_outward}
 use Rattle.pef_core.specs.Rows.{ask_running, deed_at_address, is_no_guests}

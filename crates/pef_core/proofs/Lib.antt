@@ -24,3 +24,4 @@ pub mod Accesses
 pub mod Begun
 pub mod Refusals
 pub mod Leaving
+pub mod Alone

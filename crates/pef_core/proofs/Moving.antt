@@ -15,7 +15,7 @@ use Rattle.pef_frames.specs.Frame.{FrameState}
 use Rattle.pef_pages.specs.declared.cell.Cell.{Cell}
 use Rattle.pef_pages.specs.declared.cell.Cell.TheVariants as cell
 use Rattle.pef_pages.specs.Cells.{mover_of, frame_in}
-use Rattle.pef_pages.specs.Pages.{cell_at, mover_at, frame_at}
+use Rattle.pef_pages.specs.Pages.{cell_at, mover_at}
 use Rattle.pef_guest.specs.declared.cpu.Cpu.{Cpu}
 use Rattle.pef_guest.specs.declared.guest.Guest.{Guest}
 use Rattle.pef_guest.specs.Keeps.{KeepsGuest}
@@ -23,7 +23,7 @@ use Rattle.pef_move.specs.PageOut.{BeginsOrBack, KeepsCpu, ComesBackWith}
 use Rattle.pef_move.specs.PageIn.{ComesOrBack}
 use Rattle.pef_core.specs.Normal.{NormalState}
 use Rattle.pef_core.specs.State.{State, HasContext, HasSteps, IsCpuOf, IsGuestOf, IsMoveOf, IsWholeMachine, IsVcpu, MovesPage, Works, FramesOnce}
-use Rattle.pef_core.proofs.WholeAfter.{vcpu_stays, cpu_with}
+use Rattle.pef_core.proofs.WholeAfter.{vcpu_stays}
 use Rattle.pef_core.proofs.Places.{read_at, found_cpu, get_set}
 use Rattle.pef_core.proofs.Room.{room}
 

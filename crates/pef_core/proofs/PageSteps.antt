@@ -1,5 +1,5 @@
 -- The steps of a page's move make the entries that the model gives.
-use Rattle.std.proofs.Common.{◌≡◌, ◌≢◌, ℕ, ◌+◌, ◌<◌, ◌==◌, Bool, true, false, ◌&&◌, nat_le, nat_lt, if◌then◌else◌, List, ◌∷◌, length, Option, Some, None, refl, ap, sym, subst, ◌∙◌}
+use Rattle.std.proofs.Common.{◌≡◌, ℕ, ◌+◌, ◌<◌, Bool, true, false, ◌&&◌, nat_le, nat_lt, if◌then◌else◌, List, length, Some, None, refl, ap, sym, subst, ◌∙◌}
 use Rattle.std.specs.Prelude.{slice_get, slice_set}
 use Rattle.pef_model.specs.declared.state.Move.{Move}
 use Rattle.pef_model.specs.declared.state.Work.{Work}
@@ -13,7 +13,7 @@ use Rattle.pef_model.specs.declared.entry.Answer.{Answer}
 use Rattle.pef_model.specs.declared.entry.Answer.TheVariants as answer
 use Rattle.pef_model.specs.Plan.{Plan}
 use Rattle.pef_model.specs.Event.{Event, Mark}
-use Rattle.pef_model.specs.Target.{Ask, Target, Alone, AtGuest, AtFrame, is_guest, target_in, target_of_number, target_of_move, target_of_work}
+use Rattle.pef_model.specs.Target.{Ask, Alone, AtGuest, AtFrame, is_guest, target_in, target_of_number, target_of_move, target_of_work}
 use Rattle.pef_model.specs.Registers.{load_page_in, load_page_out, with_code}
 use Rattle.pef_model.specs.Cpu.{CpuPart, next_cpu}
 use Rattle.pef_model.specs.Guest.{Guest as GuestWhole}
@@ -25,11 +25,11 @@ use Rattle.pef_frames.specs.Pool.{PoolState}
 use Rattle.pef_guest.specs.declared.cpu.Cpu.{Cpu}
 use Rattle.pef_guest.specs.declared.guest.Guest.{Guest}
 use Rattle.pef_guest.specs.Shows.{ShowsCpu, Shows}
-use Rattle.pef_guest.specs.Rows.{RowWithPool, ask_hypervisor, ask_reading, ask_inward, ask_outward}
+use Rattle.pef_guest.specs.Rows.{RowWithPool, ask_hypervisor, ask_reading, ask_outward}
 use Rattle.pef_move.specs.declared.page_call.PageCall.{PageCall}
 use Rattle.pef_move.specs.PageOut.{BeginsPageOut, RowCopy, CopiesPageOut, EndsPageOut}
-use Rattle.pef_move.specs.PageIn.{BeginsPageIn, RowRead, CopiesPageIn, EndsOldIn, EndsPageIn}
-use Rattle.pef_core.specs.Normal.{ShowsNormal, frame_at}
+use Rattle.pef_move.specs.PageIn.{BeginsPageIn, RowRead, CopiesPageIn, EndsPageIn}
+use Rattle.pef_core.specs.Normal.{frame_at}
 use Rattle.pef_core.specs.State.{State}
 use Rattle.pef_core.specs.Steps.{Fits, Continues}
 use Rattle.pef_core.proofs.Fitting.{frame_read, frame_written}
@@ -138,12 +138,12 @@ module _ {S : Type 0} (stands : S → Tag → List ℕ → List ℕ → Type 0) 
         at_end (Outward move) move working copied lpid_is refl (λ c is. ask_in_outward c move is) (λ g ask. out_unframed g.part ask move)
         (λ plan past mark fits clean. does plan (guest_after plan (i + 1) past) (cpu_after plan n past) mark (fits.guests i guest here) (fits.cpus n cpu there))
 
-    pub in_continues : (move : Move) → cpu.ctx ≡ ctx.Uv (Inward move) → move.copied ≡ true → move.lpid ≡ i + 1 → EndsPageIn stands image move guest new_guest cpu new_cpu old.pool pool a → EndsOldIn move guest new_guest cpu new_cpu old.pool pool a →
+    pub in_continues : (move : Move) → cpu.ctx ≡ ctx.Uv (Inward move) → move.copied ≡ true → move.lpid ≡ i + 1 → EndsPageIn stands image move guest new_guest cpu new_cpu old.pool pool a →
         Continues stands image old (record old { cpus = slice_set old.cpus n new_cpu; guests = slice_set old.guests i new_guest; pool = pool }) n Go a
-    in_continues move working copied lpid_is does ends_old =
+    in_continues move working copied lpid_is does =
         at_end (Inward move) move working copied lpid_is refl (λ c is. ask_in_test c move is copied) (λ g ask. in_unframed g.part ask move)
         (λ plan past mark fits clean.
-        in_row stands image plan past mark move guest new_guest cpu new_cpu old.pool pool a n (i + 1) lpid_is copied (fits.guests i guest here) (fits.cpus n cpu there) does ends_old clean)
+        in_row stands image plan past mark move guest new_guest cpu new_cpu old.pool pool a n (i + 1) lpid_is copied (fits.guests i guest here) (fits.cpus n cpu there) does clean)
 
   -- the copy of a page-out, into the normal frame that the call names
   pub written_continues : (move : Move) (new_cpu : Cpu) (a : Answer) → cpu.ctx ≡ ctx.Uv (Outward move) → move.copied ≡ false → move.frame < length old.normal.frames →

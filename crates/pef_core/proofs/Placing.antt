@@ -1,10 +1,9 @@
 -- Each page of a machine lies where the model says that its copy counts.
-use Rattle.std.proofs.Common.{◌≡◌, ℕ, ◌+◌, ◌%◌, ◌^◌, ◌<◌, true, false, Bool, if◌then◌else◌, List, length, Option, Some, None, IsSome, refl, ap, sym, subst, ◌∙◌}
+use Rattle.std.proofs.Common.{◌≡◌, ℕ, ◌+◌, ◌%◌, ◌^◌, ◌<◌, false, Bool, if◌then◌else◌, List, Option, Some, None, IsSome, refl, ap, sym, subst, ◌∙◌}
 use Rattle.std.specs.Prelude.{slice_get, option_map}
 use Rattle.std.proofs.lemmas.Bool.{false≢true}
 use Rattle.pef_model.specs.declared.state.Kind.{Kind}
 use Rattle.pef_model.specs.declared.state.Kind.TheVariants as kind
-use Rattle.pef_model.specs.declared.state.Way.{Way}
 use Rattle.pef_model.specs.declared.state.Way.TheVariants.{Inward, Outward}
 use Rattle.pef_model.specs.declared.state.Mover.{Mover}
 use Rattle.pef_model.specs.declared.state.Digest32.{Digest32}
@@ -13,16 +12,15 @@ use Rattle.pef_model.specs.Plan.{Plan}
 use Rattle.pef_model.specs.Event.{Event}
 use Rattle.pef_model.specs.Doubleword.{doubleword}
 use Rattle.pef_model.specs.GuestPart.{Page, page_of, is_invalid}
-use Rattle.pef_model.specs.Guest.{Guest as GuestWhole}
 use Rattle.pef_model.specs.Memory.{offset_of}
-use Rattle.pef_model.specs.Authority.{Copy, InSealedBytes, authority_by}
+use Rattle.pef_model.specs.Authority.{InSealedBytes, authority_by}
 use Rattle.pef_model.specs.History.{guest_after, last_store, IsLegal}
 use Rattle.pef_model.specs.MoveLaw.{KeepsWhatIsSealed, IsMovedBy, page_after, EachCpuMovesItsPageIn, EachMoverHasItsCall, EachPageKeepsWhatIsSealed}
 use Rattle.pef_frames.specs.Frame.{FrameState}
 use Rattle.pef_pages.specs.declared.cell.Cell.{Cell}
 use Rattle.pef_pages.specs.declared.cell.Cell.TheVariants as cell
 use Rattle.pef_pages.specs.Cells.{kind_of, mover_of, digest_of, frame_in}
-use Rattle.pef_pages.specs.Pages.{cell_at, kind_at, mover_at, digest_at, frame_at}
+use Rattle.pef_pages.specs.Pages.{cell_at, kind_at, digest_at, frame_at}
 use Rattle.pef_guest.specs.declared.guest.Guest.{Guest}
 use Rattle.pef_guest.specs.Shows.{Shows, kept_in, digest_by, first_there, sealed_of}
 use Rattle.pef_core.specs.State.{State, IsGuestOf, IsWholeMachine}

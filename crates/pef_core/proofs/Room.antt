@@ -1,16 +1,15 @@
 -- The pool has room for a frame that a page has, since each frame is in one place.
-use Rattle.std.proofs.Common.{◌≡◌, ◌≢◌, ℕ, zero, suc, ◌+◌, ◌<◌, ◌≤◌, ◌==◌, nat_lt, cond, if◌then◌else◌, Bool, true, false, List, [], ◌∷◌, ◌++◌, length, filter_map, Option, Some, None, refl, ap, sym, subst, ◌∙◌, ◌⊎◌, inl, inr, arith, zero-add}
+use Rattle.std.proofs.Common.{◌≡◌, ◌≢◌, ℕ, zero, suc, ◌+◌, ◌<◌, ◌≤◌, ◌==◌, nat_lt, cond, if◌then◌else◌, Bool, true, false, List, [], ◌∷◌, ◌++◌, length, filter_map, Option, Some, None, refl, ap, sym, subst, ◌∙◌, ◌⊎◌, inl, inr, arith}
 use Rattle.std.specs.Prelude.{slice_get, slice_index_or}
 use Rattle.std.specs.List.{count_by, flat_map, cons_option}
 use Rattle.std.proofs.lemmas.Bool.{cases_eq}
 use Rattle.std.proofs.lemmas.Bool.Decides.{nat_tests}
 use Rattle.std.proofs.lemmas.List.Sums.{sum_by-append, sum_by-cons}
-use Rattle.pef_model.proofs.Folds.{same_test}
 use Rattle.pef_frames.specs.Frame.{FrameState, numbers_of}
 use Rattle.pef_frames.specs.PoolLaw.{times_free}
 use Rattle.pef_pages.specs.declared.page.Page.{Page}
 use Rattle.pef_pages.specs.Cells.{frame_in}
-use Rattle.pef_pages.specs.Pages.{PagesState, invalid_page, frame_at, held}
+use Rattle.pef_pages.specs.Pages.{invalid_page, frame_at, held}
 use Rattle.pef_guest.specs.declared.guest.Guest.{Guest}
 use Rattle.pef_guest.specs.Keeps.{times_held}
 use Rattle.pef_core.specs.State.{State, FramesOnce, secure_frames}

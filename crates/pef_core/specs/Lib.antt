@@ -5,4 +5,5 @@ pub mod State
 pub mod Start
 pub mod Steps
 pub mod Refused
+pub mod Alone
 pub mod Places

@@ -4,12 +4,13 @@ ghost use Rattle.std.specs.Prelude.{◌≡◌, ◌^◌, ◌<◌, length};
 ghost use Rattle.pef_guest.specs.Whole.{IsWhole};
 ghost use Rattle.pef_model.specs.declared.command.Cmd.TheVariants.{HLd, HSt};
 ghost use Rattle.pef_core.specs.Refused.{LeavesNormal, LeavesReturn};
+ghost use Rattle.pef_core.specs.Alone.{normal_after};
 ghost use Rattle.pef_core.specs.Rows.{DoesNormal, DoesReturn, IsInHypervisor, KeepsSelection, ReturnsOn};
 ghost use Rattle.pef_guest.specs.Keeps.{KeepsGuest, KeepsMovers};
 
 use crate::normal::Normal;
 use pef_guest::{Cpu, Guest, registers};
-use pef_model::{Answer, Code};
+use pef_model::{Answer, Code, Ctx};
 use pef_seal::Seal;
 
 /// The hypervisor loads the doubleword at a real address into R3. Hole where the address is no multiple of 8 or past the
@@ -32,6 +33,7 @@ pub fn store(cpu: &mut Cpu, normal: &mut Normal, ra: u64, value: u64) -> Answer
     ensures keeps { KeepsSelection cpu.old cpu.new }
     ensures shift { normal.new.shift ≡ normal.old.shift }
     ensures count { length normal.new.frames ≡ length normal.old.frames }
+    ensures normal { normal.new ≡ normal_after Ctx.Hv cpu.old.hand (HSt ra value) normal.old }
     ensures refused { LeavesNormal cpu.old cpu.new normal.old normal.new result }
     ensures row { DoesNormal ra (HSt ra value) cpu.old cpu.new normal.old normal.new result }
 {

@@ -10,6 +10,7 @@ ghost use Rattle.pef_core.specs.State.{FramesOnce, HasContext, HasSteps};
 ghost use Rattle.pef_core.specs.Start.{IsServed, AreStartCpus, AreStartGuests};
 ghost use Rattle.pef_core.specs.Steps.{Fits, Continues};
 ghost use Rattle.pef_core.specs.Refused.{LeavesRest};
+ghost use Rattle.pef_core.specs.Alone.{LeavesOthers};
 ghost use Rattle.pef_guest.specs.declared.cpu.Cpu.{Cpu};
 ghost use Rattle.pef_core.specs.Places.{EachPageIsPlaced};
 ghost use Rattle.pef_core.specs.Rows.{is_no_guests};
@@ -123,6 +124,7 @@ impl<S: Seal> Machine<S> {
         ensures step { Continues S.stands S.image self.old self.new cpu cmd.now result }
         ensures frames_once { FramesOnce self.new }
         ensures refused { (own : Cpu) → slice_get self.old.cpus cpu ≡ Some own → LeavesRest cpu own.ctx self.old self.new result }
+        ensures alone { LeavesOthers cpu cmd.now self.old self.new }
         ensures count { self.new.steps ≡ self.old.steps + 1 }
         ensures cpus { length self.new.cpus ≡ length self.old.cpus }
         ensures guests { length self.new.guests ≡ length self.old.guests }
@@ -142,6 +144,7 @@ impl<S: Seal> Machine<S> {
         requires frames_once { FramesOnce self.old }
         ensures frames_once { FramesOnce self.new }
         ensures refused { LeavesRest cpu Ctx.Hv self.old self.new result }
+        ensures alone { LeavesOthers cpu cmd.now self.old self.new }
         ensures step { Continues S.stands S.image self.old self.new cpu cmd.now result }
         ensures count { self.new.steps ≡ self.old.steps }
         ensures cpus { length self.new.cpus ≡ length self.old.cpus }
@@ -201,6 +204,7 @@ impl<S: Seal> Machine<S> {
         requires frames_once { FramesOnce self.old }
         ensures frames_once { FramesOnce self.new }
         ensures refused { LeavesRest cpu Ctx.Hv self.old self.new result }
+        ensures alone { LeavesOthers cpu (Cmd.UPagein call.lpid call.ra call.gpa call.flags call.order) self.old self.new }
         ensures step { Continues S.stands S.image self.old self.new cpu (Cmd.UPagein call.lpid call.ra call.gpa call.flags call.order) result }
         ensures count { self.new.steps ≡ self.old.steps }
         ensures cpus { length self.new.cpus ≡ length self.old.cpus }
@@ -221,6 +225,7 @@ impl<S: Seal> Machine<S> {
         requires frames_once { FramesOnce self.old }
         ensures frames_once { FramesOnce self.new }
         ensures refused { LeavesRest cpu Ctx.Hv self.old self.new result }
+        ensures alone { LeavesOthers cpu (Cmd.UPageout call.lpid call.ra call.gpa call.flags call.order) self.old self.new }
         ensures step { Continues S.stands S.image self.old self.new cpu (Cmd.UPageout call.lpid call.ra call.gpa call.flags call.order) result }
         ensures count { self.new.steps ≡ self.old.steps }
         ensures cpus { length self.new.cpus ≡ length self.old.cpus }
@@ -248,6 +253,7 @@ impl<S: Seal> Machine<S> {
         requires frames_once { FramesOnce self.old }
         ensures frames_once { FramesOnce self.new }
         ensures refused { LeavesRest cpu (Ctx.Uv work) self.old self.new result }
+        ensures alone { LeavesOthers cpu cmd.now self.old self.new }
         ensures step { Continues S.stands S.image self.old self.new cpu cmd.now result }
         ensures count { self.new.steps ≡ self.old.steps }
         ensures cpus { length self.new.cpus ≡ length self.old.cpus }
@@ -271,6 +277,7 @@ impl<S: Seal> Machine<S> {
         requires frames_once { FramesOnce self.old }
         ensures frames_once { FramesOnce self.new }
         ensures refused { LeavesRest cpu (Ctx.Uv (Work.Inward inward)) self.old self.new result }
+        ensures alone { LeavesOthers cpu Cmd.Go self.old self.new }
         ensures step { Continues S.stands S.image self.old self.new cpu Cmd.Go result }
         ensures count { self.new.steps ≡ self.old.steps }
         ensures cpus { length self.new.cpus ≡ length self.old.cpus }
@@ -287,6 +294,7 @@ impl<S: Seal> Machine<S> {
         requires frames_once { FramesOnce self.old }
         ensures frames_once { FramesOnce self.new }
         ensures refused { LeavesRest cpu (Ctx.Uv (Work.Inward inward)) self.old self.new result }
+        ensures alone { LeavesOthers cpu Cmd.Go self.old self.new }
         ensures step { Continues S.stands S.image self.old self.new cpu Cmd.Go result }
         ensures count { self.new.steps ≡ self.old.steps }
         ensures cpus { length self.new.cpus ≡ length self.old.cpus }
@@ -304,6 +312,7 @@ impl<S: Seal> Machine<S> {
         requires frames_once { FramesOnce self.old }
         ensures frames_once { FramesOnce self.new }
         ensures refused { LeavesRest cpu (Ctx.Uv (Work.Outward outward)) self.old self.new result }
+        ensures alone { LeavesOthers cpu Cmd.Go self.old self.new }
         ensures step { Continues S.stands S.image self.old self.new cpu Cmd.Go result }
         ensures count { self.new.steps ≡ self.old.steps }
         ensures cpus { length self.new.cpus ≡ length self.old.cpus }
@@ -320,6 +329,7 @@ impl<S: Seal> Machine<S> {
         requires frames_once { FramesOnce self.old }
         ensures frames_once { FramesOnce self.new }
         ensures refused { LeavesRest cpu (Ctx.Uv (Work.Outward outward)) self.old self.new result }
+        ensures alone { LeavesOthers cpu Cmd.Go self.old self.new }
         ensures step { Continues S.stands S.image self.old self.new cpu Cmd.Go result }
         ensures count { self.new.steps ≡ self.old.steps }
         ensures cpus { length self.new.cpus ≡ length self.old.cpus }
@@ -337,6 +347,7 @@ impl<S: Seal> Machine<S> {
         requires frames_once { FramesOnce self.old }
         ensures frames_once { FramesOnce self.new }
         ensures refused { LeavesRest cpu Ctx.Hv self.old self.new result }
+        ensures alone { LeavesOthers cpu (Cmd.UReturn r0 r2 outs.now) self.old self.new }
         ensures step { Continues S.stands S.image self.old self.new cpu (Cmd.UReturn r0 r2 outs.now) result }
         ensures count { self.new.steps ≡ self.old.steps }
         ensures cpus { length self.new.cpus ≡ length self.old.cpus }
@@ -354,6 +365,7 @@ impl<S: Seal> Machine<S> {
         requires frames_once { FramesOnce self.old }
         ensures frames_once { FramesOnce self.new }
         ensures refused { LeavesRest cpu (Ctx.Guest run) self.old self.new result }
+        ensures alone { LeavesOthers cpu cmd.now self.old self.new }
         ensures step { Continues S.stands S.image self.old self.new cpu cmd.now result }
         ensures count { self.new.steps ≡ self.old.steps }
         ensures cpus { length self.new.cpus ≡ length self.old.cpus }

@@ -1,6 +1,6 @@
 //! What a running guest's own commands do is what the model says, whatever the guest has kept so far.
 
-ghost use Rattle.std.specs.Prelude.{◌≡◌, ◌^◌, ◌<◌, ◌≤◌, length, slice_index, slice_set};
+ghost use Rattle.std.specs.Prelude.{◌≡◌, ◌^◌, ◌<◌, ◌≤◌, false, length, slice_index, slice_set};
 ghost use Rattle.pef_model.specs.Registers.{load_return, load_call, with_code};
 ghost use Rattle.pef_model.specs.Guest.{at_next_instruction};
 ghost use Rattle.pef_model.specs.Plan.{IsWithin};
@@ -8,6 +8,7 @@ ghost use Rattle.pef_frames.specs.Frame.{FrameState};
 ghost use Rattle.pef_pages.specs.Pages.{PagesState, frame_at};
 ghost use Rattle.pef_guest.specs.Whole.{IsWhole};
 ghost use Rattle.pef_core.specs.Access.{place_at, reach_at, pages_after, pool_after, TakesBelow, HaveFrames, doubleword_in, stored_at};
+ghost use Rattle.pef_core.specs.Alone.{uses_pool};
 ghost use Rattle.pef_core.specs.Refused.{LeavesCommand, RefusesVcpu};
 ghost use Rattle.pef_core.specs.Rows.{access_answer, with_registers, vcpu_after, DoesCommand, IsRunning, StaysOrLeaves, left_by};
 ghost use Rattle.pef_guest.specs.Keeps.{IsPoolOf, KeepsGuest, KeepsFrames, KeepsMovers};
@@ -15,7 +16,7 @@ ghost use Rattle.pef_guest.specs.Keeps.{IsPoolOf, KeepsGuest, KeepsFrames, Keeps
 use crate::access;
 use pef_frames::{Pool, SecFrame};
 use pef_guest::{Cpu, Guest, Vcpu, registers};
-use pef_model::{Answer, Cmd, Code, Exit, Pending, Reg, Run, UV_PAGE_IN, UV_PAGE_OUT, VState};
+use pef_model::{Answer, Cmd, Code, Ctx, Exit, Pending, Reg, Run, UV_PAGE_IN, UV_PAGE_OUT, VState};
 use pef_pages::Pages;
 use pef_seal::Seal;
 
@@ -148,6 +149,7 @@ pub fn command<S: Seal>(
     ensures keeps { KeepsGuest guest.old guest.new }
     ensures movers { KeepsMovers cpu.old.number guest.old guest.new }
     ensures frames { KeepsFrames guest.old guest.new pool.old pool.new }
+    ensures pool { uses_pool (Ctx.Guest run) cmd.now ≡ false → pool.new ≡ pool.old }
     ensures cpu { StaysOrLeaves run cpu.old cpu.new result }
     ensures refused { LeavesCommand run.vid guest.old guest.new pool.old pool.new result }
     ensures row { DoesCommand S.stands S.image run cmd.now guest.old guest.new cpu.old cpu.new pool.old pool.new result }

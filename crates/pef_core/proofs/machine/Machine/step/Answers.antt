@@ -7,6 +7,7 @@ use Rattle.pef_core.specs.Refused.{LeavesRest}
 use Rattle.pef_core.proofs.Leaving.{steps_aside}
 use Rattle.pef_core.proofs.WholeAfter.{one_step_more}
 use Rattle.pef_core.proofs.Places.{has_context}
+use Rattle.pef_core.specs.Alone.{LeavesOthers}
 use Rattle.pef_core.proofs.machine.Machine.step.Goals as goal
 
 -- one step more is counted
@@ -82,3 +83,18 @@ returns-in-Guest-clause-refused g c own there =
     subst (λ x. LeavesRest c.args.cpu x c.args.self.now c.step_running.new.self c.step_running.result) (sym context)
     (subst (λ m. LeavesRest c.args.cpu (ctx.Guest run) m c.step_running.new.self c.step_running.result) c.self.view_is
     (steps_aside c.args.cpu (ctx.Guest run) old c.step_running.new.self (c.self.inside.steps + 1) c.step_running.result c.step_running.ensures.refused))
+
+pub returns-in-Hv-clause-alone : goal.returns-in-Hv-clause-alone
+returns-in-Hv-clause-alone g c =
+    subst (λ m. LeavesOthers c.args.cpu c.args.cmd.now m c.step_hypervisor.new.self) c.self.view_is
+    (λ own there. (let rest = c.step_hypervisor.ensures.alone own there in record { cpus = rest.cpus; guests = rest.guests; keeps = rest.keeps; movers = rest.movers; pool = rest.pool; normal = rest.normal }))
+
+pub returns-in-Uv-clause-alone : goal.returns-in-Uv-clause-alone
+returns-in-Uv-clause-alone g c =
+    subst (λ m. LeavesOthers c.args.cpu c.args.cmd.now m c.step_working.new.self) c.self.view_is
+    (λ own there. (let rest = c.step_working.ensures.alone own there in record { cpus = rest.cpus; guests = rest.guests; keeps = rest.keeps; movers = rest.movers; pool = rest.pool; normal = rest.normal }))
+
+pub returns-in-Guest-clause-alone : goal.returns-in-Guest-clause-alone
+returns-in-Guest-clause-alone g c =
+    subst (λ m. LeavesOthers c.args.cpu c.args.cmd.now m c.step_running.new.self) c.self.view_is
+    (λ own there. (let rest = c.step_running.ensures.alone own there in record { cpus = rest.cpus; guests = rest.guests; keeps = rest.keeps; movers = rest.movers; pool = rest.pool; normal = rest.normal }))

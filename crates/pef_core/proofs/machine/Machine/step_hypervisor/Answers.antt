@@ -11,6 +11,8 @@ use Rattle.pef_core.proofs.Places.{found_cpu, selection_stays}
 use Rattle.pef_core.specs.Refused.{LeavesRest}
 use Rattle.pef_core.proofs.Leaving.{normal_leaves, context_leaves}
 use Rattle.pef_core.proofs.Continuing.{load_continues, store_continues, is_idle, hypervisor_idle}
+use Rattle.pef_core.specs.Alone.{normal_after, LeavesOthers}
+use Rattle.pef_core.proofs.Alone.{alone_none, alone_cpu}
 use Rattle.pef_core.proofs.machine.Machine.step_hypervisor.Goals as goal
 
 pub load-requires : goal.load-requires
@@ -142,3 +144,60 @@ returns-in-UPageout-clause-step g c =
 pub returns-in-UPagein-clause-step : goal.returns-in-UPagein-clause-step
 returns-in-UPagein-clause-step g c =
     subst (λ (cmd : Cmd). Continues g.S.Seal.stands g.S.Seal.image c.args.self.now c.step_page_in.new.self c.args.cpu cmd c.step_page_in.result) (sym c.in-UPagein.is) c.step_page_in.ensures.step
+
+pub returns-in-HLd-clause-alone : goal.returns-in-HLd-clause-alone
+returns-in-HLd-clause-alone g c =
+    let cpu = c.index_mut.result.now in
+    let own = found_cpu c.self.inside.cpus.items c.args.self.now c.args.cpu cpu ctx.Hv (ap (λ m. m.cpus) (sym c.self.view_is)) c.requires.hypervisor c.index_mut.ensures.value in
+    let old : State _ = record { cpus = c.self.inside.cpus.items; guests = c.self.inside.guests.items; pool = c.self.inside.pool; normal = c.self.inside.normal; steps = c.self.inside.steps } in
+    subst (λ (cmd : Cmd). LeavesOthers c.args.cpu cmd c.args.self.now (record old { cpus = slice_set old.cpus c.args.cpu c.load.new.cpu })) (sym c.in-HLd.is)
+    (subst (λ m. LeavesOthers c.args.cpu (HLd c.in-HLd.ra) m (record old { cpus = slice_set old.cpus c.args.cpu c.load.new.cpu })) c.self.view_is
+    (alone_cpu old c.args.cpu cpu own.0 ctx.Hv own.1 (HLd c.in-HLd.ra) c.load.new.cpu old.normal refl))
+
+pub returns-in-HSt-clause-alone : goal.returns-in-HSt-clause-alone
+returns-in-HSt-clause-alone g c =
+    let cpu = c.index_mut-own.result.now in
+    let inside = c.self-in-HSt.inside in
+    let own = found_cpu inside.cpus.items c.args.self.now c.args.cpu cpu ctx.Hv (ap (λ m. m.cpus) (sym c.self-in-HSt.view_is)) c.requires.hypervisor c.index_mut-own.ensures.value in
+    let old : State _ = record { cpus = inside.cpus.items; guests = inside.guests.items; pool = inside.pool; normal = inside.normal; steps = inside.steps } in
+    let new : State _ = record old { cpus = slice_set old.cpus c.args.cpu c.store.new.cpu; normal = c.store.new.normal } in
+    subst (λ (cmd : Cmd). LeavesOthers c.args.cpu cmd c.args.self.now new) (sym c.in-HSt.is)
+    (subst (λ m. LeavesOthers c.args.cpu (HSt c.in-HSt.ra c.in-HSt.value) m new) c.self-in-HSt.view_is
+    (alone_cpu old c.args.cpu cpu own.0 ctx.Hv own.1 (HSt c.in-HSt.ra c.in-HSt.value) c.store.new.cpu c.store.new.normal c.store.ensures.normal))
+
+pub returns-in-UReturn-clause-alone : goal.returns-in-UReturn-clause-alone
+returns-in-UReturn-clause-alone g c =
+    subst (λ (cmd : Cmd). LeavesOthers c.args.cpu cmd c.args.self.now c.step_return.new.self) (sym c.in-UReturn.is) c.step_return.ensures.alone
+
+pub returns-in-UPagein-clause-alone : goal.returns-in-UPagein-clause-alone
+returns-in-UPagein-clause-alone g c =
+    subst (λ (cmd : Cmd). LeavesOthers c.args.cpu cmd c.args.self.now c.step_page_in.new.self) (sym c.in-UPagein.is) c.step_page_in.ensures.alone
+
+pub returns-in-UPageout-clause-alone : goal.returns-in-UPageout-clause-alone
+returns-in-UPageout-clause-alone g c =
+    subst (λ (cmd : Cmd). LeavesOthers c.args.cpu cmd c.args.self.now c.step_page_out.new.self) (sym c.in-UPageout.is) c.step_page_out.ensures.alone
+
+pub returns-in-GLi-clause-alone : goal.returns-in-GLi-clause-alone
+returns-in-GLi-clause-alone g c =
+    let own = element_at c.args.self.now.cpus c.args.cpu c.requires.hypervisor.below in
+    alone_none c.args.self.now c.args.cpu own.0 own.1 ctx.Hv (c.requires.hypervisor.is own.0 own.1) c.args.cmd.now (ap (λ (cmd : Cmd). normal_after ctx.Hv own.0.hand cmd c.args.self.now.normal) c.in-GLi.is)
+
+pub returns-in-GLd-clause-alone : goal.returns-in-GLd-clause-alone
+returns-in-GLd-clause-alone g c =
+    let own = element_at c.args.self.now.cpus c.args.cpu c.requires.hypervisor.below in
+    alone_none c.args.self.now c.args.cpu own.0 own.1 ctx.Hv (c.requires.hypervisor.is own.0 own.1) c.args.cmd.now (ap (λ (cmd : Cmd). normal_after ctx.Hv own.0.hand cmd c.args.self.now.normal) c.in-GLd.is)
+
+pub returns-in-GSt-clause-alone : goal.returns-in-GSt-clause-alone
+returns-in-GSt-clause-alone g c =
+    let own = element_at c.args.self.now.cpus c.args.cpu c.requires.hypervisor.below in
+    alone_none c.args.self.now c.args.cpu own.0 own.1 ctx.Hv (c.requires.hypervisor.is own.0 own.1) c.args.cmd.now (ap (λ (cmd : Cmd). normal_after ctx.Hv own.0.hand cmd c.args.self.now.normal) c.in-GSt.is)
+
+pub returns-in-GIrq-clause-alone : goal.returns-in-GIrq-clause-alone
+returns-in-GIrq-clause-alone g c =
+    let own = element_at c.args.self.now.cpus c.args.cpu c.requires.hypervisor.below in
+    alone_none c.args.self.now c.args.cpu own.0 own.1 ctx.Hv (c.requires.hypervisor.is own.0 own.1) c.args.cmd.now (ap (λ (cmd : Cmd). normal_after ctx.Hv own.0.hand cmd c.args.self.now.normal) c.in-GIrq.is)
+
+pub returns-in-Go-clause-alone : goal.returns-in-Go-clause-alone
+returns-in-Go-clause-alone g c =
+    let own = element_at c.args.self.now.cpus c.args.cpu c.requires.hypervisor.below in
+    alone_none c.args.self.now c.args.cpu own.0 own.1 ctx.Hv (c.requires.hypervisor.is own.0 own.1) c.args.cmd.now (ap (λ (cmd : Cmd). normal_after ctx.Hv own.0.hand cmd c.args.self.now.normal) c.in-Go.is)

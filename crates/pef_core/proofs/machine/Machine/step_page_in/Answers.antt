@@ -1,17 +1,21 @@
-use Rattle.std.proofs.Common.{rules, arith, ◌≡◌, ◌+◌, ◌-◌, ◌^◌, ◌<◌, ◌≤◌, ◌==◌, ◌&&◌, nat_le, nat_lt, true, false, length, Some, sym, ap, subst, refl, ◌∙◌}
-use Rattle.std.specs.Prelude.{slice_get, slice_set}
+use Rattle.std.proofs.Common.{arith, ◌≡◌, ◌+◌, ◌-◌, ◌^◌, ◌<◌, ◌≤◌, true, false, length, Some, sym, ap, subst, refl, ◌∙◌}
+use Rattle.std.specs.Prelude.{slice_set}
 use Rattle.std.proofs.lemmas.Bool.Decides.{nat_tests}
 use Rattle.pef_model.specs.declared.state.Ctx.TheVariants as ctx
+use Rattle.pef_model.specs.declared.command.Code.TheVariants.{UParameter}
+use Rattle.pef_model.specs.declared.entry.Answer.TheVariants.{Ret}
 use Rattle.pef_model.specs.declared.command.Cmd.TheVariants.{UPagein}
 use Rattle.pef_guest.specs.Keeps.{KeepsMovers}
-use Rattle.pef_core.specs.State.{State, HasSteps, IsCpuOf}
+use Rattle.pef_core.specs.State.{State, IsCpuOf}
 use Rattle.pef_core.specs.Steps.{Continues}
 use Rattle.pef_core.specs.Refused.{LeavesRest}
 use Rattle.pef_core.proofs.WholeAfter.{whole_cpu, whole_guest, once_stays}
 use Rattle.pef_core.proofs.Places.{found_cpu}
 use Rattle.pef_core.proofs.Moving.{site, coming_cpu}
-use Rattle.pef_core.proofs.Leaving.{page_in_leaves}
+use Rattle.pef_core.proofs.Leaving.{none_leaves, page_in_leaves}
 use Rattle.pef_core.proofs.PageSteps.{is_one_of, no_page_in, page_in_continues}
+use Rattle.pef_core.specs.Alone.{LeavesOthers}
+use Rattle.pef_core.proofs.Alone.{alone_cpu, alone_guest}
 use Rattle.pef_core.proofs.machine.Machine.step_page_in.Goals as goal
 
 -- a call that names no guest
@@ -34,6 +38,14 @@ returns-then-not-has_guest-clause-step g c =
     rw c.page_in_of_none.ensures.answer
     (subst (λ m. Continues g.S.Seal.stands g.S.Seal.image m (record old { cpus = slice_set old.cpus c.args.cpu c.page_in_of_none.new.cpu }) c.args.cpu (UPagein c.args.call.lpid c.args.call.ra c.args.call.gpa c.args.call.flags c.args.call.order) _) c.self.view_is
     (no_page_in g.S.Seal.stands g.S.Seal.image old c.args.cpu below cpu own.0 c.page_in_of_none.new.cpu c.args.call.lpid c.args.call.ra c.args.call.gpa c.args.call.flags c.args.call.order own.1 none c.page_in_of_none.ensures.cpu))
+
+pub returns-then-not-has_guest-clause-refused : goal.returns-then-not-has_guest-clause-refused
+returns-then-not-has_guest-clause-refused g c =
+    let cpu = c.index_mut.result.now in
+    let own = found_cpu c.self.inside.cpus.items c.args.self.now c.args.cpu cpu ctx.Hv (ap (λ m. m.cpus) (sym c.self.view_is)) c.requires.hypervisor c.index_mut.ensures.value in
+    let old : State _ = record { cpus = c.self.inside.cpus.items; guests = c.self.inside.guests.items; pool = c.self.inside.pool; normal = c.self.inside.normal; steps = c.self.inside.steps } in
+    rw c.page_in_of_none.ensures.answer
+    (subst (λ m. LeavesRest c.args.cpu ctx.Hv m (record old { cpus = slice_set old.cpus c.args.cpu c.page_in_of_none.new.cpu }) (Ret UParameter)) c.self.view_is (none_leaves old c.args.cpu cpu own.0 c.page_in_of_none.new.cpu UParameter c.page_in_of_none.ensures.refused))
 
 -- a call at the guest that it names
 pub page_in_begin-requires-clause-hypervisor : goal.page_in_begin-requires-clause-hypervisor
@@ -133,3 +145,26 @@ returns-clause-refused g c =
     let new : State _ = record old { cpus = slice_set old.cpus c.args.cpu c.page_in_begin.new.cpu; guests = slice_set old.guests (c.args.call.lpid - 1) c.page_in_begin.new.guest; pool = c.page_in_begin.new.pool } in
     subst (λ m. LeavesRest c.args.cpu ctx.Hv m new c.page_in_begin.result) c.self.view_is
     (page_in_leaves old c.args.cpu cpu s.there (c.args.call.lpid - 1) guest c.page_in_begin.new.guest s.here c.args.call c.page_in_begin.new.cpu c.page_in_begin.new.pool c.page_in_begin.result c.page_in_begin.ensures.refused)
+
+pub returns-then-not-has_guest-clause-alone : goal.returns-then-not-has_guest-clause-alone
+returns-then-not-has_guest-clause-alone g c =
+    let cpu = c.index_mut.result.now in
+    let own = found_cpu c.self.inside.cpus.items c.args.self.now c.args.cpu cpu ctx.Hv (ap (λ m. m.cpus) (sym c.self.view_is)) c.requires.hypervisor c.index_mut.ensures.value in
+    let old : State _ = record { cpus = c.self.inside.cpus.items; guests = c.self.inside.guests.items; pool = c.self.inside.pool; normal = c.self.inside.normal; steps = c.self.inside.steps } in
+    subst (λ m. LeavesOthers c.args.cpu (UPagein c.args.call.lpid c.args.call.ra c.args.call.gpa c.args.call.flags c.args.call.order) m (record old { cpus = slice_set old.cpus c.args.cpu c.page_in_of_none.new.cpu })) c.self.view_is
+    (alone_cpu old c.args.cpu cpu own.0 ctx.Hv own.1 (UPagein c.args.call.lpid c.args.call.ra c.args.call.gpa c.args.call.flags c.args.call.order) c.page_in_of_none.new.cpu old.normal refl)
+
+pub returns-clause-alone : goal.returns-clause-alone
+returns-clause-alone g c =
+    let old : State _ = record { cpus = c.self.inside.cpus.items; guests = c.self.inside.guests.items; pool = c.self.inside.pool; normal = c.self.inside.normal; steps = c.self.inside.steps } in
+    let named : is_one_of (length c.self.inside.guests.items) c.args.call.lpid ≡ true = subst (λ m. is_one_of (length m.guests) c.args.call.lpid ≡ true) (sym c.self.view_is) (sym c.has_guest.ensures ∙ c.if-not-has_guest.false) in
+    let least : 1 ≤ c.args.call.lpid = grind (arith, nat_tests) in
+    let below : c.args.call.lpid - 1 < length c.self.inside.guests.items = grind (arith, nat_tests) in
+    let s = site g.S.Seal.takes old c.args.self.now c.args.cpu c.index_mut-own.result.now ctx.Hv (c.args.call.lpid - 1) c.index_mut-guest.result.now c.self.view_is c.self.invariant c.requires.hypervisor c.requires.steps c.index_mut-own.ensures.value below c.index_mut-guest.ensures.value in
+    let guest = c.index_mut-guest.result.now in
+    let cpu = c.index_mut-own.result.now in
+    let lpid : c.args.call.lpid ≡ c.args.call.lpid - 1 + 1 = omega arith in
+    let movers : KeepsMovers c.args.cpu guest c.page_in_begin.new.guest = subst (λ n. KeepsMovers n guest c.page_in_begin.new.guest) s.is_cpu.number c.page_in_begin.ensures.movers in
+    let new : State _ = record old { cpus = slice_set old.cpus c.args.cpu c.page_in_begin.new.cpu; guests = slice_set old.guests (c.args.call.lpid - 1) c.page_in_begin.new.guest; pool = c.page_in_begin.new.pool } in
+    subst (λ m. LeavesOthers c.args.cpu (UPagein c.args.call.lpid c.args.call.ra c.args.call.gpa c.args.call.flags c.args.call.order) m new) c.self.view_is
+    (alone_guest old c.args.cpu cpu s.there ctx.Hv s.context (UPagein c.args.call.lpid c.args.call.ra c.args.call.gpa c.args.call.flags c.args.call.order) (c.args.call.lpid - 1) guest c.page_in_begin.new.guest s.here c.page_in_begin.new.cpu c.page_in_begin.new.pool (ap Some lpid) refl (λ used. cc) c.page_in_begin.ensures.keeps movers)

@@ -11,6 +11,8 @@ use Rattle.pef_core.proofs.WholeAfter.{whole_cpu}
 use Rattle.pef_core.proofs.Places.{found_cpu}
 use Rattle.pef_core.proofs.Moving.{read_cpu}
 use Rattle.pef_core.proofs.PageSteps.{read_continues}
+use Rattle.pef_core.specs.Alone.{LeavesOthers}
+use Rattle.pef_core.proofs.Alone.{alone_cpu}
 use Rattle.pef_core.proofs.machine.Machine.step_page_in_copy.Goals as goal
 
 pub copy_in-requires-clause-working : goal.copy_in-requires-clause-working
@@ -62,3 +64,12 @@ returns-clause-step g c =
 pub returns-clause-refused : goal.returns-clause-refused
 returns-clause-refused g c =
     rw c.copy_in.ensures.answer tt
+
+pub returns-clause-alone : goal.returns-clause-alone
+returns-clause-alone g c =
+    let old : State _ = record { cpus = c.self.inside.cpus.items; guests = c.self.inside.guests.items; pool = c.self.inside.pool; normal = c.self.inside.normal; steps = c.self.inside.steps } in
+    let move = c.args.inward in
+    let cpu = c.index_mut.result.now in
+    let own = found_cpu c.self.inside.cpus.items c.args.self.now c.args.cpu cpu (ctx.Uv (Inward move)) (ap (λ m. m.cpus) (sym c.self.view_is)) c.requires.working c.index_mut.ensures.value in
+    subst (λ m. LeavesOthers c.args.cpu Go m (record old { cpus = slice_set old.cpus c.args.cpu c.copy_in.new.cpu })) c.self.view_is
+    (alone_cpu old c.args.cpu cpu own.0 (ctx.Uv (Inward move)) own.1 Go c.copy_in.new.cpu old.normal refl)

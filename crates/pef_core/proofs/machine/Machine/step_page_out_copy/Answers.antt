@@ -1,4 +1,4 @@
-use Rattle.std.proofs.Common.{◌<◌, length, sym, ap, subst, refl}
+use Rattle.std.proofs.Common.{◌<◌, length, sym, ap, subst, refl, ◌∙◌, if◌then◌else◌}
 use Rattle.std.specs.Prelude.{slice_set}
 use Rattle.std.proofs.Math.ListN.{length-set}
 use Rattle.pef_model.specs.declared.state.Way.TheVariants.{Outward as IsOutward}
@@ -12,6 +12,8 @@ use Rattle.pef_core.proofs.WholeAfter.{whole_cpu}
 use Rattle.pef_core.proofs.Places.{found_cpu}
 use Rattle.pef_core.proofs.Moving.{copied_cpu}
 use Rattle.pef_core.proofs.PageSteps.{written_continues}
+use Rattle.pef_core.specs.Alone.{LeavesOthers}
+use Rattle.pef_core.proofs.Alone.{alone_cpu}
 use Rattle.pef_core.proofs.machine.Machine.step_page_out_copy.Goals as goal
 
 pub copy_out-requires-clause-working : goal.copy_out-requires-clause-working
@@ -67,3 +69,13 @@ returns-clause-step g c =
 pub returns-clause-refused : goal.returns-clause-refused
 returns-clause-refused g c =
     rw c.copy_out.ensures.answer tt
+
+pub returns-clause-alone : goal.returns-clause-alone
+returns-clause-alone g c =
+    let old : State _ = record { cpus = c.self.inside.cpus.items; guests = c.self.inside.guests.items; pool = c.self.inside.pool; normal = c.self.inside.normal; steps = c.self.inside.steps } in
+    let move = c.args.outward in
+    let cpu = c.index_mut.result.now in
+    let own = found_cpu c.self.inside.cpus.items c.args.self.now c.args.cpu cpu (ctx.Uv (Outward move)) (ap (λ m. m.cpus) (sym c.self.view_is)) c.requires.working c.index_mut.ensures.value in
+    let written : NormalState = record c.self.inside.normal { frames = slice_set c.self.inside.normal.frames move.frame cpu.hand } in
+    subst (λ m. LeavesOthers c.args.cpu Go m (record old { cpus = slice_set old.cpus c.args.cpu c.copy_out.new.cpu; normal = c.copy_out.new.self })) c.self.view_is
+    (alone_cpu old c.args.cpu cpu own.0 (ctx.Uv (Outward move)) own.1 Go c.copy_out.new.cpu c.copy_out.new.self (c.copy_out.ensures.normal ∙ ap (λ b. if b then old.normal else written) (sym c.requires.copied)))

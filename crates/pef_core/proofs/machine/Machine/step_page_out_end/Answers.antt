@@ -1,18 +1,20 @@
-use Rattle.std.proofs.Common.{rules, arith, ◌≡◌, ◌+◌, ◌-◌, ◌^◌, ◌<◌, ◌≤◌, length, Some, sym, ap, subst, refl, ◌∙◌}
+use Rattle.std.proofs.Common.{rules, arith, ◌≡◌, ◌+◌, ◌-◌, ◌^◌, ◌<◌, ◌≤◌, length, Some, sym, ap, subst, refl, ◌∙◌, None, if◌then◌else◌}
 use Rattle.std.specs.Prelude.{slice_get, slice_set}
 use Rattle.pef_model.specs.declared.state.Way.TheVariants.{Outward as IsOutward}
 use Rattle.pef_model.specs.declared.state.Work.TheVariants.{Outward}
 use Rattle.pef_model.specs.declared.state.Ctx.TheVariants as ctx
 use Rattle.pef_model.specs.declared.command.Cmd.TheVariants.{Go}
 use Rattle.pef_guest.specs.Keeps.{KeepsMovers}
-use Rattle.pef_core.specs.State.{State, Works, IsMoveOf}
+use Rattle.pef_core.specs.State.{State, IsMoveOf}
 use Rattle.pef_core.specs.Steps.{Continues}
 use Rattle.pef_core.specs.Refused.{LeavesRest}
 use Rattle.pef_core.proofs.WholeAfter.{whole_guest, once_stays}
 use Rattle.pef_core.proofs.Places.{works_there}
 use Rattle.pef_core.proofs.Moving.{site, ready, move_below, ended_cpu}
-use Rattle.pef_core.proofs.Leaving.{end_leaves}
+use Rattle.pef_core.proofs.Leaving.{out_leaves}
 use Rattle.pef_core.proofs.PageSteps.{out_continues}
+use Rattle.pef_core.specs.Alone.{LeavesOthers}
+use Rattle.pef_core.proofs.Alone.{alone_guest}
 use Rattle.pef_core.proofs.machine.Machine.step_page_out_end.Goals as goal
 
 pub overflow_sub-outward : goal.overflow_sub-outward
@@ -124,5 +126,21 @@ returns-clause-refused g c =
     let cpu = c.index_mut-own.result.now in
     let new : State _ = record old { cpus = slice_set old.cpus c.args.cpu c.page_out_end.new.cpu; guests = slice_set old.guests (move.lpid - 1) c.page_out_end.new.guest; pool = c.page_out_end.new.pool } in
     subst (λ m. LeavesRest c.args.cpu (ctx.Uv (Outward move)) m new c.page_out_end.result) c.self.view_is
-    (end_leaves old c.args.cpu cpu s.there (move.lpid - 1) guest c.page_out_end.new.guest s.here (Outward move) move c.page_out_end.new.cpu c.page_out_end.new.pool c.page_out_end.result c.page_out_end.ensures.back c.page_out_end.ensures.old
+    (out_leaves old c.args.cpu cpu s.there (move.lpid - 1) guest c.page_out_end.new.guest s.here move c.page_out_end.new.cpu c.page_out_end.new.pool c.page_out_end.result c.page_out_end.ensures.back c.page_out_end.ensures.old
     c.page_out_end.ensures.parameter)
+
+pub returns-clause-alone : goal.returns-clause-alone
+returns-clause-alone g c =
+    let old : State _ = record { cpus = c.self.inside.cpus.items; guests = c.self.inside.guests.items; pool = c.self.inside.pool; normal = c.self.inside.normal; steps = c.self.inside.steps } in
+    let move = c.args.outward in
+    let moves : IsMoveOf c.self.inside.guests.items c.self.inside.normal (record { cpu = c.args.cpu; way = IsOutward }) move = works_there c.self.inside.guests.items c.self.inside.cpus.items c.args.self.now c.self.inside.normal c.args.cpu (ctx.Uv (Outward move)) (ap (λ m. m.cpus) (sym c.self.view_is)) c.requires.working c.self.invariant.cpus in
+    let below : move.lpid - 1 < length c.self.inside.guests.items = move_below c.self.inside.guests.items c.self.inside.normal (record { cpu = c.args.cpu; way = IsOutward }) move moves in
+    let s = site g.S.Seal.takes old c.args.self.now c.args.cpu c.index_mut-own.result.now (ctx.Uv (Outward move)) (move.lpid - 1) c.index_mut-guest.result.now c.self.view_is c.self.invariant c.requires.working c.requires.steps c.index_mut-own.ensures.value below c.index_mut-guest.ensures.value in
+    let guest = c.index_mut-guest.result.now in
+    let cpu = c.index_mut-own.result.now in
+    let lpid : move.lpid ≡ move.lpid - 1 + 1 = (let least = moves.least in omega arith) in
+    let movers : KeepsMovers c.args.cpu guest c.page_out_end.new.guest = subst (λ n. KeepsMovers n guest c.page_out_end.new.guest) s.is_cpu.number c.page_out_end.ensures.movers in
+    let new : State _ = record old { cpus = slice_set old.cpus c.args.cpu c.page_out_end.new.cpu; guests = slice_set old.guests (move.lpid - 1) c.page_out_end.new.guest; pool = c.page_out_end.new.pool } in
+    subst (λ m. LeavesOthers c.args.cpu Go m new) c.self.view_is
+    (alone_guest old c.args.cpu cpu s.there (ctx.Uv (Outward move)) s.context Go (move.lpid - 1) guest c.page_out_end.new.guest s.here c.page_out_end.new.cpu c.page_out_end.new.pool (ap (λ b. if b then Some move.lpid else None) c.requires.copied ∙ ap Some lpid)
+    (ap (λ b. if b then old.normal else record old.normal { frames = slice_set old.normal.frames move.frame cpu.hand }) c.requires.copied) (λ used. (let two = sym c.requires.copied ∙ used in cc)) c.page_out_end.ensures.keeps movers)

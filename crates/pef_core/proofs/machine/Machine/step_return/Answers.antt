@@ -1,4 +1,4 @@
-use Rattle.std.proofs.Common.{rules, arith, ◌≡◌, ◌+◌, ◌==◌, ◌-◌, ◌<◌, length, sym, ap, subst, refl}
+use Rattle.std.proofs.Common.{rules, arith, ◌≡◌, ◌+◌, ◌==◌, ◌-◌, ◌<◌, length, sym, ap, subst, refl, Some, ◌∙◌}
 use Rattle.std.specs.Prelude.{slice_set}
 use Rattle.pef_model.specs.declared.state.Ctx.TheVariants as ctx
 use Rattle.pef_model.specs.declared.command.Cmd.TheVariants.{UReturn}
@@ -14,6 +14,8 @@ use Rattle.pef_core.proofs.Places.{read_at, found_cpu, guest_below, vcpu_below, 
 use Rattle.pef_core.specs.Refused.{LeavesRest}
 use Rattle.pef_core.proofs.Leaving.{return_leaves}
 use Rattle.pef_core.proofs.Continuing.{return_continues}
+use Rattle.pef_core.specs.Alone.{LeavesOthers}
+use Rattle.pef_core.proofs.Alone.{alone_guest}
 use Rattle.pef_core.proofs.machine.Machine.step_return.Goals as goal
 
 pub overflow_sub-own : goal.overflow_sub-own
@@ -115,3 +117,16 @@ returns-clause-refused g c =
     let old : State _ = record { cpus = c.self.inside.cpus.items; guests = c.self.inside.guests.items; pool = c.self.inside.pool; normal = c.self.inside.normal; steps = c.self.inside.steps } in
     subst (λ m. LeavesRest c.args.cpu ctx.Hv m (record old { cpus = slice_set old.cpus c.args.cpu c.uv_return.new.cpu; guests = slice_set old.guests (cpu.lpid - 1) c.uv_return.new.guest }) c.uv_return.result) c.self.view_is
     (return_leaves old c.args.cpu cpu own.0 (cpu.lpid - 1) guest c.uv_return.new.guest there c.uv_return.new.cpu c.uv_return.result c.uv_return.ensures.refused)
+
+pub returns-clause-alone : goal.returns-clause-alone
+returns-clause-alone g c =
+    let own = found_cpu c.self.inside.cpus.items c.args.self.now c.args.cpu c.index_mut-own.result.now ctx.Hv (ap (λ m. m.cpus) (sym c.self.view_is)) c.requires.hypervisor c.index_mut-own.ensures.value in
+    let cpu = c.index_mut-own.result.now in
+    let is = c.self.invariant.cpus c.args.cpu cpu own.0 in
+    let guest = c.index_mut-guest.result.now in
+    let there = read_at c.self.inside.guests.items (cpu.lpid - 1) guest (guest_below c.self.inside.guests.items cpu.lpid cpu.vid is.selects) c.index_mut-guest.ensures.value in
+    let old : State _ = record { cpus = c.self.inside.cpus.items; guests = c.self.inside.guests.items; pool = c.self.inside.pool; normal = c.self.inside.normal; steps = c.self.inside.steps } in
+    let lpid : cpu.lpid ≡ cpu.lpid - 1 + 1 = (let least = is.selects.least in omega arith) in
+    let movers : KeepsMovers c.args.cpu guest c.uv_return.new.guest = subst (λ n. KeepsMovers n guest c.uv_return.new.guest) is.number c.uv_return.ensures.movers in
+    subst (λ m. LeavesOthers c.args.cpu (UReturn c.args.r0 c.args.r2 c.args.outs.now) m (record old { cpus = slice_set old.cpus c.args.cpu c.uv_return.new.cpu; guests = slice_set old.guests (cpu.lpid - 1) c.uv_return.new.guest })) c.self.view_is
+    (alone_guest old c.args.cpu cpu own.0 ctx.Hv own.1 (UReturn c.args.r0 c.args.r2 c.args.outs.now) (cpu.lpid - 1) guest c.uv_return.new.guest there c.uv_return.new.cpu old.pool (ap Some lpid) refl (λ used. refl) c.uv_return.ensures.keeps movers)

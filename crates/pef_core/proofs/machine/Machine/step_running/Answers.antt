@@ -1,4 +1,4 @@
-use Rattle.std.proofs.Common.{rules, arith, ◌≡◌, ℕ, ◌+◌, ◌-◌, ◌^◌, ◌==◌, ◌<◌, true, false, length, Some, sym, ap, subst, ◌∙◌, refl}
+use Rattle.std.proofs.Common.{rules, arith, ◌≡◌, ℕ, ◌+◌, ◌-◌, ◌^◌, ◌==◌, ◌<◌, true, false, length, Some, sym, ap, subst, ◌∙◌, refl, None, if◌then◌else◌}
 use Rattle.std.specs.Prelude.{slice_get, slice_set}
 use Rattle.std.proofs.lemmas.Bool.Decides.{nat_tests}
 use Rattle.pef_model.specs.declared.state.Ctx.TheVariants as ctx
@@ -11,9 +11,11 @@ use Rattle.pef_core.proofs.Lists.{element_at}
 use Rattle.pef_core.proofs.WholeAfter.{whole_cpu, whole_guest, once_stays}
 use Rattle.pef_core.proofs.Places.{read_at, found_cpu, works_there, guest_below, vcpu_below, phase_lets, ran_cpu, gone_cpu}
 use Rattle.pef_core.specs.Refused.{LeavesRest}
-use Rattle.pef_core.proofs.Leaving.{context_leaves, command_leaves}
+use Rattle.pef_core.proofs.Leaving.{context_leaves, gone_leaves, command_leaves}
 use Rattle.pef_core.proofs.Continuing.{guest_busy}
 use Rattle.pef_core.proofs.RunningSteps.{gone_continues, command_continues}
+use Rattle.pef_core.specs.Alone.{LeavesOthers}
+use Rattle.pef_core.proofs.Alone.{alone_none, alone_cpu, alone_guest}
 use Rattle.pef_core.proofs.machine.Machine.step_running.Goals as goal
 
 -- a command of the hypervisor, while a vCPU runs
@@ -64,6 +66,14 @@ returns-then-run-index-clause-step g c =
     gone_continues g.S.Seal.stands g.S.Seal.image old c.args.cpu below cpu own.0 run own.1 (run.lpid - 1) lpid guest here c.gone.new.self c.args.cmd.now own_command older
     (λ part mark shows. rw c.gone.ensures.cpu (record { ctx = refl; own = refl; lpid = shows.lpid; vid = shows.vid; last = refl; hand = shows.hand })) in
     rw c.gone.ensures.answer (subst (λ m. Continues g.S.Seal.stands g.S.Seal.image m (record old { cpus = slice_set old.cpus c.args.cpu c.gone.new.self }) c.args.cpu c.args.cmd.now Gone) c.self.view_is step)
+
+pub returns-then-run-index-clause-refused : goal.returns-then-run-index-clause-refused
+returns-then-run-index-clause-refused g c =
+    let cpu = c.index_mut.result.now in
+    let own = found_cpu c.self.inside.cpus.items c.args.self.now c.args.cpu cpu (ctx.Guest c.args.run) (ap (λ m. m.cpus) (sym c.self.view_is)) c.requires.runs c.index_mut.ensures.value in
+    let old : State _ = record { cpus = c.self.inside.cpus.items; guests = c.self.inside.guests.items; pool = c.self.inside.pool; normal = c.self.inside.normal; steps = c.self.inside.steps } in
+    rw c.gone.ensures.answer
+    (subst (λ m. LeavesRest c.args.cpu (ctx.Guest c.args.run) m (record old { cpus = slice_set old.cpus c.args.cpu c.gone.new.self }) Gone) c.self.view_is (gone_leaves old c.args.cpu cpu own.0 c.args.run c.gone.new.self c.gone.ensures.cpu))
 
 -- a guest in its generation does its command
 pub overflow_sub-run-2 : goal.overflow_sub-run-2
@@ -183,9 +193,6 @@ returns-then-is_no_guests-clause-refused g c =
     let own = element_at c.args.self.now.cpus c.args.cpu c.requires.runs.below in
     context_leaves c.args.self.now c.args.cpu own.0 own.1
 
-pub returns-then-run-index-clause-refused : goal.returns-then-run-index-clause-refused
-returns-then-run-index-clause-refused g c = rw c.gone.ensures.answer tt
-
 pub returns-clause-refused : goal.returns-clause-refused
 returns-clause-refused g c =
     let cpu = c.index_mut-own.result.now in
@@ -200,3 +207,36 @@ returns-clause-refused g c =
     let new : State _ = record old { cpus = slice_set old.cpus c.args.cpu c.command.new.cpu; guests = slice_set old.guests (run.lpid - 1) c.command.new.guest; pool = c.command.new.pool } in
     subst (λ m. LeavesRest c.args.cpu (ctx.Guest run) m new c.command.result) c.self.view_is
     (command_leaves old c.args.cpu cpu own.0 (run.lpid - 1) guest c.command.new.guest here run c.command.new.cpu c.command.new.pool c.command.result refl c.command.ensures.cpu c.command.ensures.refused)
+
+pub returns-then-is_no_guests-clause-alone : goal.returns-then-is_no_guests-clause-alone
+returns-then-is_no_guests-clause-alone g c =
+    let own = element_at c.args.self.now.cpus c.args.cpu c.requires.runs.below in
+    alone_none c.args.self.now c.args.cpu own.0 own.1 (ctx.Guest c.args.run) (c.requires.runs.is own.0 own.1) c.args.cmd.now refl
+
+pub returns-then-run-index-clause-alone : goal.returns-then-run-index-clause-alone
+returns-then-run-index-clause-alone g c =
+    let cpu = c.index_mut.result.now in
+    let own = found_cpu c.self.inside.cpus.items c.args.self.now c.args.cpu cpu (ctx.Guest c.args.run) (ap (λ m. m.cpus) (sym c.self.view_is)) c.requires.runs c.index_mut.ensures.value in
+    let old : State _ = record { cpus = c.self.inside.cpus.items; guests = c.self.inside.guests.items; pool = c.self.inside.pool; normal = c.self.inside.normal; steps = c.self.inside.steps } in
+    subst (λ m. LeavesOthers c.args.cpu c.args.cmd.now m (record old { cpus = slice_set old.cpus c.args.cpu c.gone.new.self })) c.self.view_is
+    (alone_cpu old c.args.cpu cpu own.0 (ctx.Guest c.args.run) own.1 c.args.cmd.now c.gone.new.self old.normal refl)
+
+pub returns-clause-alone : goal.returns-clause-alone
+returns-clause-alone g c =
+    let cpu = c.index_mut-own.result.now in
+    let guest = c.index_mut-guest.result.now in
+    let run = c.args.run in
+    let cpus = c.self.inside.cpus.items in
+    let guests = c.self.inside.guests.items in
+    let own = found_cpu cpus c.args.self.now c.args.cpu cpu (ctx.Guest run) (ap (λ m. m.cpus) (sym c.self.view_is)) c.requires.runs c.index_mut-own.ensures.value in
+    let runs = works_there guests cpus c.args.self.now c.self.inside.normal c.args.cpu (ctx.Guest run) (ap (λ m. m.cpus) (sym c.self.view_is)) c.requires.runs c.self.invariant.cpus in
+    let here = read_at guests (run.lpid - 1) guest (guest_below guests run.lpid run.vid runs.0) c.index_mut-guest.ensures.value in
+    let lpid : run.lpid ≡ run.lpid - 1 + 1 = (let least = runs.0.least in omega arith) in
+    let own_command : is_no_guests c.args.cmd.now ≡ false = search rules in
+    let number : cpu.number ≡ c.args.cpu = (c.self.invariant.cpus c.args.cpu cpu own.0).number in
+    let movers : KeepsMovers c.args.cpu guest c.command.new.guest = subst (λ n. KeepsMovers n guest c.command.new.guest) number c.command.ensures.movers in
+    let old : State _ = record { cpus = c.self.inside.cpus.items; guests = c.self.inside.guests.items; pool = c.self.inside.pool; normal = c.self.inside.normal; steps = c.self.inside.steps } in
+    let new : State _ = record old { cpus = slice_set old.cpus c.args.cpu c.command.new.cpu; guests = slice_set old.guests (run.lpid - 1) c.command.new.guest; pool = c.command.new.pool } in
+    subst (λ m. LeavesOthers c.args.cpu c.args.cmd.now m new) c.self.view_is
+    (alone_guest old c.args.cpu cpu own.0 (ctx.Guest run) own.1 c.args.cmd.now (run.lpid - 1) guest c.command.new.guest here c.command.new.cpu c.command.new.pool (ap (λ b. if b then None else Some run.lpid) own_command ∙ ap Some lpid) refl c.command.ensures.pool
+    c.command.ensures.keeps movers)
