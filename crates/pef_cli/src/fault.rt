@@ -1,5 +1,8 @@
 //! Each status but 0 has one line on standard error.
 
+ghost use Rattle.std.specs.Prelude.{◌≡◌};
+ghost use Rattle.pef_cli.specs.Fault.{fault_of};
+
 use pef_top::RunOutcome;
 use thiserror::Error;
 
@@ -22,7 +25,9 @@ pub enum Fault {
 
 impl Fault {
     /// The fault of an outcome; none where the status is 0.
-    pub fn of(outcome: RunOutcome) -> Option<Fault> {
+    pub fn of(outcome: RunOutcome) -> Option<Fault>
+        ensures { result ≡ fault_of outcome }
+    {
         match outcome.status {
             1 => Some(Fault::Script(outcome.line)),
             2 => Some(Fault::Words),

@@ -1,21 +1,15 @@
-//! The happy path of each public call, and one call for each refusal.
+//! A script goes in, and its report comes out; what is no script goes in, and nothing comes out.
 #![tactic(auto)]
 
 #[cfg(test)]
 mod config;
 #[cfg(test)]
-mod frames;
-#[cfg(test)]
-mod machine;
-#[cfg(test)]
-mod num;
+mod faulty;
 #[cfg(test)]
 mod page_in;
 #[cfg(test)]
 mod page_out;
 #[cfg(test)]
-mod pages;
-#[cfg(test)]
-mod seal;
+mod script;
 #[cfg(test)]
 mod top;

@@ -1,6 +1,6 @@
 //! A page comes in from a script exactly where it is what was last paged out, and the guest finds what it stored.
 
-use crate::page_out::expect;
+use crate::script::expect;
 use std::test::Fail;
 
 const HEADER: &str = "pef 1\nshift 8\nnormal 2\nsecure 2\npages 2\nborn 1\nbegin\n";

@@ -1,9 +1,6 @@
 //! A page is paged out from a script, and each refusal that a script reaches leaves all as it was.
 
-use crate::top::call;
-use pef_io::{MemSink, MemSource};
-use std::alloc::Global;
-use std::process::Abort;
+use crate::script::expect;
 use std::test::Fail;
 
 // The digests are those of Python's hashlib over sealed pages of 256 bytes that were written down by hand, under the tag of
@@ -11,33 +8,6 @@ use std::test::Fail;
 const STREAM: &str = "frame 0 3b0184f2b5cac91b5c4f2b1c475597cb24a561d9747155f2c023bf550ccbd225\n";
 
 const VAULT: &str = "frame 1 cec0380835655ac3b41bbb0375f9fb5c44421cb235399683ae586c9e8dd54fdc\n";
-
-/// Runs the script of a header and command lines, and compares the report with what stands beside each line and what is to
-/// follow them.
-pub fn expect(
-    rt: &impl Abort,
-    alloc: Global,
-    header: &str,
-    lines: &[(&str, &str)],
-    rest: &[&str],
-) -> Result<(), Fail> {
-    let mut script = header.as_bytes().to_vec(alloc)?;
-    let mut report = Vec::new(alloc);
-    for (line, entries) in lines {
-        script.extend_from_slice(line.as_bytes())?;
-        script.extend_from_slice(b"\n")?;
-        report.extend_from_slice(entries.as_bytes())?;
-        report.extend_from_slice(b"\n")?;
-    }
-    for part in rest {
-        report.extend_from_slice(part.as_bytes())?;
-    }
-    let mut source = MemSource::build(script, Vec::new(alloc));
-    let mut sink = MemSink::build(alloc, 10_000, Vec::new(alloc))?;
-    assert_eq!(rt; call(alloc, "run", &mut source, &mut sink)?.status, 0);
-    assert_eq!(rt; sink.bytes(), report.as_slice());
-    Ok(())
-}
 
 #[test]
 fn a_page_goes_out_in_three_steps(rt: HostRuntime) -> Result<(), Fail> {
@@ -81,6 +51,30 @@ fn the_guest_runs_while_its_page_is_on_the_move(rt: HostRuntime) -> Result<(), F
                 "0 u.pageout 1 0x0 0x100 1 8",
                 "23 0 u.pageout ret U_FUNCTION",
             ),
+        ],
+        &[VAULT, "free 1\nend\n"],
+    )
+}
+
+#[test]
+fn a_page_goes_out_into_the_vault(rt: HostRuntime) -> Result<(), Fail> {
+    expect(
+        &rt,
+        rt.alloc(),
+        "pef 1\nshift 8\nsecure 1\nseal vault\nborn 1\nbegin\n",
+        &[
+            ("0 u.return 0 0", "7 0 u.return enter"),
+            ("0 g.li r20 7", "8 0 g.li done"),
+            ("0 g.st r20 0x8", "9 0 g.st done"),
+            ("0 g.irq", "10 0 g.irq exit irq"),
+            (
+                "0 u.pageout 2 0x100 0 0 8",
+                "11 0 u.pageout ret U_PARAMETER",
+            ),
+            ("0 u.pageout 1 0x100 0 0 8", "12 0 u.pageout step"),
+            ("0 go*", "13 0 go step\n13 0 go ret U_SUCCESS"),
+            ("0 go", "14 0 go context"),
+            ("0 u.pageout 1 0x100 0 0 8", "15 0 u.pageout ret U_P3"),
         ],
         &[VAULT, "free 1\nend\n"],
     )

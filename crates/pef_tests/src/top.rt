@@ -1,9 +1,11 @@
-//! A script goes in and its report comes out; what is none goes in, and nothing comes out.
+//! Each way in which a top call ends, and the reports of scripts without page moves.
 
+use crate::script::{call, report_each};
 use pef_io::{Failed, MemSink, MemSource, Sink, Source};
-use pef_top::{RunOutcome, SCRIPT_LIMIT, pef_run};
+use pef_top::{RunOutcome, SCRIPT_LIMIT};
 use std::alloc::{AllocError, Global};
 use std::marker::Model;
+use std::process::Abort;
 use std::test::Fail;
 
 const STORE_AND_LOAD: &str =
@@ -54,115 +56,61 @@ fn fails(alloc: Global, number: Option<u64>) -> Result<Vec<u64>, AllocError> {
     Ok(fails)
 }
 
-/// A top call with the words that a space separates.
-pub fn call<S: Source, K: Sink>(
+/// Makes a top call on devices of which a read and a write may fail, and compares the status and the report, which is written
+/// at status 0 alone.
+fn ends(
+    rt: &impl Abort,
     alloc: Global,
     words: &str,
-    source: &mut S,
-    sink: &mut K,
-) -> Result<RunOutcome, Fail> {
-    let mut list = Vec::new(alloc);
-    for word in words.split_whitespace() {
-        list.push(String::from_str(alloc, word)?)?;
-    }
-    Ok(pef_run(alloc, &list, source, sink))
+    text: &str,
+    bad_read: Option<u64>,
+    bad_write: Option<u64>,
+    status: u8,
+) -> Result<(), Fail> {
+    let mut source = MemSource::build(text.as_bytes().to_vec(alloc)?, fails(alloc, bad_read)?);
+    let mut sink = MemSink::build(alloc, 100, fails(alloc, bad_write)?)?;
+    let outcome = call(alloc, words, &mut source, &mut sink)?;
+    assert_eq!(rt; outcome, RunOutcome::plain(status), "{words:?} {text:?}");
+    let report = if status == 0 {
+        STORE_AND_LOAD_REPORT
+    } else {
+        ""
+    };
+    assert_eq!(rt; sink.bytes(), report.as_bytes(), "{words:?} {text:?}");
+    Ok(())
 }
 
 #[test]
-fn each_input_has_its_status_and_what_is_refused_writes_nothing(
+fn each_call_has_its_status_and_what_is_refused_writes_nothing(
     rt: HostRuntime,
 ) -> Result<(), Fail> {
     let alloc = rt.alloc();
-    for (words, text, bad_read, bad_write, status) in [
-        ("run", STORE_AND_LOAD, None, None, 0u8),
-        ("run", "", None, None, 1),
-        ("run", "pef 1\nborn 1\n", None, None, 1),
-        ("run", "pef 1\nborn 1\n0 u.return 0 0\n", None, None, 1),
-        ("run", "pef 2\nborn 1\nbegin\n", None, None, 1),
-        ("run", "pef 1\nborn 1\nbegin\n0 g.add r1 2\n", None, None, 1),
-        ("run", "pef 1\nborn 1\nbegin\n0 g.li r32 7\n", None, None, 1),
-        (
-            "run",
-            "pef 1\nborn 1\nbegin\n0 g.li r2 18446744073709551616\n",
-            None,
-            None,
-            1,
-        ),
-        (
-            "run",
-            "pef 1\nborn 1\nbegin\n0 g.li r2 0x10000000000000000\n",
-            None,
-            None,
-            1,
-        ),
-        (
-            "run",
-            "pef 1\nborn 1\nbegin\n0\tg.li r20 7\n",
-            None,
-            None,
-            1,
-        ),
-        (
-            "run",
-            "pef 1\nborn 1\nbegin\n0 g.li  r20 7\n",
-            None,
-            None,
-            1,
-        ),
-        (
-            "run",
-            "pef 1\nborn 1\nbegin\n0 g.li r20 7 \n",
-            None,
-            None,
-            1,
-        ),
-        ("run", "pef 1\nborn 1\nbegin\n0 g.li r20 7", None, None, 1),
-        ("run", "pef 1\nborn 1\nbegin\n\n", None, None, 1),
-        ("run", "pef 1\nborn 1\nbegin\n1 g.li r20 7\n", None, None, 1),
-        ("", STORE_AND_LOAD, None, None, 2),
-        ("run run", STORE_AND_LOAD, None, None, 2),
-        ("--help", STORE_AND_LOAD, None, None, 2),
-        ("--help", "", Some(0), Some(0), 2),
-        ("run", STORE_AND_LOAD, Some(0), None, 3),
-        ("run", "", Some(0), Some(0), 3),
-        ("run", "", None, Some(0), 1),
-        ("run", STORE_AND_LOAD, None, Some(0), 4),
-    ] {
-        let mut source = MemSource::build(text.as_bytes().to_vec(alloc)?, fails(alloc, bad_read)?);
-        let mut sink = MemSink::build(alloc, 100, fails(alloc, bad_write)?)?;
-        let outcome = call(alloc, words, &mut source, &mut sink)?;
-        let want = RunOutcome {
-            status,
-            line: 0,
-            left: 0,
-            right: 0,
-        };
-        assert_eq!(rt; outcome, want, "{words:?} {text:?}");
-        let report = if status == 0 {
-            STORE_AND_LOAD_REPORT
-        } else {
-            ""
-        };
-        assert_eq!(rt; sink.bytes(), report.as_bytes(), "{words:?} {text:?}");
-    }
+    ends(&rt, alloc, "run", STORE_AND_LOAD, None, None, 0)?;
+    ends(&rt, alloc, "", STORE_AND_LOAD, None, None, 2)?;
+    ends(&rt, alloc, "run run", STORE_AND_LOAD, None, None, 2)?;
+    ends(&rt, alloc, "--help", STORE_AND_LOAD, None, None, 2)?;
+    ends(&rt, alloc, "--help", "", Some(0), Some(0), 2)?;
+    ends(&rt, alloc, "run", STORE_AND_LOAD, Some(0), None, 3)?;
+    ends(&rt, alloc, "run", "", Some(0), Some(0), 3)?;
+    ends(&rt, alloc, "run", "", None, Some(0), 1)?;
+    ends(&rt, alloc, "run", STORE_AND_LOAD, None, Some(0), 4)
+}
+
+/// Runs a script whose bytes come one a read, and compares the report.
+fn read_by_bytes(rt: &impl Abort, alloc: Global, text: &str, report: &str) -> Result<(), Fail> {
+    let mut source = ByteSource {
+        source: MemSource::build(text.as_bytes().to_vec(alloc)?, Vec::new(alloc)),
+    };
+    let mut sink = MemSink::build(alloc, 1000, Vec::new(alloc))?;
+    assert_eq!(rt; call(alloc, "run", &mut source, &mut sink)?.status, 0);
+    assert_eq!(rt; sink.bytes(), report.as_bytes());
     Ok(())
 }
 
 #[test]
 fn a_source_may_give_a_byte_a_read(rt: HostRuntime) -> Result<(), Fail> {
-    let alloc = rt.alloc();
-    for (text, report) in [
-        (STORE_AND_LOAD, STORE_AND_LOAD_REPORT),
-        (REFUSED, REFUSED_REPORT),
-    ] {
-        let mut source = ByteSource {
-            source: MemSource::build(text.as_bytes().to_vec(alloc)?, Vec::new(alloc)),
-        };
-        let mut sink = MemSink::build(alloc, 1000, Vec::new(alloc))?;
-        assert_eq!(rt; call(alloc, "run", &mut source, &mut sink)?.status, 0);
-        assert_eq!(rt; sink.bytes(), report.as_bytes());
-    }
-    Ok(())
+    read_by_bytes(&rt, rt.alloc(), STORE_AND_LOAD, STORE_AND_LOAD_REPORT)?;
+    read_by_bytes(&rt, rt.alloc(), REFUSED, REFUSED_REPORT)
 }
 
 #[test]
@@ -195,32 +143,28 @@ fn a_script_past_the_limit_is_read_one_byte_past_it(rt: HostRuntime) -> Result<(
 
 #[test]
 fn the_report_shows_each_frame_that_is_not_zero(rt: HostRuntime) -> Result<(), Fail> {
-    let alloc = rt.alloc();
     // The digests are those of Python's hashlib over the bytes written down by hand.
-    for (lines, report) in [
-        (
-            "0 h.st 0 0x0102030405060708\n0 h.ld 0\n",
-            "4 0 h.st done\n5 0 h.ld val 0x102030405060708\nframe 0 ef0e2c4e17a614b9546566d1c7eea08a6aaadefcc8ea85eb720cc95375d65333\nfree 16\nend\n",
-        ),
-        (
-            "0 h.st 0xfff8 7\n0 h.st 0xf0008 0xffffffffffffffff\n0 h.st 0xf0010 1\n",
-            "4 0 h.st done\n5 0 h.st done\n6 0 h.st done\nframe 0 9f0d9fb12cfd8baaf0dcbd4f0a2b80708824a045954c09bf794f178951327687\nframe 15 0558b88dfecc5c2984e807a9c5ac04957a2c6d7cefcee49c430cb090b2e4b73a\nfree 16\nend\n",
-        ),
-        (
-            "0 h.ld 0xffff8\n0 h.ld 0x100000\n0 h.ld 1\n0 h.ld 0xfffffffffffffff8\n0 h.st 4 1\n0 h.st 0x100000 1\n",
-            "4 0 h.ld val 0x0\n5 0 h.ld hole\n6 0 h.ld hole\n7 0 h.ld hole\n8 0 h.st hole\n9 0 h.st hole\nfree 16\nend\n",
-        ),
-        (
-            "0 h.st 8 5\n0 h.st 8 0\n0 u.return 0 0\n0 h.ld 8\n0 h.st 8 1\n",
-            "4 0 h.st done\n5 0 h.st done\n6 0 u.return enter\n7 0 h.ld context\n8 0 h.st context\nfree 16\nend\n",
-        ),
-    ] {
-        let mut text = b"pef 1\nborn 1\nbegin\n".to_vec(alloc)?;
-        text.extend_from_slice(lines.as_bytes())?;
-        let mut source = MemSource::build(text, Vec::new(alloc));
-        let mut sink = MemSink::build(alloc, 1000, Vec::new(alloc))?;
-        assert_eq!(rt; call(alloc, "run", &mut source, &mut sink)?.status, 0);
-        assert_eq!(rt; sink.bytes(), report.as_bytes());
-    }
-    Ok(())
+    report_each(
+        &rt,
+        rt.alloc(),
+        "pef 1\nborn 1\nbegin\n",
+        &[
+            (
+                "0 h.st 0 0x0102030405060708\n0 h.ld 0\n",
+                "4 0 h.st done\n5 0 h.ld val 0x102030405060708\nframe 0 ef0e2c4e17a614b9546566d1c7eea08a6aaadefcc8ea85eb720cc95375d65333\nfree 16\nend\n",
+            ),
+            (
+                "0 h.st 0xfff8 7\n0 h.st 0xf0008 0xffffffffffffffff\n0 h.st 0xf0010 1\n",
+                "4 0 h.st done\n5 0 h.st done\n6 0 h.st done\nframe 0 9f0d9fb12cfd8baaf0dcbd4f0a2b80708824a045954c09bf794f178951327687\nframe 15 0558b88dfecc5c2984e807a9c5ac04957a2c6d7cefcee49c430cb090b2e4b73a\nfree 16\nend\n",
+            ),
+            (
+                "0 h.ld 0xffff8\n0 h.ld 0x100000\n0 h.ld 1\n0 h.ld 0xfffffffffffffff8\n0 h.st 4 1\n0 h.st 0x100000 1\n",
+                "4 0 h.ld val 0x0\n5 0 h.ld hole\n6 0 h.ld hole\n7 0 h.ld hole\n8 0 h.st hole\n9 0 h.st hole\nfree 16\nend\n",
+            ),
+            (
+                "0 h.st 8 5\n0 h.st 8 0\n0 u.return 0 0\n0 h.ld 8\n0 h.st 8 1\n",
+                "4 0 h.st done\n5 0 h.st done\n6 0 u.return enter\n7 0 h.ld context\n8 0 h.st context\nfree 16\nend\n",
+            ),
+        ],
+    )
 }

@@ -8,12 +8,12 @@ use Rattle.pef_top.specs.Limits.{limit_in}
 use Rattle.pef_top.specs.Outcome.{plain, limit_passed}
 use Rattle.pef_top.specs.Text.{WroteReport, WroteReportPart}
 
--- the report of the script that a text is was written, whole where its run has no digest collision
+-- the report of the script that a text is was written whole, or, where its run has a digest collision, at least the lines before the first
 abbrev pub WritesReport : Option Script → Option (List ℕ) → Option (List ℕ) → Type 0
 WritesReport None old new = ⊥
 WritesReport (Some script) old new = WroteReport script old new
 
--- an input that passes no limit was read to its end, is a script, and its report was written
+-- an input that passes no limit was read to its end, is a script, and its report was written in this sense
 pub record Reports (text : List ℕ) (left old new : Option (List ℕ)) : Type 0 where
   pub limit : limit_in text ≡ None
   pub read : left ≡ Some []
@@ -24,12 +24,12 @@ abbrev pub IfReports : Option (List ℕ) → Option (List ℕ) → Option (List 
 IfReports None left old new = Unit {0}
 IfReports (Some text) left old new = Reports text left old new
 
--- a first part of the report of the script that a text is was written
+-- a first part of the report of the script that a text is was written, or, where its run has a digest collision, a first part of the lines before the first, or these and more
 abbrev pub BeginsReport : Option Script → Option (List ℕ) → Option (List ℕ) → Type 0
 BeginsReport None old new = ⊥
 BeginsReport (Some script) old new = WroteReportPart script old new
 
--- an input passes no limit, and a first part of its report was written
+-- an input passes no limit, and a first part of its report was written in this sense
 pub record Begins (text : List ℕ) (old new : Option (List ℕ)) : Type 0 where
   pub limit : limit_in text ≡ None
   pub report : BeginsReport (script_of text) old new

@@ -51,7 +51,8 @@ fn run_script<S: Source, K: Sink>(
 ///
 /// The words are those after the program's name. Refusals come in this order: the words; a failed read or a script that is
 /// too long, as reading goes; an input that is no script; limit 3, and then limit 4; want of memory, which may come wherever
-/// memory is taken; a failed write. At a failed write a first part of the report was written, and at every other refusal nothing.
+/// memory is taken; a failed write. At a failed write a first part of the report was written, or, where the run has a digest
+/// collision, a first part of the lines before the first, or these and more; at every other refusal nothing.
 pub fn pef_run<S: Source, K: Sink>(
     alloc: Global,
     words: &[String],

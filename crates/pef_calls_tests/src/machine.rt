@@ -51,6 +51,22 @@ fn run(rt: &impl Abort, machine: &mut Machine<StreamSeal>, steps: &[(u8, Cmd, An
     }
 }
 
+/// Compares how many secure frames are free, how many steps were done, and how many normal frames there are.
+fn counts(rt: &impl Abort, machine: &Machine<StreamSeal>, free: u32, steps: u64) {
+    assert_eq!(rt; machine.free(), free);
+    assert_eq!(rt; machine.steps(), steps);
+    assert_eq!(rt; machine.normal(), 16);
+}
+
+/// Compares the beginning of a normal frame, behind which it is all zero.
+fn begins(rt: &impl Abort, machine: &Machine<StreamSeal>, number: u32, start: &[u8]) {
+    assert!(rt; number < machine.normal());
+    let bytes = machine.frame(number).bytes();
+    assert_eq!(rt; bytes.len(), 0x1_0000);
+    assert!(rt; bytes.starts_with(start));
+    assert!(rt; bytes.iter().skip(start.len()).all(|byte| *byte == 0));
+}
+
 fn u_return() -> Cmd {
     Cmd::UReturn {
         r0: 0,
@@ -83,7 +99,7 @@ fn load(gpa: u64) -> Cmd {
 #[test]
 fn stores_and_loads(rt: HostRuntime) -> Result<(), Fail> {
     let mut machine = secure_machine(rt.alloc())?;
-    assert_eq!(rt; machine.free(), 16);
+    counts(&rt, &machine, 16, 0);
     run(
         &rt,
         &mut machine,
@@ -94,8 +110,7 @@ fn stores_and_loads(rt: HostRuntime) -> Result<(), Fail> {
             (0, load(0), Answer::Val(7)),
         ],
     );
-    assert_eq!(rt; machine.free(), 15);
-    assert_eq!(rt; machine.steps(), 4);
+    counts(&rt, &machine, 15, 4);
     Ok(())
 }
 
@@ -116,8 +131,7 @@ fn refuses(rt: HostRuntime) -> Result<(), Fail> {
             (0, store(0x10_0000), Answer::Hole),
         ],
     );
-    assert_eq!(rt; machine.free(), 16);
-    assert_eq!(rt; machine.steps(), 7);
+    counts(&rt, &machine, 16, 7);
     Ok(())
 }
 
@@ -166,7 +180,7 @@ fn two_cpus_store_and_load_one_page_in_turn(rt: HostRuntime) -> Result<(), Fail>
         ],
     );
     // Both CPUs reached one page.
-    assert_eq!(rt; machine.free(), 15);
+    counts(&rt, &machine, 15, 12);
     Ok(())
 }
 
@@ -201,7 +215,6 @@ fn keeps_a_guest_out_that_is_not_born_secure(rt: HostRuntime) -> Result<(), Fail
 #[test]
 fn loads_what_the_hypervisor_stored(rt: HostRuntime) -> Result<(), Fail> {
     let mut machine = normal_machine(rt.alloc())?;
-    assert_eq!(rt; machine.normal(), 16);
     let value = 0x0102_0304_0506_0708;
     run(
         &rt,
@@ -213,17 +226,14 @@ fn loads_what_the_hypervisor_stored(rt: HostRuntime) -> Result<(), Fail> {
             (0, Cmd::HLd { ra: 0xF_FFF8 }, Answer::Val(0)),
         ],
     );
-    assert_eq!(rt; machine.steps(), 4);
-    assert!(rt; machine.normal() > 15);
-    assert_eq!(rt; machine.frame(0).bytes().len(), 0x1_0000);
-    assert_eq!(rt;
-        &machine.frame(0).bytes()[..24],
-        [
-            0, 0, 0, 0, 0, 0, 0, 0, 1, 2, 3, 4, 5, 6, 7, 8, 0, 0, 0, 0, 0, 0, 0, 0
-        ]
-        .as_slice()
+    counts(&rt, &machine, 16, 4);
+    begins(
+        &rt,
+        &machine,
+        0,
+        &[0, 0, 0, 0, 0, 0, 0, 0, 1, 2, 3, 4, 5, 6, 7, 8],
     );
-    assert!(rt; machine.frame(1).bytes().iter().all(|byte| *byte == 0));
+    begins(&rt, &machine, 1, &[]);
     Ok(())
 }
 
@@ -252,6 +262,6 @@ fn refuses_a_real_address_with_no_place(rt: HostRuntime) -> Result<(), Fail> {
             (0, Cmd::HSt { ra: 0, value: 7 }, Answer::Context),
         ],
     );
-    assert_eq!(rt; machine.steps(), 7);
+    counts(&rt, &machine, 16, 7);
     Ok(())
 }

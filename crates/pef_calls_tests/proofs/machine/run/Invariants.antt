@@ -1,5 +1,5 @@
 use Rattle.std.proofs.Common.{◌≡◌, length}
-use Rattle.pef_tests.proofs.machine.run.Given as goal
+use Rattle.pef_calls_tests.proofs.machine.run.Given as goal
 
 -- the machine still has two CPUs
 abbrev pub invariant-loop-cpu : goal.invariant-loop-cpu

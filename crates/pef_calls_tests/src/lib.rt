@@ -1,0 +1,13 @@
+//! The happy path of each public call below the top call, and one call for each refusal.
+#![tactic(auto)]
+
+#[cfg(test)]
+mod frames;
+#[cfg(test)]
+mod machine;
+#[cfg(test)]
+mod num;
+#[cfg(test)]
+mod pages;
+#[cfg(test)]
+mod seal;
