@@ -73,3 +73,4 @@ pub mod SoundParts
 pub mod ThroughHand
 pub mod NormalLoads
 pub mod BegunCalls
+pub mod SoundReports

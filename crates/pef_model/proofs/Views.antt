@@ -184,14 +184,14 @@ legal_prefix plan zero past h = h
 legal_prefix plan (suc n) [] h = tt
 legal_prefix plan (suc n) (e ∷ past) h = legal_prefix plan n past h.1
 
-alike_prefix : (n : ℕ) (past history : List Event) → AllAlikeOpen past history → AllAlikeOpen (drop n past) (drop n history)
+pub alike_prefix : (n : ℕ) (past history : List Event) → AllAlikeOpen past history → AllAlikeOpen (drop n past) (drop n history)
 alike_prefix zero past history h = h
 alike_prefix (suc n) [] [] h = tt
 alike_prefix (suc n) [] (f ∷ history) h = absurd h
 alike_prefix (suc n) (e ∷ past) [] h = absurd h
 alike_prefix (suc n) (e ∷ past) (f ∷ history) h = alike_prefix n past history h.1
 
-sealed_prefix : (n : ℕ) (past history : List Event) → SealedBytesAgree past history → SealedBytesAgree (drop n past) (drop n history)
+pub sealed_prefix : (n : ℕ) (past history : List Event) → SealedBytesAgree past history → SealedBytesAgree (drop n past) (drop n history)
 sealed_prefix zero past history h = h
 sealed_prefix (suc n) [] [] h = tt
 sealed_prefix (suc n) [] (f ∷ history) h = tt

@@ -10,6 +10,7 @@ use Rattle.pef_model.specs.Run.{run_of}
 use Rattle.pef_model.specs.Report.{entry_line, report_end}
 use Rattle.pef_model.specs.SecretLaw.{open_directive}
 use Rattle.pef_model.specs.View.{is_seen}
+use Rattle.pef_model.specs.Sound.{sound}
 use Rattle.pef_model.specs.Alike.{AgreeButWords, begins_sealing, IsAlike}
 
 -- two histories whose reports say the same where the hypervisor sees it
@@ -26,6 +27,12 @@ abbrev pub AlikeReportTheSame : Type 0
 AlikeReportTheSame =
     (one other : Config) (past history : List Event) → IsAlike one past other history → IsLegal (plan_of one) past → IsLegal (plan_of other) history →
     ReportTheSame (plan_of one) (plan_of other) past history
+
+-- and so have their sound parts
+abbrev pub AlikeSoundPartsReportTheSame : Type 0
+AlikeSoundPartsReportTheSame =
+    (one other : Config) (past history : List Event) → IsAlike one past other history → IsLegal (plan_of one) past → IsLegal (plan_of other) history →
+    ReportTheSame (plan_of one) (plan_of other) (sound (plan_of one) past) (sound (plan_of other) history)
 
 -- a line without the value that a guest alone knows
 abbrev pub open_line : Line → Line

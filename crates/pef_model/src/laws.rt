@@ -6,7 +6,7 @@ ghost use Rattle.pef_model.specs.ReadLaw.{EachOwnEntriesDecide, TheseFieldsDecid
 ghost use Rattle.pef_model.specs.SecretLaw.{NoSecretInPublicState, NoSecretInOneEntry, NoSecretInDeeds};
 ghost use Rattle.pef_model.specs.SearchLaw.{LastStoreIsNewest, RegIsNewest, LoadGivesLastStore, SecurePageIsReached, LastStoreIsStored, LastStoreIsZero};
 ghost use Rattle.pef_model.specs.Alike.{AlikeShowTheSame, AlikeClashTogether, OpenIsAlike, UnsealedIsAlike};
-ghost use Rattle.pef_model.specs.SeenReport.{AlikeReportTheSame, SecretsGiveAlikeRuns};
+ghost use Rattle.pef_model.specs.SeenReport.{AlikeReportTheSame, AlikeSoundPartsReportTheSame, SecretsGiveAlikeRuns};
 ghost use Rattle.pef_model.specs.PairLaw.{SecretStaysIn, ViewShowsStores, StreamTells, VaultIsShut};
 ghost use Rattle.pef_model.specs.SeenLaw.{RegistersAreSeen, SeenIsShown};
 ghost use Rattle.pef_model.specs.NormalLaw.{FramesHoldLastNorm, LoadGivesLastNorm, GuestLeavesFrames, StoreLeavesGuests, WritesMakeFrames, EachMoveKeepsToItsObjects};
@@ -175,6 +175,11 @@ pub fn registers_are_seen()
 /// what is free.
 pub fn alike_report_the_same()
     ensures { AlikeReportTheSame }
+{}
+
+/// The same of the parts before their first digest collision.
+pub fn alike_sound_parts_report_the_same()
+    ensures { AlikeSoundPartsReportTheSame }
 {}
 
 /// Two scripts that differ in secrets alone have alike runs, where the guests let out the same and the sealed pages are the

@@ -7,6 +7,8 @@ use Rattle.pef_model.specs.Script.{Script, Reads}
 use Rattle.pef_model.proofs.Grammar.{script_is_script}
 use Rattle.pef_model.proofs.Runs.{one_run}
 use Rattle.pef_model.proofs.SeenReports.{alike_report_the_same}
+use Rattle.pef_model.proofs.AlikeClashes.{alike_clash_together}
+use Rattle.pef_model.proofs.SoundReports.{alike_sound_parts_report_the_same}
 use Rattle.pef_top.specs.Top.{WritesReport, IfReports}
 use Rattle.pef_top.specs.TwoRuns.{Written, IsReportOf, AlikeRunsWriteTheSame}
 
@@ -23,4 +25,6 @@ alike_runs_write_the_same text other_text script other left other_left w v reads
   one = wrote text script left w reads done;
   other_one = wrote other_text other other_left v other_reads other_done;
   agree = alike_report_the_same script.config other.config (run_of script) (run_of other) alike (run_is_legal text script reads) (run_is_legal other_text other other_reads);
+  together = alike_clash_together script.config other.config (run_of script) (run_of other) alike (run_is_legal text script reads) (run_is_legal other_text other other_reads);
+  before = alike_sound_parts_report_the_same script.config other.config (run_of script) (run_of other) alike (run_is_legal text script reads) (run_is_legal other_text other other_reads);
 }

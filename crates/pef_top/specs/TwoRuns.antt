@@ -3,7 +3,8 @@ use Rattle.std.specs.Prelude.{ℕ, List, Option, Some}
 use Rattle.pef_model.specs.Plan.{plan_of}
 use Rattle.pef_model.specs.Run.{run_of}
 use Rattle.pef_model.specs.Script.{Script, Reads}
-use Rattle.pef_model.specs.Alike.{IsAlike}
+use Rattle.pef_model.specs.Sound.{sound}
+use Rattle.pef_model.specs.Alike.{IsAlike, ClashTogether}
 use Rattle.pef_model.specs.SeenReport.{ReportTheSame}
 use Rattle.pef_top.specs.Text.{WroteReport}
 use Rattle.pef_top.specs.Top.{IfReports}
@@ -17,11 +18,14 @@ pub record Written : Type 0 where
 abbrev pub IsReportOf : Script → Written → Type 0
 IsReportOf script w = WroteReport script w.old w.new
 
--- each of two calls wrote its script's report, and the whole reports agree in the hypervisor's lines
+-- each of two calls wrote its script's report: the whole reports agree in the hypervisor's lines, and so do those of what comes before the first digest collision, which is at the same entry of both runs
 pub record WroteTheSame (script other : Script) (w v : Written) : Type 0 where
   pub one : IsReportOf script w
   pub other_one : IsReportOf other v
   pub agree : ReportTheSame (plan_of script.config) (plan_of other.config) (run_of script) (run_of other)
+  pub together : ClashTogether (plan_of script.config) (plan_of other.config) (run_of script) (run_of other)
+  pub before :
+      ReportTheSame (plan_of script.config) (plan_of other.config) (sound (plan_of script.config) (run_of script)) (sound (plan_of other.config) (run_of other))
 
 -- two calls that answered 0, by what their clause says then, and read scripts whose runs are alike, wrote such reports
 abbrev pub AlikeRunsWriteTheSame : Type 0
