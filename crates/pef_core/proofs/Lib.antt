@@ -25,3 +25,4 @@ pub mod Begun
 pub mod Refusals
 pub mod Leaving
 pub mod Alone
+pub mod Sites

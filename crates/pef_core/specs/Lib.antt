@@ -6,4 +6,5 @@ pub mod Start
 pub mod Steps
 pub mod Refused
 pub mod Alone
+pub mod Calls
 pub mod Places

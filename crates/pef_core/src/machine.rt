@@ -11,6 +11,7 @@ ghost use Rattle.pef_core.specs.Start.{IsServed, AreStartCpus, AreStartGuests};
 ghost use Rattle.pef_core.specs.Steps.{Fits, Continues};
 ghost use Rattle.pef_core.specs.Refused.{LeavesRest};
 ghost use Rattle.pef_core.specs.Alone.{LeavesOthers};
+ghost use Rattle.pef_core.specs.Calls.{moves_page};
 ghost use Rattle.pef_guest.specs.declared.cpu.Cpu.{Cpu};
 ghost use Rattle.pef_core.specs.Places.{EachPageIsPlaced};
 ghost use Rattle.pef_core.specs.Rows.{is_no_guests};
@@ -156,6 +157,32 @@ impl<S: Seal> Machine<S> {
                 let own = &mut self.cpus[cpu as usize];
                 hypervisor::store(own, &mut self.normal, *ra, *value)
             }
+            Cmd::UPagein { .. } => self.step_page_call(cpu, cmd),
+            Cmd::UPageout { .. } => self.step_page_call(cpu, cmd),
+            Cmd::UReturn { r0, r2, outs } => self.step_return(cpu, *r0, *r2, outs),
+            Cmd::GLi { .. } => Answer::Context,
+            Cmd::GLd { .. } => Answer::Context,
+            Cmd::GSt { .. } => Answer::Context,
+            Cmd::GIrq => Answer::Context,
+            Cmd::Go => Answer::Context,
+        }
+    }
+
+    /// A call that moves a page, on a CPU on which the hypervisor runs.
+    fn step_page_call(&mut self, cpu: u8, cmd: &Cmd) -> Answer
+        requires page { moves_page cmd.now ≡ true }
+        requires hypervisor { HasContext self.old.cpus cpu Ctx.Hv }
+        requires steps { HasSteps self.old }
+        requires frames_once { FramesOnce self.old }
+        ensures frames_once { FramesOnce self.new }
+        ensures refused { LeavesRest cpu Ctx.Hv self.old self.new result }
+        ensures alone { LeavesOthers cpu cmd.now self.old self.new }
+        ensures step { Continues S.stands S.image self.old self.new cpu cmd.now result }
+        ensures count { self.new.steps ≡ self.old.steps }
+        ensures cpus { length self.new.cpus ≡ length self.old.cpus }
+        ensures guests { length self.new.guests ≡ length self.old.guests }
+    {
+        match cmd {
             Cmd::UPagein {
                 lpid,
                 src,
@@ -188,12 +215,7 @@ impl<S: Seal> Machine<S> {
                     order: *order,
                 },
             ),
-            Cmd::UReturn { r0, r2, outs } => self.step_return(cpu, *r0, *r2, outs),
-            Cmd::GLi { .. } => Answer::Context,
-            Cmd::GLd { .. } => Answer::Context,
-            Cmd::GSt { .. } => Answer::Context,
-            Cmd::GIrq => Answer::Context,
-            Cmd::Go => Answer::Context,
+            _ => unreachable!(),
         }
     }
 
@@ -412,7 +434,8 @@ impl<S: Seal> Machine<S> {
         self.normal.count()
     }
 
-    /// A normal frame, by its number from 0: what the hypervisor has stored there, and else zeros.
+    /// A normal frame, by its number from 0: what the hypervisor's stores and the copies of page-outs have left there, and
+    /// else zeros.
     pub fn frame(&self, number: u32) -> &NormalFrame
         requires { number < length self.now.normal.frames }
         ensures { result.now ≡ frame_at self.now.normal.frames number }

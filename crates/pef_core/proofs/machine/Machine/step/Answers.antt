@@ -1,24 +1,24 @@
 use Rattle.std.proofs.Common.{rules, ◌≡◌, ◌+◌, ◌<◌, length, sym, ap, subst, ◌∙◌}
 use Rattle.std.specs.Prelude.{slice_get}
 use Rattle.pef_model.specs.declared.state.Ctx.TheVariants as ctx
-use Rattle.pef_core.specs.State.{State}
 use Rattle.pef_core.specs.Steps.{Continues}
 use Rattle.pef_core.specs.Refused.{LeavesRest}
 use Rattle.pef_core.proofs.Leaving.{steps_aside}
 use Rattle.pef_core.proofs.WholeAfter.{one_step_more}
 use Rattle.pef_core.proofs.Places.{has_context}
 use Rattle.pef_core.specs.Alone.{LeavesOthers}
+use Rattle.pef_core.proofs.Sites.{state_of}
 use Rattle.pef_core.proofs.machine.Machine.step.Goals as goal
 
 -- one step more is counted
 pub invariant_of-self : goal.invariant_of-self
-invariant_of-self g c = one_step_more g.S.Seal.takes (record { cpus = c.self.inside.cpus.items; guests = c.self.inside.guests.items; pool = c.self.inside.pool; normal = c.self.inside.normal; steps = c.self.inside.steps }) c.self.invariant
+invariant_of-self g c = one_step_more g.S.Seal.takes (state_of c.self.inside) c.self.invariant
 
 pub invariant_of-self-in-Uv : goal.invariant_of-self-in-Uv
-invariant_of-self-in-Uv g c = one_step_more g.S.Seal.takes (record { cpus = c.self.inside.cpus.items; guests = c.self.inside.guests.items; pool = c.self.inside.pool; normal = c.self.inside.normal; steps = c.self.inside.steps }) c.self.invariant
+invariant_of-self-in-Uv g c = one_step_more g.S.Seal.takes (state_of c.self.inside) c.self.invariant
 
 pub invariant_of-self-in-Guest : goal.invariant_of-self-in-Guest
-invariant_of-self-in-Guest g c = one_step_more g.S.Seal.takes (record { cpus = c.self.inside.cpus.items; guests = c.self.inside.guests.items; pool = c.self.inside.pool; normal = c.self.inside.normal; steps = c.self.inside.steps }) c.self.invariant
+invariant_of-self-in-Guest g c = one_step_more g.S.Seal.takes (state_of c.self.inside) c.self.invariant
 
 pub step_hypervisor-requires-clause-hypervisor : goal.step_hypervisor-requires-clause-hypervisor
 step_hypervisor-requires-clause-hypervisor g c =
@@ -59,7 +59,7 @@ pub returns-in-Hv-clause-refused : goal.returns-in-Hv-clause-refused
 returns-in-Hv-clause-refused g c own there =
     let has = has_context c.self.inside.cpus.items c.args.cpu c.index.result.now ctx.Hv (subst (λ m. c.args.cpu < length m.cpus) (sym c.self.view_is) c.requires.cpu) (search rules) c.in-Hv.is in
     let context : own.ctx ≡ ctx.Hv = has.is own (ap (λ m. slice_get m.cpus c.args.cpu) c.self.view_is ∙ there) in
-    let old : State _ = record { cpus = c.self.inside.cpus.items; guests = c.self.inside.guests.items; pool = c.self.inside.pool; normal = c.self.inside.normal; steps = c.self.inside.steps } in
+    let old = state_of c.self.inside in
     subst (λ x. LeavesRest c.args.cpu x c.args.self.now c.step_hypervisor.new.self c.step_hypervisor.result) (sym context)
     (subst (λ m. LeavesRest c.args.cpu ctx.Hv m c.step_hypervisor.new.self c.step_hypervisor.result) c.self.view_is
     (steps_aside c.args.cpu ctx.Hv old c.step_hypervisor.new.self (c.self.inside.steps + 1) c.step_hypervisor.result c.step_hypervisor.ensures.refused))
@@ -69,7 +69,7 @@ returns-in-Uv-clause-refused g c own there =
     let work = c.in-Uv.work in
     let has = has_context c.self.inside.cpus.items c.args.cpu c.index.result.now (ctx.Uv work) (subst (λ m. c.args.cpu < length m.cpus) (sym c.self.view_is) c.requires.cpu) (search rules) c.in-Uv.is in
     let context : own.ctx ≡ ctx.Uv work = has.is own (ap (λ m. slice_get m.cpus c.args.cpu) c.self.view_is ∙ there) in
-    let old : State _ = record { cpus = c.self.inside.cpus.items; guests = c.self.inside.guests.items; pool = c.self.inside.pool; normal = c.self.inside.normal; steps = c.self.inside.steps } in
+    let old = state_of c.self.inside in
     subst (λ x. LeavesRest c.args.cpu x c.args.self.now c.step_working.new.self c.step_working.result) (sym context)
     (subst (λ m. LeavesRest c.args.cpu (ctx.Uv work) m c.step_working.new.self c.step_working.result) c.self.view_is
     (steps_aside c.args.cpu (ctx.Uv work) old c.step_working.new.self (c.self.inside.steps + 1) c.step_working.result c.step_working.ensures.refused))
@@ -79,7 +79,7 @@ returns-in-Guest-clause-refused g c own there =
     let run = c.in-Guest.run' in
     let has = has_context c.self.inside.cpus.items c.args.cpu c.index.result.now (ctx.Guest run) (subst (λ m. c.args.cpu < length m.cpus) (sym c.self.view_is) c.requires.cpu) (search rules) c.in-Guest.is in
     let context : own.ctx ≡ ctx.Guest run = has.is own (ap (λ m. slice_get m.cpus c.args.cpu) c.self.view_is ∙ there) in
-    let old : State _ = record { cpus = c.self.inside.cpus.items; guests = c.self.inside.guests.items; pool = c.self.inside.pool; normal = c.self.inside.normal; steps = c.self.inside.steps } in
+    let old = state_of c.self.inside in
     subst (λ x. LeavesRest c.args.cpu x c.args.self.now c.step_running.new.self c.step_running.result) (sym context)
     (subst (λ m. LeavesRest c.args.cpu (ctx.Guest run) m c.step_running.new.self c.step_running.result) c.self.view_is
     (steps_aside c.args.cpu (ctx.Guest run) old c.step_running.new.self (c.self.inside.steps + 1) c.step_running.result c.step_running.ensures.refused))

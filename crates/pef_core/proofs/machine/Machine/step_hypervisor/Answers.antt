@@ -1,4 +1,4 @@
-use Rattle.std.proofs.Common.{◌<◌, length, sym, ap, subst, refl}
+use Rattle.std.proofs.Common.{sym, ap, subst, refl}
 use Rattle.std.specs.Prelude.{slice_set}
 use Rattle.pef_model.specs.declared.state.Ctx.TheVariants as ctx
 use Rattle.pef_model.specs.declared.command.Cmd.{Cmd}
@@ -7,47 +7,47 @@ use Rattle.pef_core.specs.State.{State}
 use Rattle.pef_core.specs.Steps.{Continues}
 use Rattle.pef_core.proofs.Lists.{element_at}
 use Rattle.pef_core.proofs.WholeAfter.{whole_cpu}
-use Rattle.pef_core.proofs.Places.{found_cpu, selection_stays}
+use Rattle.pef_core.proofs.Places.{selection_stays}
 use Rattle.pef_core.specs.Refused.{LeavesRest}
 use Rattle.pef_core.proofs.Leaving.{normal_leaves, context_leaves}
 use Rattle.pef_core.proofs.Continuing.{load_continues, store_continues, is_idle, hypervisor_idle}
 use Rattle.pef_core.specs.Alone.{normal_after, LeavesOthers}
 use Rattle.pef_core.proofs.Alone.{alone_none, alone_cpu}
+use Rattle.pef_core.proofs.Sites.{state_of, own_site}
 use Rattle.pef_core.proofs.machine.Machine.step_hypervisor.Goals as goal
 
 pub load-requires : goal.load-requires
 load-requires g c =
-    (found_cpu c.self.inside.cpus.items c.args.self.now c.args.cpu c.index_mut.result.now ctx.Hv (ap (λ m. m.cpus) (sym c.self.view_is)) c.requires.hypervisor c.index_mut.ensures.value).1
+    (own_site g.S.Seal.takes (state_of c.self.inside) c.args.self.now c.args.cpu c.self.view_is c.self.invariant ctx.Hv c.index_mut.result.now c.requires.hypervisor c.index_mut.ensures.value).context
 
 pub store-requires : goal.store-requires
 store-requires g c =
-    (found_cpu c.self-in-HSt.inside.cpus.items c.args.self.now c.args.cpu c.index_mut-own.result.now ctx.Hv (ap (λ m. m.cpus) (sym c.self-in-HSt.view_is)) c.requires.hypervisor c.index_mut-own.ensures.value).1
+    (own_site g.S.Seal.takes (state_of c.self-in-HSt.inside) c.args.self.now c.args.cpu c.self-in-HSt.view_is c.self-in-HSt.invariant ctx.Hv c.index_mut-own.result.now c.requires.hypervisor c.index_mut-own.ensures.value).context
 
 pub invariant_of-self : goal.invariant_of-self
 invariant_of-self g c =
     let cpu = c.index_mut.result.now in
-    let own = found_cpu c.self.inside.cpus.items c.args.self.now c.args.cpu cpu ctx.Hv (ap (λ m. m.cpus) (sym c.self.view_is)) c.requires.hypervisor c.index_mut.ensures.value in
-    let old : State _ = record { cpus = c.self.inside.cpus.items; guests = c.self.inside.guests.items; pool = c.self.inside.pool; normal = c.self.inside.normal; steps = c.self.inside.steps } in
+    let own = own_site g.S.Seal.takes (state_of c.self.inside) c.args.self.now c.args.cpu c.self.view_is c.self.invariant ctx.Hv cpu c.requires.hypervisor c.index_mut.ensures.value in
+    let old = state_of c.self.inside in
     whole_cpu g.S.Seal.takes old c.args.cpu c.load.new.cpu c.self.invariant c.self.inside.normal refl refl
-    (selection_stays c.self.inside.guests.items c.self.inside.normal c.args.cpu cpu c.load.new.cpu c.load.ensures.keeps (c.self.invariant.cpus c.args.cpu cpu own.0))
+    (selection_stays c.self.inside.guests.items c.self.inside.normal c.args.cpu cpu c.load.new.cpu c.load.ensures.keeps own.is_cpu)
 
 pub invariant_of-self-in-HSt : goal.invariant_of-self-in-HSt
 invariant_of-self-in-HSt g c =
     let cpu = c.index_mut-own.result.now in
     let inside = c.self-in-HSt.inside in
-    let own = found_cpu inside.cpus.items c.args.self.now c.args.cpu cpu ctx.Hv (ap (λ m. m.cpus) (sym c.self-in-HSt.view_is)) c.requires.hypervisor c.index_mut-own.ensures.value in
-    let old : State _ = record { cpus = inside.cpus.items; guests = inside.guests.items; pool = inside.pool; normal = inside.normal; steps = inside.steps } in
+    let own = own_site g.S.Seal.takes (state_of c.self-in-HSt.inside) c.args.self.now c.args.cpu c.self-in-HSt.view_is c.self-in-HSt.invariant ctx.Hv cpu c.requires.hypervisor c.index_mut-own.ensures.value in
+    let old = state_of inside in
     whole_cpu g.S.Seal.takes old c.args.cpu c.store.new.cpu c.self-in-HSt.invariant c.store.new.normal c.store.ensures.shift c.store.ensures.count
-    (selection_stays inside.guests.items inside.normal c.args.cpu cpu c.store.new.cpu c.store.ensures.keeps (c.self-in-HSt.invariant.cpus c.args.cpu cpu own.0))
+    (selection_stays inside.guests.items inside.normal c.args.cpu cpu c.store.new.cpu c.store.ensures.keeps own.is_cpu)
 
 pub returns-in-HLd-clause-step : goal.returns-in-HLd-clause-step
 returns-in-HLd-clause-step g c =
     let cpu = c.index_mut.result.now in
-    let own = found_cpu c.self.inside.cpus.items c.args.self.now c.args.cpu cpu ctx.Hv (ap (λ m. m.cpus) (sym c.self.view_is)) c.requires.hypervisor c.index_mut.ensures.value in
-    let old : State _ = record { cpus = c.self.inside.cpus.items; guests = c.self.inside.guests.items; pool = c.self.inside.pool; normal = c.self.inside.normal; steps = c.self.inside.steps } in
-    let below = subst (λ m. c.args.cpu < length m.cpus) (sym c.self.view_is) c.requires.hypervisor.below in
+    let own = own_site g.S.Seal.takes (state_of c.self.inside) c.args.self.now c.args.cpu c.self.view_is c.self.invariant ctx.Hv cpu c.requires.hypervisor c.index_mut.ensures.value in
+    let old = state_of c.self.inside in
     let step : Continues g.S.Seal.stands g.S.Seal.image old (record old { cpus = slice_set old.cpus c.args.cpu c.load.new.cpu }) c.args.cpu (HLd c.in-HLd.ra) c.load.result =
-    load_continues g.S.Seal.stands g.S.Seal.image old c.args.cpu below cpu own.0 c.load.new.cpu c.in-HLd.ra c.load.result own.1 c.load.ensures.row in
+    load_continues g.S.Seal.stands g.S.Seal.image old c.args.cpu own.below cpu own.there c.load.new.cpu c.in-HLd.ra c.load.result own.context c.load.ensures.row in
     subst (λ (cmd : Cmd). Continues g.S.Seal.stands g.S.Seal.image c.args.self.now (record old { cpus = slice_set old.cpus c.args.cpu c.load.new.cpu }) c.args.cpu cmd c.load.result) (sym c.in-HLd.is)
     (subst (λ m. Continues g.S.Seal.stands g.S.Seal.image m (record old { cpus = slice_set old.cpus c.args.cpu c.load.new.cpu }) c.args.cpu (HLd c.in-HLd.ra) c.load.result) c.self.view_is step)
 
@@ -55,12 +55,11 @@ pub returns-in-HSt-clause-step : goal.returns-in-HSt-clause-step
 returns-in-HSt-clause-step g c =
     let cpu = c.index_mut-own.result.now in
     let inside = c.self-in-HSt.inside in
-    let own = found_cpu inside.cpus.items c.args.self.now c.args.cpu cpu ctx.Hv (ap (λ m. m.cpus) (sym c.self-in-HSt.view_is)) c.requires.hypervisor c.index_mut-own.ensures.value in
-    let old : State _ = record { cpus = inside.cpus.items; guests = inside.guests.items; pool = inside.pool; normal = inside.normal; steps = inside.steps } in
-    let below = subst (λ m. c.args.cpu < length m.cpus) (sym c.self-in-HSt.view_is) c.requires.hypervisor.below in
+    let own = own_site g.S.Seal.takes (state_of c.self-in-HSt.inside) c.args.self.now c.args.cpu c.self-in-HSt.view_is c.self-in-HSt.invariant ctx.Hv cpu c.requires.hypervisor c.index_mut-own.ensures.value in
+    let old = state_of inside in
     let new : State _ = record old { cpus = slice_set old.cpus c.args.cpu c.store.new.cpu; normal = c.store.new.normal } in
     let step : Continues g.S.Seal.stands g.S.Seal.image old new c.args.cpu (HSt c.in-HSt.ra c.in-HSt.value) c.store.result =
-    store_continues g.S.Seal.stands g.S.Seal.image old c.args.cpu below cpu own.0 c.store.new.cpu c.store.new.normal c.in-HSt.ra c.in-HSt.value c.store.result own.1 c.store.ensures.row in
+    store_continues g.S.Seal.stands g.S.Seal.image old c.args.cpu own.below cpu own.there c.store.new.cpu c.store.new.normal c.in-HSt.ra c.in-HSt.value c.store.result own.context c.store.ensures.row in
     subst (λ (cmd : Cmd). Continues g.S.Seal.stands g.S.Seal.image c.args.self.now new c.args.cpu cmd c.store.result) (sym c.in-HSt.is)
     (subst (λ m. Continues g.S.Seal.stands g.S.Seal.image m new c.args.cpu (HSt c.in-HSt.ra c.in-HSt.value) c.store.result) c.self-in-HSt.view_is step)
 
@@ -93,19 +92,19 @@ returns-in-GIrq-clause-step g c =
 pub returns-in-HLd-clause-refused : goal.returns-in-HLd-clause-refused
 returns-in-HLd-clause-refused g c =
     let cpu = c.index_mut.result.now in
-    let own = found_cpu c.self.inside.cpus.items c.args.self.now c.args.cpu cpu ctx.Hv (ap (λ m. m.cpus) (sym c.self.view_is)) c.requires.hypervisor c.index_mut.ensures.value in
-    let old : State _ = record { cpus = c.self.inside.cpus.items; guests = c.self.inside.guests.items; pool = c.self.inside.pool; normal = c.self.inside.normal; steps = c.self.inside.steps } in
+    let own = own_site g.S.Seal.takes (state_of c.self.inside) c.args.self.now c.args.cpu c.self.view_is c.self.invariant ctx.Hv cpu c.requires.hypervisor c.index_mut.ensures.value in
+    let old = state_of c.self.inside in
     subst (λ m. LeavesRest c.args.cpu ctx.Hv m (record old { cpus = slice_set old.cpus c.args.cpu c.load.new.cpu }) c.load.result) c.self.view_is
-    (normal_leaves old c.args.cpu cpu own.0 c.load.new.cpu c.self.inside.normal c.load.result c.load.ensures.refused)
+    (normal_leaves old c.args.cpu cpu own.there c.load.new.cpu c.self.inside.normal c.load.result c.load.ensures.refused)
 
 pub returns-in-HSt-clause-refused : goal.returns-in-HSt-clause-refused
 returns-in-HSt-clause-refused g c =
     let cpu = c.index_mut-own.result.now in
     let inside = c.self-in-HSt.inside in
-    let own = found_cpu inside.cpus.items c.args.self.now c.args.cpu cpu ctx.Hv (ap (λ m. m.cpus) (sym c.self-in-HSt.view_is)) c.requires.hypervisor c.index_mut-own.ensures.value in
-    let old : State _ = record { cpus = inside.cpus.items; guests = inside.guests.items; pool = inside.pool; normal = inside.normal; steps = inside.steps } in
+    let own = own_site g.S.Seal.takes (state_of c.self-in-HSt.inside) c.args.self.now c.args.cpu c.self-in-HSt.view_is c.self-in-HSt.invariant ctx.Hv cpu c.requires.hypervisor c.index_mut-own.ensures.value in
+    let old = state_of inside in
     subst (λ m. LeavesRest c.args.cpu ctx.Hv m (record old { cpus = slice_set old.cpus c.args.cpu c.store.new.cpu; normal = c.store.new.normal }) c.store.result) c.self-in-HSt.view_is
-    (normal_leaves old c.args.cpu cpu own.0 c.store.new.cpu c.store.new.normal c.store.result c.store.ensures.refused)
+    (normal_leaves old c.args.cpu cpu own.there c.store.new.cpu c.store.new.normal c.store.result c.store.ensures.refused)
 
 pub returns-in-GLi-clause-refused : goal.returns-in-GLi-clause-refused
 returns-in-GLi-clause-refused g c =
@@ -137,45 +136,29 @@ returns-in-Go-clause-refused g c =
     let own = element_at c.args.self.now.cpus c.args.cpu c.requires.hypervisor.below in
     context_leaves c.args.self.now c.args.cpu own.0 own.1
 
-pub returns-in-UPageout-clause-step : goal.returns-in-UPageout-clause-step
-returns-in-UPageout-clause-step g c =
-    subst (λ (cmd : Cmd). Continues g.S.Seal.stands g.S.Seal.image c.args.self.now c.step_page_out.new.self c.args.cpu cmd c.step_page_out.result) (sym c.in-UPageout.is) c.step_page_out.ensures.step
-
-pub returns-in-UPagein-clause-step : goal.returns-in-UPagein-clause-step
-returns-in-UPagein-clause-step g c =
-    subst (λ (cmd : Cmd). Continues g.S.Seal.stands g.S.Seal.image c.args.self.now c.step_page_in.new.self c.args.cpu cmd c.step_page_in.result) (sym c.in-UPagein.is) c.step_page_in.ensures.step
-
 pub returns-in-HLd-clause-alone : goal.returns-in-HLd-clause-alone
 returns-in-HLd-clause-alone g c =
     let cpu = c.index_mut.result.now in
-    let own = found_cpu c.self.inside.cpus.items c.args.self.now c.args.cpu cpu ctx.Hv (ap (λ m. m.cpus) (sym c.self.view_is)) c.requires.hypervisor c.index_mut.ensures.value in
-    let old : State _ = record { cpus = c.self.inside.cpus.items; guests = c.self.inside.guests.items; pool = c.self.inside.pool; normal = c.self.inside.normal; steps = c.self.inside.steps } in
+    let own = own_site g.S.Seal.takes (state_of c.self.inside) c.args.self.now c.args.cpu c.self.view_is c.self.invariant ctx.Hv cpu c.requires.hypervisor c.index_mut.ensures.value in
+    let old = state_of c.self.inside in
     subst (λ (cmd : Cmd). LeavesOthers c.args.cpu cmd c.args.self.now (record old { cpus = slice_set old.cpus c.args.cpu c.load.new.cpu })) (sym c.in-HLd.is)
     (subst (λ m. LeavesOthers c.args.cpu (HLd c.in-HLd.ra) m (record old { cpus = slice_set old.cpus c.args.cpu c.load.new.cpu })) c.self.view_is
-    (alone_cpu old c.args.cpu cpu own.0 ctx.Hv own.1 (HLd c.in-HLd.ra) c.load.new.cpu old.normal refl))
+    (alone_cpu old c.args.cpu cpu own.there ctx.Hv own.context (HLd c.in-HLd.ra) c.load.new.cpu old.normal refl))
 
 pub returns-in-HSt-clause-alone : goal.returns-in-HSt-clause-alone
 returns-in-HSt-clause-alone g c =
     let cpu = c.index_mut-own.result.now in
     let inside = c.self-in-HSt.inside in
-    let own = found_cpu inside.cpus.items c.args.self.now c.args.cpu cpu ctx.Hv (ap (λ m. m.cpus) (sym c.self-in-HSt.view_is)) c.requires.hypervisor c.index_mut-own.ensures.value in
-    let old : State _ = record { cpus = inside.cpus.items; guests = inside.guests.items; pool = inside.pool; normal = inside.normal; steps = inside.steps } in
+    let own = own_site g.S.Seal.takes (state_of c.self-in-HSt.inside) c.args.self.now c.args.cpu c.self-in-HSt.view_is c.self-in-HSt.invariant ctx.Hv cpu c.requires.hypervisor c.index_mut-own.ensures.value in
+    let old = state_of inside in
     let new : State _ = record old { cpus = slice_set old.cpus c.args.cpu c.store.new.cpu; normal = c.store.new.normal } in
     subst (λ (cmd : Cmd). LeavesOthers c.args.cpu cmd c.args.self.now new) (sym c.in-HSt.is)
     (subst (λ m. LeavesOthers c.args.cpu (HSt c.in-HSt.ra c.in-HSt.value) m new) c.self-in-HSt.view_is
-    (alone_cpu old c.args.cpu cpu own.0 ctx.Hv own.1 (HSt c.in-HSt.ra c.in-HSt.value) c.store.new.cpu c.store.new.normal c.store.ensures.normal))
+    (alone_cpu old c.args.cpu cpu own.there ctx.Hv own.context (HSt c.in-HSt.ra c.in-HSt.value) c.store.new.cpu c.store.new.normal c.store.ensures.normal))
 
 pub returns-in-UReturn-clause-alone : goal.returns-in-UReturn-clause-alone
 returns-in-UReturn-clause-alone g c =
     subst (λ (cmd : Cmd). LeavesOthers c.args.cpu cmd c.args.self.now c.step_return.new.self) (sym c.in-UReturn.is) c.step_return.ensures.alone
-
-pub returns-in-UPagein-clause-alone : goal.returns-in-UPagein-clause-alone
-returns-in-UPagein-clause-alone g c =
-    subst (λ (cmd : Cmd). LeavesOthers c.args.cpu cmd c.args.self.now c.step_page_in.new.self) (sym c.in-UPagein.is) c.step_page_in.ensures.alone
-
-pub returns-in-UPageout-clause-alone : goal.returns-in-UPageout-clause-alone
-returns-in-UPageout-clause-alone g c =
-    subst (λ (cmd : Cmd). LeavesOthers c.args.cpu cmd c.args.self.now c.step_page_out.new.self) (sym c.in-UPageout.is) c.step_page_out.ensures.alone
 
 pub returns-in-GLi-clause-alone : goal.returns-in-GLi-clause-alone
 returns-in-GLi-clause-alone g c =

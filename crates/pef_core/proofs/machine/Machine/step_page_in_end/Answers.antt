@@ -1,96 +1,83 @@
-use Rattle.std.proofs.Common.{rules, arith, ◌≡◌, ◌+◌, ◌-◌, ◌^◌, ◌<◌, ◌≤◌, length, Some, sym, ap, subst, refl, ◌∙◌, None, if◌then◌else◌}
-use Rattle.std.specs.Prelude.{slice_get, slice_set}
+use Rattle.std.proofs.Common.{rules, arith, ◌-◌, ◌^◌, ◌<◌, length, Some, sym, ap, subst, refl, ◌∙◌, None, if◌then◌else◌}
+use Rattle.std.specs.Prelude.{slice_set}
 use Rattle.pef_model.specs.declared.state.Way.TheVariants.{Inward as IsInward}
 use Rattle.pef_model.specs.declared.state.Work.TheVariants.{Inward}
 use Rattle.pef_model.specs.declared.state.Ctx.TheVariants as ctx
 use Rattle.pef_model.specs.declared.command.Cmd.TheVariants.{Go}
 use Rattle.pef_guest.specs.Keeps.{KeepsMovers}
-use Rattle.pef_core.specs.State.{State, IsMoveOf}
+use Rattle.pef_core.specs.State.{State}
 use Rattle.pef_core.specs.Steps.{Continues}
 use Rattle.pef_core.specs.Refused.{LeavesRest}
 use Rattle.pef_core.proofs.WholeAfter.{whole_guest, once_stays}
-use Rattle.pef_core.proofs.Places.{works_there}
-use Rattle.pef_core.proofs.Moving.{site, ready, move_below, ended_cpu}
+use Rattle.pef_core.proofs.Moving.{ready, ended_cpu}
 use Rattle.pef_core.proofs.Leaving.{in_leaves}
 use Rattle.pef_core.proofs.PageSteps.{in_continues}
 use Rattle.pef_core.specs.Alone.{LeavesOthers}
 use Rattle.pef_core.proofs.Alone.{alone_guest}
+use Rattle.pef_core.proofs.Sites.{state_of, move_at, move_guest, move_site}
 use Rattle.pef_core.proofs.machine.Machine.step_page_in_end.Goals as goal
 
 pub overflow_sub-inward : goal.overflow_sub-inward
 overflow_sub-inward g c =
     let move = c.args.inward in
-    let moves : IsMoveOf c.self.inside.guests.items c.self.inside.normal (record { cpu = c.args.cpu; way = IsInward }) move = works_there c.self.inside.guests.items c.self.inside.cpus.items c.args.self.now c.self.inside.normal c.args.cpu (ctx.Uv (Inward move)) (ap (λ m. m.cpus) (sym c.self.view_is)) c.requires.working c.self.invariant.cpus in
+    let moves = move_at g.S.Seal.takes (state_of c.self.inside) c.args.self.now c.args.cpu c.self.view_is c.self.invariant IsInward move c.requires.working in
     moves.least
 
 pub index_mut-guest-requires : goal.index_mut-guest-requires
 index_mut-guest-requires g c =
     let move = c.args.inward in
-    let moves : IsMoveOf c.self.inside.guests.items c.self.inside.normal (record { cpu = c.args.cpu; way = IsInward }) move = works_there c.self.inside.guests.items c.self.inside.cpus.items c.args.self.now c.self.inside.normal c.args.cpu (ctx.Uv (Inward move)) (ap (λ m. m.cpus) (sym c.self.view_is)) c.requires.working c.self.invariant.cpus in
-    let below : move.lpid - 1 < length c.self.inside.guests.items = move_below c.self.inside.guests.items c.self.inside.normal (record { cpu = c.args.cpu; way = IsInward }) move moves in
+    let below = move_guest g.S.Seal.takes (state_of c.self.inside) c.args.self.now c.args.cpu c.self.view_is c.self.invariant IsInward move c.requires.working in
     search (rules, below)
 
 pub page_in_end-requires-clause-working : goal.page_in_end-requires-clause-working
 page_in_end-requires-clause-working g c =
-    let old : State _ = record { cpus = c.self.inside.cpus.items; guests = c.self.inside.guests.items; pool = c.self.inside.pool; normal = c.self.inside.normal; steps = c.self.inside.steps } in
     let move = c.args.inward in
-    let moves : IsMoveOf c.self.inside.guests.items c.self.inside.normal (record { cpu = c.args.cpu; way = IsInward }) move = works_there c.self.inside.guests.items c.self.inside.cpus.items c.args.self.now c.self.inside.normal c.args.cpu (ctx.Uv (Inward move)) (ap (λ m. m.cpus) (sym c.self.view_is)) c.requires.working c.self.invariant.cpus in
-    let below : move.lpid - 1 < length c.self.inside.guests.items = move_below c.self.inside.guests.items c.self.inside.normal (record { cpu = c.args.cpu; way = IsInward }) move moves in
-    let s = site g.S.Seal.takes old c.args.self.now c.args.cpu c.index_mut-own.result.now (ctx.Uv (Inward move)) (move.lpid - 1) c.index_mut-guest.result.now c.self.view_is c.self.invariant c.requires.working c.requires.steps c.index_mut-own.ensures.value below c.index_mut-guest.ensures.value in
+    let ended = move_site g.S.Seal.takes (state_of c.self.inside) c.args.self.now c.args.cpu c.self.view_is c.self.invariant c.requires.steps c.index_mut-own.result.now c.index_mut-own.ensures.value IsInward move c.index_mut-guest.result.now c.requires.working c.index_mut-guest.ensures.value in
+    let s = ended.found in
     s.context
 
 pub page_in_end-requires-clause-whole : goal.page_in_end-requires-clause-whole
 page_in_end-requires-clause-whole g c =
-    let old : State _ = record { cpus = c.self.inside.cpus.items; guests = c.self.inside.guests.items; pool = c.self.inside.pool; normal = c.self.inside.normal; steps = c.self.inside.steps } in
     let move = c.args.inward in
-    let moves : IsMoveOf c.self.inside.guests.items c.self.inside.normal (record { cpu = c.args.cpu; way = IsInward }) move = works_there c.self.inside.guests.items c.self.inside.cpus.items c.args.self.now c.self.inside.normal c.args.cpu (ctx.Uv (Inward move)) (ap (λ m. m.cpus) (sym c.self.view_is)) c.requires.working c.self.invariant.cpus in
-    let below : move.lpid - 1 < length c.self.inside.guests.items = move_below c.self.inside.guests.items c.self.inside.normal (record { cpu = c.args.cpu; way = IsInward }) move moves in
-    let s = site g.S.Seal.takes old c.args.self.now c.args.cpu c.index_mut-own.result.now (ctx.Uv (Inward move)) (move.lpid - 1) c.index_mut-guest.result.now c.self.view_is c.self.invariant c.requires.working c.requires.steps c.index_mut-own.ensures.value below c.index_mut-guest.ensures.value in
+    let ended = move_site g.S.Seal.takes (state_of c.self.inside) c.args.self.now c.args.cpu c.self.view_is c.self.invariant c.requires.steps c.index_mut-own.result.now c.index_mut-own.ensures.value IsInward move c.index_mut-guest.result.now c.requires.working c.index_mut-guest.ensures.value in
+    let s = ended.found in
     s.is_guest.whole
 
 pub page_in_end-requires-clause-hand : goal.page_in_end-requires-clause-hand
 page_in_end-requires-clause-hand g c =
-    let old : State _ = record { cpus = c.self.inside.cpus.items; guests = c.self.inside.guests.items; pool = c.self.inside.pool; normal = c.self.inside.normal; steps = c.self.inside.steps } in
     let move = c.args.inward in
-    let moves : IsMoveOf c.self.inside.guests.items c.self.inside.normal (record { cpu = c.args.cpu; way = IsInward }) move = works_there c.self.inside.guests.items c.self.inside.cpus.items c.args.self.now c.self.inside.normal c.args.cpu (ctx.Uv (Inward move)) (ap (λ m. m.cpus) (sym c.self.view_is)) c.requires.working c.self.invariant.cpus in
-    let below : move.lpid - 1 < length c.self.inside.guests.items = move_below c.self.inside.guests.items c.self.inside.normal (record { cpu = c.args.cpu; way = IsInward }) move moves in
-    let s = site g.S.Seal.takes old c.args.self.now c.args.cpu c.index_mut-own.result.now (ctx.Uv (Inward move)) (move.lpid - 1) c.index_mut-guest.result.now c.self.view_is c.self.invariant c.requires.working c.requires.steps c.index_mut-own.ensures.value below c.index_mut-guest.ensures.value in
+    let ended = move_site g.S.Seal.takes (state_of c.self.inside) c.args.self.now c.args.cpu c.self.view_is c.self.invariant c.requires.steps c.index_mut-own.result.now c.index_mut-own.ensures.value IsInward move c.index_mut-guest.result.now c.requires.working c.index_mut-guest.ensures.value in
+    let s = ended.found in
     s.is_cpu.hand ∙ ap (λ shift. 2 ^ shift) (sym s.is_guest.shift)
 
 pub page_in_end-requires-clause-pool : goal.page_in_end-requires-clause-pool
 page_in_end-requires-clause-pool g c =
-    let old : State _ = record { cpus = c.self.inside.cpus.items; guests = c.self.inside.guests.items; pool = c.self.inside.pool; normal = c.self.inside.normal; steps = c.self.inside.steps } in
     let move = c.args.inward in
-    let moves : IsMoveOf c.self.inside.guests.items c.self.inside.normal (record { cpu = c.args.cpu; way = IsInward }) move = works_there c.self.inside.guests.items c.self.inside.cpus.items c.args.self.now c.self.inside.normal c.args.cpu (ctx.Uv (Inward move)) (ap (λ m. m.cpus) (sym c.self.view_is)) c.requires.working c.self.invariant.cpus in
-    let below : move.lpid - 1 < length c.self.inside.guests.items = move_below c.self.inside.guests.items c.self.inside.normal (record { cpu = c.args.cpu; way = IsInward }) move moves in
-    let s = site g.S.Seal.takes old c.args.self.now c.args.cpu c.index_mut-own.result.now (ctx.Uv (Inward move)) (move.lpid - 1) c.index_mut-guest.result.now c.self.view_is c.self.invariant c.requires.working c.requires.steps c.index_mut-own.ensures.value below c.index_mut-guest.ensures.value in
+    let ended = move_site g.S.Seal.takes (state_of c.self.inside) c.args.self.now c.args.cpu c.self.view_is c.self.invariant c.requires.steps c.index_mut-own.result.now c.index_mut-own.ensures.value IsInward move c.index_mut-guest.result.now c.requires.working c.index_mut-guest.ensures.value in
+    let s = ended.found in
     record { count = sym s.is_guest.secure; size = c.self.invariant.size ∙ ap (λ shift. 2 ^ shift) (sym s.is_guest.shift) }
 
 pub page_in_end-requires-clause-ready : goal.page_in_end-requires-clause-ready
 page_in_end-requires-clause-ready g c =
-    let old : State _ = record { cpus = c.self.inside.cpus.items; guests = c.self.inside.guests.items; pool = c.self.inside.pool; normal = c.self.inside.normal; steps = c.self.inside.steps } in
+    let old = state_of c.self.inside in
     let move = c.args.inward in
-    let moves : IsMoveOf c.self.inside.guests.items c.self.inside.normal (record { cpu = c.args.cpu; way = IsInward }) move = works_there c.self.inside.guests.items c.self.inside.cpus.items c.args.self.now c.self.inside.normal c.args.cpu (ctx.Uv (Inward move)) (ap (λ m. m.cpus) (sym c.self.view_is)) c.requires.working c.self.invariant.cpus in
-    let below : move.lpid - 1 < length c.self.inside.guests.items = move_below c.self.inside.guests.items c.self.inside.normal (record { cpu = c.args.cpu; way = IsInward }) move moves in
-    let s = site g.S.Seal.takes old c.args.self.now c.args.cpu c.index_mut-own.result.now (ctx.Uv (Inward move)) (move.lpid - 1) c.index_mut-guest.result.now c.self.view_is c.self.invariant c.requires.working c.requires.steps c.index_mut-own.ensures.value below c.index_mut-guest.ensures.value in
-    ready old c.args.cpu c.index_mut-own.result.now IsInward move c.index_mut-guest.result.now c.self.invariant.frames_once s.is_cpu.number moves s.here
+    let ended = move_site g.S.Seal.takes (state_of c.self.inside) c.args.self.now c.args.cpu c.self.view_is c.self.invariant c.requires.steps c.index_mut-own.result.now c.index_mut-own.ensures.value IsInward move c.index_mut-guest.result.now c.requires.working c.index_mut-guest.ensures.value in
+    let s = ended.found in
+    ready old c.args.cpu c.index_mut-own.result.now IsInward move c.index_mut-guest.result.now c.self.invariant.frames_once s.is_cpu.number ended.moves s.here
 
 pub page_in_end-requires-clause-steps : goal.page_in_end-requires-clause-steps
 page_in_end-requires-clause-steps g c =
-    let old : State _ = record { cpus = c.self.inside.cpus.items; guests = c.self.inside.guests.items; pool = c.self.inside.pool; normal = c.self.inside.normal; steps = c.self.inside.steps } in
     let move = c.args.inward in
-    let moves : IsMoveOf c.self.inside.guests.items c.self.inside.normal (record { cpu = c.args.cpu; way = IsInward }) move = works_there c.self.inside.guests.items c.self.inside.cpus.items c.args.self.now c.self.inside.normal c.args.cpu (ctx.Uv (Inward move)) (ap (λ m. m.cpus) (sym c.self.view_is)) c.requires.working c.self.invariant.cpus in
-    let below : move.lpid - 1 < length c.self.inside.guests.items = move_below c.self.inside.guests.items c.self.inside.normal (record { cpu = c.args.cpu; way = IsInward }) move moves in
-    let s = site g.S.Seal.takes old c.args.self.now c.args.cpu c.index_mut-own.result.now (ctx.Uv (Inward move)) (move.lpid - 1) c.index_mut-guest.result.now c.self.view_is c.self.invariant c.requires.working c.requires.steps c.index_mut-own.ensures.value below c.index_mut-guest.ensures.value in
+    let ended = move_site g.S.Seal.takes (state_of c.self.inside) c.args.self.now c.args.cpu c.self.view_is c.self.invariant c.requires.steps c.index_mut-own.result.now c.index_mut-own.ensures.value IsInward move c.index_mut-guest.result.now c.requires.working c.index_mut-guest.ensures.value in
+    let s = ended.found in
     (let fewer = s.fewer in let few = s.few in omega arith)
 
 pub invariant_of-self : goal.invariant_of-self
 invariant_of-self g c =
-    let old : State _ = record { cpus = c.self.inside.cpus.items; guests = c.self.inside.guests.items; pool = c.self.inside.pool; normal = c.self.inside.normal; steps = c.self.inside.steps } in
+    let old = state_of c.self.inside in
     let move = c.args.inward in
-    let moves : IsMoveOf c.self.inside.guests.items c.self.inside.normal (record { cpu = c.args.cpu; way = IsInward }) move = works_there c.self.inside.guests.items c.self.inside.cpus.items c.args.self.now c.self.inside.normal c.args.cpu (ctx.Uv (Inward move)) (ap (λ m. m.cpus) (sym c.self.view_is)) c.requires.working c.self.invariant.cpus in
-    let below : move.lpid - 1 < length c.self.inside.guests.items = move_below c.self.inside.guests.items c.self.inside.normal (record { cpu = c.args.cpu; way = IsInward }) move moves in
-    let s = site g.S.Seal.takes old c.args.self.now c.args.cpu c.index_mut-own.result.now (ctx.Uv (Inward move)) (move.lpid - 1) c.index_mut-guest.result.now c.self.view_is c.self.invariant c.requires.working c.requires.steps c.index_mut-own.ensures.value below c.index_mut-guest.ensures.value in
+    let ended = move_site g.S.Seal.takes (state_of c.self.inside) c.args.self.now c.args.cpu c.self.view_is c.self.invariant c.requires.steps c.index_mut-own.result.now c.index_mut-own.ensures.value IsInward move c.index_mut-guest.result.now c.requires.working c.index_mut-guest.ensures.value in
+    let s = ended.found in
     let guest = c.index_mut-guest.result.now in
     let cpu = c.index_mut-own.result.now in
     let movers : KeepsMovers c.args.cpu guest c.page_in_end.new.guest = subst (λ n. KeepsMovers n guest c.page_in_end.new.guest) s.is_cpu.number c.page_in_end.ensures.movers in
@@ -100,36 +87,33 @@ invariant_of-self g c =
 
 pub returns-clause-step : goal.returns-clause-step
 returns-clause-step g c =
-    let old : State _ = record { cpus = c.self.inside.cpus.items; guests = c.self.inside.guests.items; pool = c.self.inside.pool; normal = c.self.inside.normal; steps = c.self.inside.steps } in
+    let old = state_of c.self.inside in
     let move = c.args.inward in
-    let moves : IsMoveOf c.self.inside.guests.items c.self.inside.normal (record { cpu = c.args.cpu; way = IsInward }) move = works_there c.self.inside.guests.items c.self.inside.cpus.items c.args.self.now c.self.inside.normal c.args.cpu (ctx.Uv (Inward move)) (ap (λ m. m.cpus) (sym c.self.view_is)) c.requires.working c.self.invariant.cpus in
-    let below : move.lpid - 1 < length c.self.inside.guests.items = move_below c.self.inside.guests.items c.self.inside.normal (record { cpu = c.args.cpu; way = IsInward }) move moves in
-    let s = site g.S.Seal.takes old c.args.self.now c.args.cpu c.index_mut-own.result.now (ctx.Uv (Inward move)) (move.lpid - 1) c.index_mut-guest.result.now c.self.view_is c.self.invariant c.requires.working c.requires.steps c.index_mut-own.ensures.value below c.index_mut-guest.ensures.value in
+    let ended = move_site g.S.Seal.takes (state_of c.self.inside) c.args.self.now c.args.cpu c.self.view_is c.self.invariant c.requires.steps c.index_mut-own.result.now c.index_mut-own.ensures.value IsInward move c.index_mut-guest.result.now c.requires.working c.index_mut-guest.ensures.value in
+    let s = ended.found in
     let guest = c.index_mut-guest.result.now in
     let cpu = c.index_mut-own.result.now in
     let first = subst (λ m. c.args.cpu < length m.cpus) (sym c.self.view_is) c.requires.working.below in
-    let lpid : move.lpid ≡ move.lpid - 1 + 1 = (let least = moves.least in omega arith) in
     let new : State _ = record old { cpus = slice_set old.cpus c.args.cpu c.page_in_end.new.cpu; guests = slice_set old.guests (move.lpid - 1) c.page_in_end.new.guest; pool = c.page_in_end.new.pool } in
     subst (λ m. Continues g.S.Seal.stands g.S.Seal.image m new c.args.cpu Go c.page_in_end.result) c.self.view_is
-    (in_continues g.S.Seal.stands g.S.Seal.image old c.args.cpu first cpu s.there c.page_in_end.new.cpu (move.lpid - 1) guest c.page_in_end.new.guest c.page_in_end.new.pool c.page_in_end.result s.here move s.context c.requires.copied lpid c.page_in_end.ensures.row)
+    (in_continues g.S.Seal.stands g.S.Seal.image old c.args.cpu first cpu s.there c.page_in_end.new.cpu (move.lpid - 1) guest c.page_in_end.new.guest c.page_in_end.new.pool c.page_in_end.result s.here move s.context c.requires.copied ended.lpid_is
+    c.page_in_end.ensures.row)
 
 pub returns-clause-frames_once : goal.returns-clause-frames_once
 returns-clause-frames_once g c =
-    let old : State _ = record { cpus = c.self.inside.cpus.items; guests = c.self.inside.guests.items; pool = c.self.inside.pool; normal = c.self.inside.normal; steps = c.self.inside.steps } in
+    let old = state_of c.self.inside in
     let move = c.args.inward in
-    let moves : IsMoveOf c.self.inside.guests.items c.self.inside.normal (record { cpu = c.args.cpu; way = IsInward }) move = works_there c.self.inside.guests.items c.self.inside.cpus.items c.args.self.now c.self.inside.normal c.args.cpu (ctx.Uv (Inward move)) (ap (λ m. m.cpus) (sym c.self.view_is)) c.requires.working c.self.invariant.cpus in
-    let below : move.lpid - 1 < length c.self.inside.guests.items = move_below c.self.inside.guests.items c.self.inside.normal (record { cpu = c.args.cpu; way = IsInward }) move moves in
-    let s = site g.S.Seal.takes old c.args.self.now c.args.cpu c.index_mut-own.result.now (ctx.Uv (Inward move)) (move.lpid - 1) c.index_mut-guest.result.now c.self.view_is c.self.invariant c.requires.working c.requires.steps c.index_mut-own.ensures.value below c.index_mut-guest.ensures.value in
+    let ended = move_site g.S.Seal.takes (state_of c.self.inside) c.args.self.now c.args.cpu c.self.view_is c.self.invariant c.requires.steps c.index_mut-own.result.now c.index_mut-own.ensures.value IsInward move c.index_mut-guest.result.now c.requires.working c.index_mut-guest.ensures.value in
+    let s = ended.found in
     let guest = c.index_mut-guest.result.now in
     once_stays old (move.lpid - 1) guest c.page_in_end.new.guest c.page_in_end.new.pool s.here c.page_in_end.ensures.frames c.self.invariant.frames_once (slice_set old.cpus c.args.cpu c.page_in_end.new.cpu)
 
 pub returns-clause-refused : goal.returns-clause-refused
 returns-clause-refused g c =
-    let old : State _ = record { cpus = c.self.inside.cpus.items; guests = c.self.inside.guests.items; pool = c.self.inside.pool; normal = c.self.inside.normal; steps = c.self.inside.steps } in
+    let old = state_of c.self.inside in
     let move = c.args.inward in
-    let moves : IsMoveOf c.self.inside.guests.items c.self.inside.normal (record { cpu = c.args.cpu; way = IsInward }) move = works_there c.self.inside.guests.items c.self.inside.cpus.items c.args.self.now c.self.inside.normal c.args.cpu (ctx.Uv (Inward move)) (ap (λ m. m.cpus) (sym c.self.view_is)) c.requires.working c.self.invariant.cpus in
-    let below : move.lpid - 1 < length c.self.inside.guests.items = move_below c.self.inside.guests.items c.self.inside.normal (record { cpu = c.args.cpu; way = IsInward }) move moves in
-    let s = site g.S.Seal.takes old c.args.self.now c.args.cpu c.index_mut-own.result.now (ctx.Uv (Inward move)) (move.lpid - 1) c.index_mut-guest.result.now c.self.view_is c.self.invariant c.requires.working c.requires.steps c.index_mut-own.ensures.value below c.index_mut-guest.ensures.value in
+    let ended = move_site g.S.Seal.takes (state_of c.self.inside) c.args.self.now c.args.cpu c.self.view_is c.self.invariant c.requires.steps c.index_mut-own.result.now c.index_mut-own.ensures.value IsInward move c.index_mut-guest.result.now c.requires.working c.index_mut-guest.ensures.value in
+    let s = ended.found in
     let guest = c.index_mut-guest.result.now in
     let cpu = c.index_mut-own.result.now in
     let new : State _ = record old { cpus = slice_set old.cpus c.args.cpu c.page_in_end.new.cpu; guests = slice_set old.guests (move.lpid - 1) c.page_in_end.new.guest; pool = c.page_in_end.new.pool } in
@@ -139,16 +123,14 @@ returns-clause-refused g c =
 
 pub returns-clause-alone : goal.returns-clause-alone
 returns-clause-alone g c =
-    let old : State _ = record { cpus = c.self.inside.cpus.items; guests = c.self.inside.guests.items; pool = c.self.inside.pool; normal = c.self.inside.normal; steps = c.self.inside.steps } in
+    let old = state_of c.self.inside in
     let move = c.args.inward in
-    let moves : IsMoveOf c.self.inside.guests.items c.self.inside.normal (record { cpu = c.args.cpu; way = IsInward }) move = works_there c.self.inside.guests.items c.self.inside.cpus.items c.args.self.now c.self.inside.normal c.args.cpu (ctx.Uv (Inward move)) (ap (λ m. m.cpus) (sym c.self.view_is)) c.requires.working c.self.invariant.cpus in
-    let below : move.lpid - 1 < length c.self.inside.guests.items = move_below c.self.inside.guests.items c.self.inside.normal (record { cpu = c.args.cpu; way = IsInward }) move moves in
-    let s = site g.S.Seal.takes old c.args.self.now c.args.cpu c.index_mut-own.result.now (ctx.Uv (Inward move)) (move.lpid - 1) c.index_mut-guest.result.now c.self.view_is c.self.invariant c.requires.working c.requires.steps c.index_mut-own.ensures.value below c.index_mut-guest.ensures.value in
+    let ended = move_site g.S.Seal.takes (state_of c.self.inside) c.args.self.now c.args.cpu c.self.view_is c.self.invariant c.requires.steps c.index_mut-own.result.now c.index_mut-own.ensures.value IsInward move c.index_mut-guest.result.now c.requires.working c.index_mut-guest.ensures.value in
+    let s = ended.found in
     let guest = c.index_mut-guest.result.now in
     let cpu = c.index_mut-own.result.now in
-    let lpid : move.lpid ≡ move.lpid - 1 + 1 = (let least = moves.least in omega arith) in
     let movers : KeepsMovers c.args.cpu guest c.page_in_end.new.guest = subst (λ n. KeepsMovers n guest c.page_in_end.new.guest) s.is_cpu.number c.page_in_end.ensures.movers in
     let new : State _ = record old { cpus = slice_set old.cpus c.args.cpu c.page_in_end.new.cpu; guests = slice_set old.guests (move.lpid - 1) c.page_in_end.new.guest; pool = c.page_in_end.new.pool } in
     subst (λ m. LeavesOthers c.args.cpu Go m new) c.self.view_is
-    (alone_guest old c.args.cpu cpu s.there (ctx.Uv (Inward move)) s.context Go (move.lpid - 1) guest c.page_in_end.new.guest s.here c.page_in_end.new.cpu c.page_in_end.new.pool (ap (λ b. if b then Some move.lpid else None) c.requires.copied ∙ ap Some lpid)
+    (alone_guest old c.args.cpu cpu s.there (ctx.Uv (Inward move)) s.context Go (move.lpid - 1) guest c.page_in_end.new.guest s.here c.page_in_end.new.cpu c.page_in_end.new.pool (ap (λ b. if b then Some move.lpid else None) c.requires.copied ∙ ap Some ended.lpid_is)
     refl (λ used. (let two = sym c.requires.copied ∙ used in cc)) c.page_in_end.ensures.keeps movers)
