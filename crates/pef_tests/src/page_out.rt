@@ -80,6 +80,56 @@ fn a_page_goes_out_into_the_vault(rt: HostRuntime) -> Result<(), Fail> {
     )
 }
 
+// Each refusal of a page-out, where what would be refused later is right, and where it is wrong too.
+const REFUSALS: &[(&str, &str)] = &[
+    ("0 u.return 0 0", "9 0 u.return enter"),
+    ("0 g.li r20 7", "10 0 g.li done"),
+    ("0 g.st r20 0x0", "11 0 g.st done"),
+    (
+        "0 u.pageout 1 0x0 0x0 0 8",
+        "12 0 u.pageout ret U_PERMISSION",
+    ),
+    ("0 g.st r20 0x100", "13 0 g.st done"),
+    ("0 g.irq", "14 0 g.irq exit irq"),
+    (
+        "0 u.pageout 0 0x0 0x0 0 8",
+        "15 0 u.pageout ret U_PARAMETER",
+    ),
+    (
+        "0 u.pageout 2 0x0 0x0 0 8",
+        "16 0 u.pageout ret U_PARAMETER",
+    ),
+    ("0 u.pageout 1 0x80 0x0 0 8", "17 0 u.pageout ret U_P2"),
+    ("0 u.pageout 1 0x200 0x0 0 8", "18 0 u.pageout ret U_P2"),
+    ("0 u.pageout 1 0x0 0x80 0 8", "19 0 u.pageout ret U_P3"),
+    ("0 u.pageout 1 0x0 0x300 0 8", "20 0 u.pageout ret U_P3"),
+    ("0 u.pageout 1 0x0 0x200 0 8", "21 0 u.pageout ret U_P3"),
+    ("0 u.pageout 1 0x0 0x0 1 8", "22 0 u.pageout ret U_FUNCTION"),
+    ("0 u.pageout 1 0x0 0x0 2 8", "23 0 u.pageout ret U_P4"),
+    ("0 u.pageout 1 0x0 0x0 0 9", "24 0 u.pageout ret U_P5"),
+    (
+        "0 u.pageout 2 0x80 0x80 2 9",
+        "25 0 u.pageout ret U_PARAMETER",
+    ),
+    ("0 u.pageout 1 0x80 0x80 2 9", "26 0 u.pageout ret U_P2"),
+    ("0 u.pageout 1 0x0 0x80 2 9", "27 0 u.pageout ret U_P3"),
+    ("0 u.pageout 1 0x0 0x0 2 9", "28 0 u.pageout ret U_P4"),
+    ("0 u.pageout 1 0x0 0x0 1 9", "29 0 u.pageout ret U_FUNCTION"),
+    ("0 u.return 0 0", "30 0 u.return enter"),
+    ("0 g.ld r6 0x0", "31 0 g.ld val 0x7"),
+    ("0 g.ld r6 0x100", "32 0 g.ld val 0x7"),
+    ("0 g.irq", "33 0 g.irq exit irq"),
+    ("1 u.pageout 1 0x0 0x0 0 8", "34 1 u.pageout step"),
+    ("0 u.pageout 1 0x100 0x0 0 8", "35 0 u.pageout ret U_BUSY"),
+    ("0 u.pageout 1 0x100 0x0 0 9", "36 0 u.pageout ret U_P5"),
+    ("0 go", "37 0 go context"),
+    ("1 u.return 0 0", "38 1 u.return context"),
+    ("1 go", "39 1 go step"),
+    ("1 go", "40 1 go ret U_SUCCESS"),
+    ("1 go*", "41 1 go context"),
+    ("0 u.pageout 1 0x0 0x0 0 8", "42 0 u.pageout ret U_P3"),
+];
+
 // After the refusals the guest finds what it stored, and the page goes out under version 1: none of them changed anything.
 #[test]
 fn each_refusal_of_a_page_out_leaves_all_as_it_was(rt: HostRuntime) -> Result<(), Fail> {
@@ -87,54 +137,7 @@ fn each_refusal_of_a_page_out_leaves_all_as_it_was(rt: HostRuntime) -> Result<()
         &rt,
         rt.alloc(),
         "pef 1\nshift 8\nnormal 2\nsecure 2\ncpus 2\npages 3\nborn 1\nbegin\n",
-        &[
-            ("0 u.return 0 0", "9 0 u.return enter"),
-            ("0 g.li r20 7", "10 0 g.li done"),
-            ("0 g.st r20 0x0", "11 0 g.st done"),
-            (
-                "0 u.pageout 1 0x0 0x0 0 8",
-                "12 0 u.pageout ret U_PERMISSION",
-            ),
-            ("0 g.st r20 0x100", "13 0 g.st done"),
-            ("0 g.irq", "14 0 g.irq exit irq"),
-            (
-                "0 u.pageout 0 0x0 0x0 0 8",
-                "15 0 u.pageout ret U_PARAMETER",
-            ),
-            (
-                "0 u.pageout 2 0x0 0x0 0 8",
-                "16 0 u.pageout ret U_PARAMETER",
-            ),
-            ("0 u.pageout 1 0x80 0x0 0 8", "17 0 u.pageout ret U_P2"),
-            ("0 u.pageout 1 0x200 0x0 0 8", "18 0 u.pageout ret U_P2"),
-            ("0 u.pageout 1 0x0 0x80 0 8", "19 0 u.pageout ret U_P3"),
-            ("0 u.pageout 1 0x0 0x300 0 8", "20 0 u.pageout ret U_P3"),
-            ("0 u.pageout 1 0x0 0x200 0 8", "21 0 u.pageout ret U_P3"),
-            ("0 u.pageout 1 0x0 0x0 1 8", "22 0 u.pageout ret U_FUNCTION"),
-            ("0 u.pageout 1 0x0 0x0 2 8", "23 0 u.pageout ret U_P4"),
-            ("0 u.pageout 1 0x0 0x0 0 9", "24 0 u.pageout ret U_P5"),
-            (
-                "0 u.pageout 2 0x80 0x80 2 9",
-                "25 0 u.pageout ret U_PARAMETER",
-            ),
-            ("0 u.pageout 1 0x80 0x80 2 9", "26 0 u.pageout ret U_P2"),
-            ("0 u.pageout 1 0x0 0x80 2 9", "27 0 u.pageout ret U_P3"),
-            ("0 u.pageout 1 0x0 0x0 2 9", "28 0 u.pageout ret U_P4"),
-            ("0 u.pageout 1 0x0 0x0 1 9", "29 0 u.pageout ret U_FUNCTION"),
-            ("0 u.return 0 0", "30 0 u.return enter"),
-            ("0 g.ld r6 0x0", "31 0 g.ld val 0x7"),
-            ("0 g.ld r6 0x100", "32 0 g.ld val 0x7"),
-            ("0 g.irq", "33 0 g.irq exit irq"),
-            ("1 u.pageout 1 0x0 0x0 0 8", "34 1 u.pageout step"),
-            ("0 u.pageout 1 0x100 0x0 0 8", "35 0 u.pageout ret U_BUSY"),
-            ("0 u.pageout 1 0x100 0x0 0 9", "36 0 u.pageout ret U_P5"),
-            ("0 go", "37 0 go context"),
-            ("1 u.return 0 0", "38 1 u.return context"),
-            ("1 go", "39 1 go step"),
-            ("1 go", "40 1 go ret U_SUCCESS"),
-            ("1 go*", "41 1 go context"),
-            ("0 u.pageout 1 0x0 0x0 0 8", "42 0 u.pageout ret U_P3"),
-        ],
+        REFUSALS,
         &[STREAM, "free 1\nend\n"],
     )
 }
