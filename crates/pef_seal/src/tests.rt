@@ -6,6 +6,7 @@ ghost use Rattle.pef_model.specs.Plan.{IsWithin};
 use super::*;
 use byteorder::{BigEndian, ByteOrder};
 use std::alloc::{AllocError, Global};
+use std::process::Abort;
 use std::test::Fail;
 
 const KEY: [u8; 32] = *b"ABCDEFGHIJKLMNOPQRSTUVWXYZ012345";
@@ -144,186 +145,248 @@ fn stream_digest(
     })
 }
 
-#[test]
-fn small_stream_pages_have_these_digests(rt: HostRuntime) -> Result<(), Fail> {
-    // The digests are python's, by hashlib, of a page of 256 bytes whose byte i is i modulo 251.
-    for (key, tag, digest) in [
-        (
-            [0; 32],
-            tag(1, 1, 0, 1),
-            [
-                0xe655c7977a1cedd2,
-                0x55a5e1e449f35384,
-                0xa8ce7f6a62ad5b99,
-                0x764548af405fcc33,
-            ],
-        ),
-        (
-            [0; 32],
-            tag(u16::MAX, 1, 0, 1),
-            [
-                0x0605bf58344c186f,
-                0x4a2a0cc023ba0718,
-                0x4d2f805a8e44f406,
-                0x84f80417367d478e,
-            ],
-        ),
-        (
-            [0; 32],
-            tag(1, u64::MAX - 1, 0, 1),
-            [
-                0xb23e25941dee0504,
-                0x93f4ecd7eb24b7f7,
-                0xeed85394b48a1b1c,
-                0xe34673934616cb3c,
-            ],
-        ),
-        (
-            [0; 32],
-            tag(1, 1, u32::MAX, 1),
-            [
-                0x94ad82554cf36816,
-                0x4841aff2d8f4fa8c,
-                0xa0437c8f5047fbbc,
-                0x4651dcb6a4840453,
-            ],
-        ),
-        (
-            [0; 32],
-            tag(1, 1, 0, u64::MAX - 1),
-            [
-                0x721546e2ac86de91,
-                0x3002067f727d4cef,
-                0x90c59a1c68b05059,
-                0x26e8ff52dd8e3bf2,
-            ],
-        ),
-        (
-            [0; 32],
-            tag(u16::MAX, u64::MAX - 1, u32::MAX, u64::MAX - 1),
-            [
-                0x2cfe5dc6cff7483f,
-                0x09c2f772bd3de4f1,
-                0xc2362ff5492f6dd0,
-                0x78459e81c90da916,
-            ],
-        ),
-        (
-            KEY,
-            tag(1, 1, 0, 1),
-            [
-                0x99934b6bd7d2b783,
-                0xdf5bd0fffab3723b,
-                0x09254fd68c55fbc2,
-                0x2ab463db0cf72c79,
-            ],
-        ),
-        (
-            KEY,
-            tag(u16::MAX, 1, 0, 1),
-            [
-                0xaac1d28eff0668f4,
-                0xe10656d7a7d54777,
-                0x96f19c3a244a1b24,
-                0x3f0969e93ea767c7,
-            ],
-        ),
-        (
-            KEY,
-            tag(1, u64::MAX - 1, 0, 1),
-            [
-                0x30a2c35120209e96,
-                0x0a46efa9ec050c10,
-                0x60a10929ab49e55f,
-                0x099a54baefdc1842,
-            ],
-        ),
-        (
-            KEY,
-            tag(1, 1, u32::MAX, 1),
-            [
-                0x5630c892144af5f8,
-                0x5304aed922ac3902,
-                0x91e1e9bab21c3623,
-                0x77d9199d9272c29c,
-            ],
-        ),
-        (
-            KEY,
-            tag(1, 1, 0, u64::MAX - 1),
-            [
-                0x8647cb6034c47dc1,
-                0xd97f14ccabab4a37,
-                0x0124a09c080dbf88,
-                0xc9d957fbc5f0662a,
-            ],
-        ),
-        (
-            KEY,
-            tag(u16::MAX, u64::MAX - 1, u32::MAX, u64::MAX - 1),
-            [
-                0x6355def173bf1845,
-                0xd738538e11fc2ce7,
-                0x18267fd53450798b,
-                0x1eff7a8ad745bf17,
-            ],
-        ),
-    ] {
-        let sealed = stream_digest(rt.alloc(), key, tag, 8)?;
-        assert_eq!(rt; sealed, Some(digest), "under {tag:?}");
+/// A key, a tag, and the SHA-256 of the page that is sealed under both.
+type Vector = ([u8; 32], Tag, [u64; 4]);
+
+// Seals the page of 2^shift bytes whose byte i is i modulo 251, and compares the digest. The digests are Python's, by hashlib.
+fn have_digests(rt: &impl Abort, alloc: Global, shift: u8, vectors: &[Vector]) -> Result<(), Fail>
+    requires shift { IsWithin 8 16 shift }
+{
+    for (key, tag, digest) in vectors {
+        let sealed = stream_digest(alloc, *key, *tag, shift)?;
+        assert_eq!(rt; sealed, Some(*digest), "under {tag:?}");
     }
     Ok(())
 }
 
 #[test]
-fn large_stream_pages_have_these_digests(rt: HostRuntime) -> Result<(), Fail> {
-    // The same of a page of 65,536 bytes.
-    for (key, tag, digest) in [
-        (
-            [0; 32],
-            tag(1, 1, 0, 1),
-            [
-                0x613be0455e5f4445,
-                0xce6e6db1838556d3,
-                0x96b2232ebd8212b9,
-                0x2b0f721c046c202c,
-            ],
-        ),
-        (
-            [0; 32],
-            tag(u16::MAX, u64::MAX - 1, u32::MAX, u64::MAX - 1),
-            [
-                0x03981bc029bf342b,
-                0x08e540f57dd155cb,
-                0x6615f397803e2590,
-                0x784fefd5a01bef30,
-            ],
-        ),
-        (
-            KEY,
-            tag(1, 1, 0, 1),
-            [
-                0x1a174f72d3a7fa99,
-                0x4122ae26c5fb51d2,
-                0x5eb5b2d933a1cedc,
-                0xf39297905b4e4e45,
-            ],
-        ),
-        (
-            KEY,
-            tag(u16::MAX, u64::MAX - 1, u32::MAX, u64::MAX - 1),
-            [
-                0xfe0c6cb1cc7351fe,
-                0x5da5aed8efe90716,
-                0x5aaac2c88d8a45c3,
-                0xa64c9f7e8d55f068,
-            ],
-        ),
-    ] {
-        let sealed = stream_digest(rt.alloc(), key, tag, 16)?;
-        assert_eq!(rt; sealed, Some(digest), "under {tag:?}");
-    }
-    Ok(())
+fn small_pages_have_these_digests_at_the_ends_of_guests(rt: HostRuntime) -> Result<(), Fail> {
+    have_digests(
+        &rt,
+        rt.alloc(),
+        8,
+        &[
+            (
+                [0; 32],
+                tag(1, 1, 0, 1),
+                [
+                    0xe655c7977a1cedd2,
+                    0x55a5e1e449f35384,
+                    0xa8ce7f6a62ad5b99,
+                    0x764548af405fcc33,
+                ],
+            ),
+            (
+                [0; 32],
+                tag(u16::MAX, 1, 0, 1),
+                [
+                    0x0605bf58344c186f,
+                    0x4a2a0cc023ba0718,
+                    0x4d2f805a8e44f406,
+                    0x84f80417367d478e,
+                ],
+            ),
+            (
+                [0; 32],
+                tag(1, u64::MAX - 1, 0, 1),
+                [
+                    0xb23e25941dee0504,
+                    0x93f4ecd7eb24b7f7,
+                    0xeed85394b48a1b1c,
+                    0xe34673934616cb3c,
+                ],
+            ),
+        ],
+    )
+}
+
+#[test]
+fn small_pages_have_these_digests_at_the_ends_of_pages(rt: HostRuntime) -> Result<(), Fail> {
+    have_digests(
+        &rt,
+        rt.alloc(),
+        8,
+        &[
+            (
+                [0; 32],
+                tag(1, 1, u32::MAX, 1),
+                [
+                    0x94ad82554cf36816,
+                    0x4841aff2d8f4fa8c,
+                    0xa0437c8f5047fbbc,
+                    0x4651dcb6a4840453,
+                ],
+            ),
+            (
+                [0; 32],
+                tag(1, 1, 0, u64::MAX - 1),
+                [
+                    0x721546e2ac86de91,
+                    0x3002067f727d4cef,
+                    0x90c59a1c68b05059,
+                    0x26e8ff52dd8e3bf2,
+                ],
+            ),
+            (
+                [0; 32],
+                tag(u16::MAX, u64::MAX - 1, u32::MAX, u64::MAX - 1),
+                [
+                    0x2cfe5dc6cff7483f,
+                    0x09c2f772bd3de4f1,
+                    0xc2362ff5492f6dd0,
+                    0x78459e81c90da916,
+                ],
+            ),
+        ],
+    )
+}
+
+#[test]
+fn small_pages_have_these_digests_under_a_key_at_the_ends_of_guests(
+    rt: HostRuntime,
+) -> Result<(), Fail> {
+    have_digests(
+        &rt,
+        rt.alloc(),
+        8,
+        &[
+            (
+                KEY,
+                tag(1, 1, 0, 1),
+                [
+                    0x99934b6bd7d2b783,
+                    0xdf5bd0fffab3723b,
+                    0x09254fd68c55fbc2,
+                    0x2ab463db0cf72c79,
+                ],
+            ),
+            (
+                KEY,
+                tag(u16::MAX, 1, 0, 1),
+                [
+                    0xaac1d28eff0668f4,
+                    0xe10656d7a7d54777,
+                    0x96f19c3a244a1b24,
+                    0x3f0969e93ea767c7,
+                ],
+            ),
+            (
+                KEY,
+                tag(1, u64::MAX - 1, 0, 1),
+                [
+                    0x30a2c35120209e96,
+                    0x0a46efa9ec050c10,
+                    0x60a10929ab49e55f,
+                    0x099a54baefdc1842,
+                ],
+            ),
+        ],
+    )
+}
+
+#[test]
+fn small_pages_have_these_digests_under_a_key_at_the_ends_of_pages(
+    rt: HostRuntime,
+) -> Result<(), Fail> {
+    have_digests(
+        &rt,
+        rt.alloc(),
+        8,
+        &[
+            (
+                KEY,
+                tag(1, 1, u32::MAX, 1),
+                [
+                    0x5630c892144af5f8,
+                    0x5304aed922ac3902,
+                    0x91e1e9bab21c3623,
+                    0x77d9199d9272c29c,
+                ],
+            ),
+            (
+                KEY,
+                tag(1, 1, 0, u64::MAX - 1),
+                [
+                    0x8647cb6034c47dc1,
+                    0xd97f14ccabab4a37,
+                    0x0124a09c080dbf88,
+                    0xc9d957fbc5f0662a,
+                ],
+            ),
+            (
+                KEY,
+                tag(u16::MAX, u64::MAX - 1, u32::MAX, u64::MAX - 1),
+                [
+                    0x6355def173bf1845,
+                    0xd738538e11fc2ce7,
+                    0x18267fd53450798b,
+                    0x1eff7a8ad745bf17,
+                ],
+            ),
+        ],
+    )
+}
+
+#[test]
+fn large_pages_have_these_digests(rt: HostRuntime) -> Result<(), Fail> {
+    have_digests(
+        &rt,
+        rt.alloc(),
+        16,
+        &[
+            (
+                [0; 32],
+                tag(1, 1, 0, 1),
+                [
+                    0x613be0455e5f4445,
+                    0xce6e6db1838556d3,
+                    0x96b2232ebd8212b9,
+                    0x2b0f721c046c202c,
+                ],
+            ),
+            (
+                [0; 32],
+                tag(u16::MAX, u64::MAX - 1, u32::MAX, u64::MAX - 1),
+                [
+                    0x03981bc029bf342b,
+                    0x08e540f57dd155cb,
+                    0x6615f397803e2590,
+                    0x784fefd5a01bef30,
+                ],
+            ),
+        ],
+    )
+}
+
+#[test]
+fn large_pages_have_these_digests_under_a_key(rt: HostRuntime) -> Result<(), Fail> {
+    have_digests(
+        &rt,
+        rt.alloc(),
+        16,
+        &[
+            (
+                KEY,
+                tag(1, 1, 0, 1),
+                [
+                    0x1a174f72d3a7fa99,
+                    0x4122ae26c5fb51d2,
+                    0x5eb5b2d933a1cedc,
+                    0xf39297905b4e4e45,
+                ],
+            ),
+            (
+                KEY,
+                tag(u16::MAX, u64::MAX - 1, u32::MAX, u64::MAX - 1),
+                [
+                    0xfe0c6cb1cc7351fe,
+                    0x5da5aed8efe90716,
+                    0x5aaac2c88d8a45c3,
+                    0xa64c9f7e8d55f068,
+                ],
+            ),
+        ],
+    )
 }
 
 // Seals two pages, and only then unseals both.
