@@ -1,3 +1,2 @@
 mod Hexadecimal
 pub mod SinkLemmas
-pub mod SourceLemmas

@@ -1,5 +1,5 @@
 -- What the answer of a read or a write says: how many bytes it moved, and why it may be a failure.
-use Rattle.std.specs.Prelude.{ℕ, ◌+◌, ◌-◌, ◌^◌, ◌≤◌, min, Result, Ok, Err, OnErr}
+use Rattle.std.specs.Prelude.{◌≡◌, ℕ, ◌+◌, ◌-◌, ◌^◌, ◌≤◌, min, Result, Ok, Err, OnErr, OnOk}
 
 -- how many bytes a call moved: none where it failed
 abbrev pub count_taken : {E : Type 0} → Result ℕ E → ℕ
@@ -19,7 +19,8 @@ faults_after before (Err failure) = raised before
 abbrev pub Rose : ℕ → ℕ → Type 0
 Rose before now = raised before ≤ now
 
--- the count of faults never falls, and a failure comes only where it rose
+-- the count of faults never falls; a failure comes only where it rose, and what went well counted none
 pub record HasCause {T E : Type 0} (before now : ℕ) (result : Result T E) : Type 0 where
   pub never_falls : before ≤ now
   pub failed : OnErr result (Rose before now)
+  pub clean : OnOk result (now ≡ before)

@@ -2,6 +2,5 @@ pub mod Cause
 pub mod MemSink
 pub mod MemSource
 pub mod Sink
-pub mod Source
 pub mod Standard
 pub mod Text

@@ -2,6 +2,7 @@
 #![tactic(auto)]
 
 mod faults;
+mod log;
 mod mem_sink;
 mod mem_source;
 mod plan;

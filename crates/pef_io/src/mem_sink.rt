@@ -67,10 +67,9 @@ impl MemSink {
 }
 
 impl Sink for MemSink {
-    ghost use Rattle.std.specs.Prelude.{Some};
     ghost use Rattle.pef_io.specs.MemSink.{IsRefused};
 
-    ghost written = { λ s. Some s.written };
+    ghost given = { λ s. s.written };
 
     ghost faults = { λ s. s.faults };
 

@@ -1,6 +1,6 @@
 //! A source in memory gives its bytes in order and fails at the calls that were named.
 
-ghost use Rattle.std.specs.Prelude.{◌≡◌, ◌↔◌, ◌++◌, length, take, drop, min, Contains, IfOk, IsErr};
+ghost use Rattle.std.specs.Prelude.{◌≡◌, ◌↔◌, ◌++◌, [], length, take, drop, min, Contains, IfOk, IsErr};
 ghost use Rattle.pef_io.specs.Cause.{HasCause, count_taken, raised, faults_after};
 
 use crate::plan::CallPlan;
@@ -17,12 +17,13 @@ pub struct MemSource {
 }
 
 impl Model for MemSource {
-    ghost use Rattle.std.specs.Prelude.{◌≤◌, vec_len, drop};
+    ghost use Rattle.std.specs.Prelude.{◌≤◌, vec_len, take, drop};
     ghost use Rattle.pef_io.specs.MemSource.{MemSourceState};
 
     ghost Value = { MemSourceState };
 
     ghost view = { λ s. record {
+      taken = take s.next s.bytes.items;
       left = drop s.next s.bytes.items;
       fails = s.plan.fails.items;
       calls = s.plan.calls;
@@ -38,7 +39,13 @@ impl MemSource {
     /// The reads are numbered from 0, and those that fail are counted too. The numbers stay at
     /// 2^64 − 1.
     pub fn build(bytes: Vec<u8>, fails: Vec<u64>) -> MemSource
-        ensures { result ≡ record { left = bytes.items; fails = fails.items; calls = 0; faults = 0 } }
+        ensures { result ≡ record {
+          taken = [];
+          left = bytes.items;
+          fails = fails.items;
+          calls = 0;
+          faults = 0;
+        } }
     {
         MemSource {
             bytes,
@@ -49,9 +56,13 @@ impl MemSource {
 }
 
 impl Source for MemSource {
-    ghost use Rattle.std.specs.Prelude.{Some};
+    ghost use Rattle.std.specs.Prelude.{◌≡◌, ◌++◌, [], Some};
 
-    ghost left = { λ s. Some s.left };
+    ghost taken = { λ s. s.taken };
+
+    ghost ended = { λ s. s.left ≡ [] };
+
+    ghost whole = { λ s. Some (s.taken ++ s.left) };
 
     ghost faults = { λ s. s.faults };
 
@@ -64,6 +75,7 @@ impl Source for MemSource {
         ensures buffer { buf.new ≡
             take (count_taken result) self.old.left ++ drop (count_taken result) buf.old }
         ensures source { self.new ≡ record self.old {
+          taken = self.old.taken ++ take (count_taken result) self.old.left;
           left = drop (count_taken result) self.old.left;
           calls = raised self.old.calls;
           faults = faults_after self.old.faults result;

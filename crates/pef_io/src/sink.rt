@@ -1,15 +1,14 @@
 //! A sink keeps what it takes in the order in which it came.
 
-ghost use Rattle.std.specs.Prelude.{◌≡◌, ◌≤◌, ◌<◌, ℕ, List, Option, length, take, IfOk};
+ghost use Rattle.std.specs.Prelude.{◌≡◌, ◌≤◌, ◌<◌, ◌++◌, ℕ, List, length, take, IfOk};
 ghost use Rattle.pef_io.specs.Cause.{HasCause, count_taken};
-ghost use Rattle.pef_io.specs.Sink.{appended};
 
 use crate::Failed;
 
 /// Something that takes bytes: this project's own form of a writer, whose failures are counted.
 pub trait Sink {
-    /// The bytes that were written, where the sink tells them.
-    ghost written: { Self → Option (List ℕ) };
+    /// All bytes that it took so far, in their order.
+    ghost given: { Self → List ℕ };
 
     /// How many writes have failed. The count never falls, and stays at 2^64 − 1.
     ghost faults: { Self → ℕ };
@@ -21,7 +20,6 @@ pub trait Sink {
     fn write(&mut self, buf: &[u8]) -> Result<usize, Failed>
         ensures bound { IfOk result (λ n. n ≤ length buf.now) }
         ensures some { IfOk result (λ n. 0 < length buf.now → 0 < n) }
-        ensures bytes { written self.new ≡
-            appended (written self.old) (take (count_taken result) buf.now) }
+        ensures bytes { given self.new ≡ given self.old ++ take (count_taken result) buf.now }
         ensures cause { HasCause (faults self.old) (faults self.new) result };
 }

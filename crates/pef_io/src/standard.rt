@@ -1,20 +1,24 @@
 //! What standard input gives and standard output takes is not told, but each of their failures is counted.
 
-ghost use Rattle.std.specs.Prelude.{◌≡◌, ◌≤◌, ◌<◌, length, IfOk};
+ghost use Rattle.std.specs.Prelude.{◌≡◌, ◌↔◌, ◌≤◌, ◌<◌, ◌++◌, [], false, length, take, IfOk, IsTrue, Ok};
 ghost use Rattle.std.specs.Io.KnownBytes.{ReadConsumes, WriteAppends};
-ghost use Rattle.pef_io.specs.Cause.{HasCause, faults_after};
+ghost use Rattle.pef_io.specs.Cause.{HasCause, count_taken, faults_after};
 
 use crate::faults::FaultCount;
+use crate::log::ByteLog;
 use crate::{Failed, Sink, Source};
 use std::io::{Read, Write};
 use std::marker::Model;
 
-/// Standard input, or another reader, as a source that tells none of its bytes.
+/// Standard input, or another reader, as a source that does not tell what is left.
 ///
 /// It counts its faults. The count stays at 2^64 − 1.
 #[derive(Drop)]
 pub struct StdSource<R> {
     reader: R,
+    taken: ByteLog,
+    /// Whether the last read that did not fail said that no byte is left.
+    ended: bool,
     faults: FaultCount,
 }
 
@@ -23,25 +27,36 @@ impl<R> Model for StdSource<R> {
 
     ghost Value = { StdSourceState R };
 
-    ghost view = { λ s. record { reader = s.reader; faults = s.faults.count } };
+    ghost view = { λ s. record {
+      reader = s.reader;
+      taken = s.taken.bytes;
+      ended = s.ended;
+      faults = s.faults.count;
+    } };
 }
 
 impl<R: Read + Drop> StdSource<R> {
     /// A source over a reader, as `rt.reader()` under `Input`.
     pub fn build(reader: R) -> StdSource<R>
-        ensures { result ≡ record { reader = reader; faults = 0 } }
+        ensures { result ≡ record { reader = reader; taken = []; ended = false; faults = 0 } }
     {
         StdSource {
             reader,
+            taken: ByteLog::new(),
+            ended: false,
             faults: FaultCount::zero(),
         }
     }
 }
 
 impl<R: Read + Drop> Source for StdSource<R> {
-    ghost use Rattle.std.specs.Prelude.{None};
+    ghost use Rattle.std.specs.Prelude.{None, IsTrue};
 
-    ghost left = { λ _. None };
+    ghost taken = { λ s. s.taken };
+
+    ghost ended = { λ s. IsTrue s.ended };
+
+    ghost whole = { λ _. None };
 
     ghost faults = { λ s. s.faults };
 
@@ -49,24 +64,32 @@ impl<R: Read + Drop> Source for StdSource<R> {
     /// tried again here, so a call comes to its end.
     fn read(&mut self, buf: &mut [u8]) -> Result<usize, Failed>
         ensures bound { IfOk result (λ n. n ≤ length buf.new) }
+        ensures taken { self.new.taken ≡ self.old.taken ++ take (count_taken result) buf.new }
+        ensures ended { result ≡ Ok 0 → 0 < length buf.new → IsTrue self.new.ended }
+        ensures said { IfOk result (λ n. IsTrue self.new.ended ↔ ((n ≡ 0) × (0 < length buf.new))) }
         ensures reader { ReadConsumes (R.remaining self.old.reader) (R.remaining self.new.reader)
             result buf.new }
         ensures counted { self.new.faults ≡ faults_after self.old.faults result }
         ensures cause { HasCause self.old.faults self.new.faults result }
     {
         match self.reader.read(buf) {
-            Ok(count) => Ok(count),
+            Ok(count) => {
+                self.taken.add(&buf[..count]);
+                self.ended = count == 0 && !buf.is_empty();
+                Ok(count)
+            }
             Err(_) => Err(self.faults.fail()),
         }
     }
 }
 
-/// Standard output, or another writer, as a sink that tells none of its bytes.
+/// Standard output, or another writer, as a sink.
 ///
 /// It counts its faults. The count stays at 2^64 − 1.
 #[derive(Drop)]
 pub struct StdSink<W> {
     writer: W,
+    given: ByteLog,
     faults: FaultCount,
 }
 
@@ -75,25 +98,28 @@ impl<W> Model for StdSink<W> {
 
     ghost Value = { StdSinkState W };
 
-    ghost view = { λ s. record { writer = s.writer; faults = s.faults.count } };
+    ghost view = { λ s. record {
+      writer = s.writer;
+      given = s.given.bytes;
+      faults = s.faults.count;
+    } };
 }
 
 impl<W: Write + Drop> StdSink<W> {
     /// A sink over a writer, as `io::writer(&rt)` under `Print`.
     pub fn build(writer: W) -> StdSink<W>
-        ensures { result ≡ record { writer = writer; faults = 0 } }
+        ensures { result ≡ record { writer = writer; given = []; faults = 0 } }
     {
         StdSink {
             writer,
+            given: ByteLog::new(),
             faults: FaultCount::zero(),
         }
     }
 }
 
 impl<W: Write + Drop> Sink for StdSink<W> {
-    ghost use Rattle.std.specs.Prelude.{None};
-
-    ghost written = { λ _. None };
+    ghost given = { λ s. s.given };
 
     ghost faults = { λ s. s.faults };
 
@@ -102,6 +128,7 @@ impl<W: Write + Drop> Sink for StdSink<W> {
     fn write(&mut self, buf: &[u8]) -> Result<usize, Failed>
         ensures bound { IfOk result (λ n. n ≤ length buf.now) }
         ensures some { IfOk result (λ n. 0 < length buf.now → 0 < n) }
+        ensures bytes { self.new.given ≡ self.old.given ++ take (count_taken result) buf.now }
         ensures writer { WriteAppends (W.contents self.old.writer) (W.contents self.new.writer)
             result buf.now }
         ensures counted { self.new.faults ≡ faults_after self.old.faults result }
@@ -109,7 +136,10 @@ impl<W: Write + Drop> Sink for StdSink<W> {
     {
         match self.writer.write(buf) {
             Ok(0) if !buf.is_empty() => Err(self.faults.fail()),
-            Ok(count) => Ok(count),
+            Ok(count) => {
+                self.given.add(&buf[..count]);
+                Ok(count)
+            }
             Err(_) => Err(self.faults.fail()),
         }
     }

@@ -4,7 +4,7 @@ use super::*;
 use crate::faults::FaultCount;
 use crate::plan::CallPlan;
 use std::io;
-use std::io::{ErrorKind, Read};
+use std::io::{ErrorKind, Read, Write};
 use std::test::Fail;
 
 const TEXT: &[u8] = b"abcdefgh";
@@ -110,25 +110,63 @@ fn counts_stay_at_their_end(rt: HostRuntime) -> Result<(), Fail> {
     Ok(())
 }
 
-// A reader whose reads all fail.
+// A reader or a writer whose first call fails.
 #[derive(Drop)]
-struct Broken;
+struct FailsOnce<D> {
+    has_failed: bool,
+    device: D,
+}
 
-impl Read for Broken {
-    fn read(&mut self, _: &mut [u8]) -> io::Result<usize> {
+impl<D> FailsOnce<D> {
+    fn fail_once(&mut self) -> io::Result<()> {
+        if self.has_failed {
+            return Ok(());
+        }
+        self.has_failed = true;
         Err(io::Error::from(ErrorKind::Interrupted))
     }
 }
 
+impl<R: Read> Read for FailsOnce<R> {
+    fn read(&mut self, buf: &mut [u8]) -> io::Result<usize> {
+        self.fail_once()?;
+        self.device.read(buf)
+    }
+}
+
+impl<W: Write> Write for FailsOnce<W> {
+    fn write(&mut self, buf: &[u8]) -> io::Result<usize> {
+        self.fail_once()?;
+        self.device.write(buf)
+    }
+
+    fn flush(&mut self) -> io::Result<()> {
+        self.device.flush()
+    }
+}
+
 #[test]
-fn a_reader_is_a_source(rt: HostRuntime) -> Result<(), Fail> {
+fn a_read_that_failed_is_told_and_loses_nothing(rt: HostRuntime) -> Result<(), Fail> {
     let mut bytes = Vec::new(rt.alloc());
-    let mut source = StdSource::build(TEXT);
-    assert_eq!(rt; read_past_failures(&mut source, &mut bytes)?, 0);
+    let mut source = StdSource::build(FailsOnce {
+        has_failed: false,
+        device: TEXT,
+    });
+    assert_eq!(rt; read_past_failures(&mut source, &mut bytes)?, 1);
     assert_eq!(rt; bytes.as_slice(), TEXT);
-    let mut broken = StdSource::build(Broken);
-    assert_eq!(rt; broken.read(&mut [0; 3]), Err(Failed));
     Ok(())
+}
+
+#[test]
+fn a_write_that_failed_is_told_and_writes_nothing(rt: HostRuntime) {
+    let mut room = [0; 5];
+    let mut sink = StdSink::build(FailsOnce {
+        has_failed: false,
+        device: &mut room[..],
+    });
+    assert_eq!(rt; put(&mut sink, b"abc"), Err(Failed));
+    assert_eq!(rt; put(&mut sink, b"def"), Ok(()));
+    assert_eq!(rt; room.as_slice(), b"def\0\0".as_slice());
 }
 
 #[test]

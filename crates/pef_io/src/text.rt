@@ -1,9 +1,9 @@
 //! A text that is put is written whole, and at a failure a first part of it.
 
-ghost use Rattle.std.specs.Prelude.{◌≡◌, ◌==◌, ◌≤◌, false, not, drop, position, decimal, OnErr, OnOk};
+ghost use Rattle.std.specs.Prelude.{◌≡◌, ◌==◌, ◌≤◌, ◌++◌, false, not, drop, position, decimal, OnErr, OnOk};
 ghost use Rattle.std.specs.Fmt.{digits};
 ghost use Rattle.pef_io.specs.Cause.{HasCause};
-ghost use Rattle.pef_io.specs.Sink.{appended, AppendsPrefix};
+ghost use Rattle.pef_io.specs.Sink.{AppendsPrefix};
 ghost use Rattle.pef_io.specs.Text.{joined, value_text};
 
 use crate::{Failed, Sink};
@@ -15,9 +15,9 @@ const ZERO: u8 = b'0';
 ///
 /// It fails where a write of the sink fails, and has then written a first part of the text.
 pub fn put<K: Sink>(sink: &mut K, text: &[u8]) -> Result<(), Failed>
-    ensures all { OnOk result (K.written sink.new ≡ appended (K.written sink.old) text.now) }
+    ensures all { OnOk result (K.given sink.new ≡ K.given sink.old ++ text.now) }
     ensures prefix { OnErr result
-        (AppendsPrefix (K.written sink.old) (K.written sink.new) text.now) }
+        (AppendsPrefix (K.given sink.old) (K.given sink.new) text.now) }
     ensures cause { HasCause (K.faults sink.old) (K.faults sink.new) result }
 {
     let mut done = 0;
@@ -30,9 +30,9 @@ pub fn put<K: Sink>(sink: &mut K, text: &[u8]) -> Result<(), Failed>
 /// Writes pieces of a text one after another. It fails as `put` does.
 pub fn put_all<K: Sink>(sink: &mut K, pieces: &[&[u8]]) -> Result<(), Failed>
     ensures all { OnOk result
-        (K.written sink.new ≡ appended (K.written sink.old) (joined pieces.now)) }
+        (K.given sink.new ≡ K.given sink.old ++ (joined pieces.now)) }
     ensures prefix { OnErr result
-        (AppendsPrefix (K.written sink.old) (K.written sink.new) (joined pieces.now)) }
+        (AppendsPrefix (K.given sink.old) (K.given sink.new) (joined pieces.now)) }
     ensures cause { HasCause (K.faults sink.old) (K.faults sink.new) result }
 {
     for piece in pieces {
@@ -43,9 +43,9 @@ pub fn put_all<K: Sink>(sink: &mut K, pieces: &[&[u8]]) -> Result<(), Failed>
 
 /// Writes a number in decimal, with no leading zeros. It fails as `put` does.
 pub fn put_decimal<K: Sink>(sink: &mut K, number: u64) -> Result<(), Failed>
-    ensures all { OnOk result (K.written sink.new ≡ appended (K.written sink.old) (decimal number)) }
+    ensures all { OnOk result (K.given sink.new ≡ K.given sink.old ++ (decimal number)) }
     ensures prefix { OnErr result
-        (AppendsPrefix (K.written sink.old) (K.written sink.new) (decimal number)) }
+        (AppendsPrefix (K.given sink.old) (K.given sink.new) (decimal number)) }
     ensures cause { HasCause (K.faults sink.old) (K.faults sink.new) result }
 {
     put(sink, Buffer::new().format(number).as_bytes())
@@ -54,9 +54,9 @@ pub fn put_decimal<K: Sink>(sink: &mut K, number: u64) -> Result<(), Failed>
 /// Writes a value as `0x` and its hexadecimal digits, in lower case with no leading zeros: this
 /// project's own form. It fails as `put` does.
 pub fn put_value<K: Sink>(sink: &mut K, value: u64) -> Result<(), Failed>
-    ensures all { OnOk result (K.written sink.new ≡ appended (K.written sink.old) (value_text value)) }
+    ensures all { OnOk result (K.given sink.new ≡ K.given sink.old ++ (value_text value)) }
     ensures prefix { OnErr result
-        (AppendsPrefix (K.written sink.old) (K.written sink.new) (value_text value)) }
+        (AppendsPrefix (K.given sink.old) (K.given sink.new) (value_text value)) }
     ensures cause { HasCause (K.faults sink.old) (K.faults sink.new) result }
 {
     let mut text = [0; 16];

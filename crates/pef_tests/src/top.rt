@@ -20,26 +20,30 @@ const REFUSED: &str =
 const REFUSED_REPORT: &str =
     "4 0 g.ld context\n5 0 u.return enter\n6 0 g.ld hole\n7 0 g.ld hole\n8 0 g.st done\n9 0 g.ld val 0x0\n10 0 u.return ret U_INVALID\n11 0 g.li done\n12 0 g.st done\n13 0 g.ld val 0xffffffffffffffff\nfree 14\nend\n";
 
-/// A source that gives one byte a read, and doesn't tell its bytes.
+/// A source that gives one byte a read, and doesn't know what is left.
 #[derive(Drop)]
 struct ByteSource {
     source: MemSource,
 }
 
 impl Model for ByteSource {
-    ghost use Rattle.std.specs.Prelude.{ℕ};
+    ghost use Rattle.pef_io.specs.MemSource.{MemSourceState};
 
-    ghost Value = { ℕ };
+    ghost Value = { MemSourceState };
 
-    ghost view = { λ s. s.source.faults };
+    ghost view = { λ s. s.source };
 }
 
 impl Source for ByteSource {
-    ghost use Rattle.std.specs.Prelude.{None};
+    ghost use Rattle.std.specs.Prelude.{◌≡◌, [], None};
 
-    ghost left = { λ s. None };
+    ghost taken = { λ s. s.taken };
 
-    ghost faults = { λ s. s };
+    ghost ended = { λ s. s.left ≡ [] };
+
+    ghost whole = { λ _. None };
+
+    ghost faults = { λ s. s.faults };
 
     fn read(&mut self, buf: &mut [u8]) -> Result<usize, Failed> {
         let count = buf.len().min(1);

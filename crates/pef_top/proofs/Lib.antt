@@ -11,3 +11,5 @@ pub mod Wrote
 pub mod ReportText
 pub mod GoSteps
 pub mod Pairs
+pub mod Outcomes
+pub mod Memory

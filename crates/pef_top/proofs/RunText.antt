@@ -1,5 +1,5 @@
 -- The text of a run, one line of the script after another.
-use Rattle.std.proofs.Common.{◌≡◌, ℕ, List, [], ◌∷◌, ◌++◌, reverse, ap, sym, subst, ◌∙◌, append_assoc, append-nil, Option}
+use Rattle.std.proofs.Common.{◌≡◌, ℕ, List, [], ◌∷◌, ◌++◌, reverse, ap, sym, subst, ◌∙◌, append_assoc, append-nil}
 use Rattle.std.proofs.lemmas.List.{reverse-append}
 use Rattle.std.specs.List.{flat_map}
 use Rattle.std.proofs.lemmas.Grind.{flat_map-append}
@@ -11,8 +11,8 @@ use Rattle.pef_model.specs.Report.{entry_line}
 use Rattle.pef_model.specs.Run.{entry_after, with_directive, run_after}
 use Rattle.pef_model.specs.Script.{Line}
 use Rattle.pef_model.proofs.Runs.{done}
-use Rattle.pef_io.specs.Sink.{appended, AppendsPrefix}
-use Rattle.pef_io.proofs.SinkLemmas.{appended-appended, AppendsPrefix-append, AppendsPrefix-after}
+use Rattle.pef_io.specs.Sink.{AppendsPrefix}
+use Rattle.pef_io.proofs.SinkLemmas.{AppendsPrefix-append, AppendsPrefix-after}
 use Rattle.pef_top.specs.Text.{line_text, text_of}
 
 -- the line of an entry that a line makes
@@ -29,17 +29,17 @@ text-more : (e : Event) (past : List Event) → text_of (e ∷ past) ≡ text_of
 text-more e past = text-append (e ∷ []) past ∙ ap (λ (text : List ℕ). text_of past ++ text) (append-nil (entry_line e))
 
 -- after a history's text the line of one more entry makes its text with it
-pub written_more : (start old new : Option (List ℕ)) (e : Event) (past : List Event) → old ≡ appended start (text_of past) → new ≡ appended old (entry_line e) → new ≡ appended start (text_of (e ∷ past))
+pub written_more : (start old new : List ℕ) (e : Event) (past : List Event) → old ≡ start ++ text_of past → new ≡ old ++ entry_line e → new ≡ start ++ text_of (e ∷ past)
 written_more start old new e past so_far more =
-    more ∙ ap (λ (o : Option (List ℕ)). appended o (entry_line e)) so_far ∙ appended-appended start (text_of past) (entry_line e) ∙ ap (appended start) (sym (text-more e past))
+    more ∙ ap (λ (o : List ℕ). o ++ entry_line e) so_far ∙ append_assoc start (text_of past) (entry_line e) ∙ ap (λ (end : List ℕ). start ++ end) (sym (text-more e past))
 
 -- and a first part of the line makes a first part of that text
-pub part_more : (start old new : Option (List ℕ)) (e : Event) (past : List Event) → old ≡ appended start (text_of past) → AppendsPrefix old new (entry_line e) → AppendsPrefix start new (text_of (e ∷ past))
+pub part_more : (start old new : List ℕ) (e : Event) (past : List Event) → old ≡ start ++ text_of past → AppendsPrefix old new (entry_line e) → AppendsPrefix start new (text_of (e ∷ past))
 part_more start old new e past so_far part =
     subst (λ (text : List ℕ). AppendsPrefix start new text) (sym (text-more e past)) (AppendsPrefix-after start old new (text_of past) (entry_line e) so_far part)
 
 -- a first part of a history's text is one of that of a history that goes on
-pub part-append : (old new : Option (List ℕ)) (block past whole : List Event) → whole ≡ block ++ past → AppendsPrefix old new (text_of past) → AppendsPrefix old new (text_of whole)
+pub part-append : (old new : List ℕ) (block past whole : List Event) → whole ≡ block ++ past → AppendsPrefix old new (text_of past) → AppendsPrefix old new (text_of whole)
 part-append old new block past whole is part =
     subst (λ (text : List ℕ). AppendsPrefix old new text) (sym (ap text_of is ∙ text-append block past)) (AppendsPrefix-append old new (text_of past) (text_of block) part)
 

@@ -5,5 +5,7 @@ pub mod Reader
 pub mod Text
 pub mod Fault
 pub mod Top
+pub mod InMemory
+pub mod LimitLaw
 pub mod TwoRuns
 pub mod Runs

@@ -1,5 +1,5 @@
 -- What two calls wrote whose scripts have alike runs.
-use Rattle.std.specs.Prelude.{ℕ, List, Option, Some}
+use Rattle.std.specs.Prelude.{ℕ, List}
 use Rattle.pef_model.specs.Plan.{plan_of}
 use Rattle.pef_model.specs.Run.{run_of}
 use Rattle.pef_model.specs.Script.{Script, Reads}
@@ -7,12 +7,12 @@ use Rattle.pef_model.specs.Sound.{sound}
 use Rattle.pef_model.specs.Alike.{IsAlike, ClashTogether}
 use Rattle.pef_model.specs.SeenReport.{ReportTheSame}
 use Rattle.pef_top.specs.Text.{WroteReport}
-use Rattle.pef_top.specs.Top.{IfReports}
+use Rattle.pef_top.specs.Top.{IsReported}
 
--- what stood on a call's sink before it and after it
+-- what a call's sink had been given before it and after it
 pub record Written : Type 0 where
-  pub old : Option (List ℕ)
-  pub new : Option (List ℕ)
+  pub old : List ℕ
+  pub new : List ℕ
 
 -- a call wrote the report of a script's run, whole where the run has no digest collision
 abbrev pub IsReportOf : Script → Written → Type 0
@@ -27,10 +27,10 @@ pub record WroteTheSame (script other : Script) (w v : Written) : Type 0 where
   pub before :
       ReportTheSame (plan_of script.config) (plan_of other.config) (sound (plan_of script.config) (run_of script)) (sound (plan_of other.config) (run_of other))
 
--- two calls that answered 0, by what their clause says then, and read scripts whose runs are alike, wrote such reports
+-- two calls that answered 0, and took two texts as their clause says then, which are scripts whose runs are alike, wrote such reports
 abbrev pub AlikeRunsWriteTheSame : Type 0
 AlikeRunsWriteTheSame =
-    (text other_text : List ℕ) (script other : Script) (left other_left : Option (List ℕ)) (w v : Written) →
+    (text other_text : List ℕ) (script other : Script) (w v : Written) →
     Reads text script → Reads other_text other → IsAlike script.config (run_of script) other.config (run_of other) →
-    IfReports (Some text) left w.old w.new → IfReports (Some other_text) other_left v.old v.new →
+    IsReported text w.old w.new → IsReported other_text v.old v.new →
     WroteTheSame script other w v

@@ -1,7 +1,7 @@
 //! The input is read to its end, or to one byte past its limit.
 
-ghost use Rattle.std.specs.Prelude.{◌≡◌, ◌≤◌, length, IfOk, IfErr};
-ghost use Rattle.pef_top.specs.Input.{IsAll, HasFault};
+ghost use Rattle.std.specs.Prelude.{◌≡◌, ◌≢◌, ◌≤◌, length, IfOk, IfErr, Err};
+ghost use Rattle.pef_top.specs.Input.{TookAll, StopsInTime, HasFault};
 
 use crate::outcome::SCRIPT_LIMIT;
 use pef_io::Source;
@@ -33,9 +33,14 @@ impl From<AllocError> for InputFault {
 
 /// All bytes of a source. Reading stops one byte past the limit.
 pub fn read_all<S: Source>(alloc: Global, source: &mut S) -> Result<Vec<u8>, InputFault>
-    ensures all { IfOk result (λ text. IsAll (S.left source.old) (S.left source.new) text.items) }
+    ensures all { IfOk result (λ text.
+        TookAll (S.ended source.new) (S.taken source.old) (S.taken source.new) text.items) }
     ensures limit { IfOk result (λ text. length text.items ≤ SCRIPT_LIMIT) }
-    ensures fault { IfErr result (HasFault (S.left source.old) (S.faults source.old) (S.faults source.new)) }
+    ensures stops { StopsInTime (S.taken source.old) (S.taken source.new) }
+    ensures whole { S.whole source.new ≡ S.whole source.old }
+    ensures fault { IfErr result
+        (HasFault (S.taken source.old) (S.taken source.new) (S.faults source.old) (S.faults source.new)) }
+    ensures clean { result ≢ Err InputFault.Read → S.faults source.new ≡ S.faults source.old }
     ensures never_falls { S.faults source.old ≤ S.faults source.new }
 {
     let mut text = Vec::new(alloc);

@@ -1,10 +1,10 @@
 //! Each line of a report is written byte for byte as the definitions have it.
 
-ghost use Rattle.std.specs.Prelude.{◌≡◌, OnErr, OnOk};
+ghost use Rattle.std.specs.Prelude.{◌≡◌, ◌++◌, OnErr, OnOk};
 ghost use Rattle.hex.specs.Hex.{encode_lower};
 ghost use Rattle.sha2.specs.Sha256.{sha256};
 ghost use Rattle.pef_io.specs.Cause.{HasCause};
-ghost use Rattle.pef_io.specs.Sink.{appended, AppendsPrefix};
+ghost use Rattle.pef_io.specs.Sink.{AppendsPrefix};
 ghost use Rattle.pef_model.specs.Report.{command_name, code_name, answer_text, is_zero, frame_line, free_text};
 ghost use Rattle.pef_top.specs.Text.{line_text};
 
@@ -52,9 +52,9 @@ fn name_of_code(code: Code) -> &'static [u8]
 /// Writes an answer. It fails as `put` does.
 fn put_answer<K: Sink>(sink: &mut K, answer: &Answer) -> Result<(), Failed>
     ensures all { OnOk result
-        (K.written sink.new ≡ appended (K.written sink.old) (answer_text answer.now)) }
+        (K.given sink.new ≡ K.given sink.old ++ answer_text answer.now) }
     ensures prefix { OnErr result
-        (AppendsPrefix (K.written sink.old) (K.written sink.new) (answer_text answer.now)) }
+        (AppendsPrefix (K.given sink.old) (K.given sink.new) (answer_text answer.now)) }
     ensures cause { HasCause (K.faults sink.old) (K.faults sink.new) result }
 {
     match answer {
@@ -84,9 +84,9 @@ pub fn put_entry<K: Sink>(
     answer: &Answer,
 ) -> Result<(), Failed>
     ensures all { OnOk result
-        (K.written sink.new ≡ appended (K.written sink.old) (line_text line cpu cmd.now answer.now)) }
+        (K.given sink.new ≡ K.given sink.old ++ line_text line cpu cmd.now answer.now) }
     ensures prefix { OnErr result
-        (AppendsPrefix (K.written sink.old) (K.written sink.new) (line_text line cpu cmd.now answer.now)) }
+        (AppendsPrefix (K.given sink.old) (K.given sink.new) (line_text line cpu cmd.now answer.now)) }
     ensures cause { HasCause (K.faults sink.old) (K.faults sink.new) result }
 {
     let mut line_digits = Buffer::new();
@@ -116,9 +116,9 @@ fn write_digest(bytes: &[u8], text: &mut [u8; 64])
 /// nothing. It fails as `put` does.
 pub fn put_frame<K: Sink>(sink: &mut K, number: u32, bytes: &[u8]) -> Result<(), Failed>
     ensures all { OnOk result
-        (K.written sink.new ≡ appended (K.written sink.old) (frame_line number bytes.now)) }
+        (K.given sink.new ≡ K.given sink.old ++ frame_line number bytes.now) }
     ensures prefix { OnErr result
-        (AppendsPrefix (K.written sink.old) (K.written sink.new) (frame_line number bytes.now)) }
+        (AppendsPrefix (K.given sink.old) (K.given sink.new) (frame_line number bytes.now)) }
     ensures cause { HasCause (K.faults sink.old) (K.faults sink.new) result }
 {
     if is_blank(bytes) {
@@ -142,9 +142,9 @@ pub fn put_frame<K: Sink>(sink: &mut K, number: u32, bytes: &[u8]) -> Result<(),
 /// Writes the end of a report: the number of free secure frames. It fails as `put` does.
 pub fn put_free<K: Sink>(sink: &mut K, free: u32) -> Result<(), Failed>
     ensures all { OnOk result
-        (K.written sink.new ≡ appended (K.written sink.old) (free_text free)) }
+        (K.given sink.new ≡ K.given sink.old ++ free_text free) }
     ensures prefix { OnErr result
-        (AppendsPrefix (K.written sink.old) (K.written sink.new) (free_text free)) }
+        (AppendsPrefix (K.given sink.old) (K.given sink.new) (free_text free)) }
     ensures cause { HasCause (K.faults sink.old) (K.faults sink.new) result }
 {
     let mut digits = Buffer::new();

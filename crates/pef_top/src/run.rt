@@ -1,8 +1,8 @@
 //! A script is run on a machine, and its report is written as the run goes.
 
-ghost use Rattle.std.specs.Prelude.{◌≡◌, ◌≢◌, ◌≤◌, ◌<◌, ◌+◌, ◌^◌, false, List, [], ◌∷◌, length, not, ◌||◌, IfOk, IfErr, IfSome, OnErr, OnOk, Err, slice_get};
+ghost use Rattle.std.specs.Prelude.{◌≡◌, ◌≢◌, ◌≤◌, ◌<◌, ◌+◌, ◌^◌, ◌++◌, false, List, [], ◌∷◌, length, not, ◌||◌, IfOk, IfErr, IfSome, OnErr, OnOk, Err, slice_get};
 ghost use Rattle.pef_io.specs.Cause.{Rose, HasCause};
-ghost use Rattle.pef_io.specs.Sink.{appended, AppendsPrefix};
+ghost use Rattle.pef_io.specs.Sink.{AppendsPrefix};
 ghost use Rattle.pef_model.specs.Plan.{Plan, plan_of};
 ghost use Rattle.pef_model.specs.Event.{Event};
 ghost use Rattle.pef_model.specs.Run.{is_in_progress, is_again, entry_after, with_directive, run_of};
@@ -38,9 +38,9 @@ fn run_once<S: Seal, K: Sink>(
     ensures made { (plan : Plan) → (past : List Event) → Fits S.stands S.image plan machine.old past → is_clash plan past (entry_after plan past line.now cmd.now) ≡ false →
         IfOk result (Makes S.stands S.image plan machine.new past (entry_after plan past line.now cmd.now)) }
     ensures all { (plan : Plan) → (past : List Event) → FitsIfClean S.stands S.image plan machine.old past →
-        OnOk result (Writes plan (K.written sink.old) (K.written sink.new) past (entry_after plan past line.now cmd.now ∷ past)) }
+        OnOk result (Writes plan (K.given sink.old) (K.given sink.new) past (entry_after plan past line.now cmd.now ∷ past)) }
     ensures prefix { (plan : Plan) → (past : List Event) → FitsIfClean S.stands S.image plan machine.old past →
-        OnErr result (WritesPart plan (K.written sink.old) (K.written sink.new) past (entry_after plan past line.now cmd.now ∷ past)) }
+        OnErr result (WritesPart plan (K.given sink.old) (K.given sink.new) past (entry_after plan past line.now cmd.now ∷ past)) }
     ensures cause { HasCause (K.faults sink.old) (K.faults sink.new) result }
     ensures count { machine.new.steps ≡ machine.old.steps + 1 }
     ensures cpus { length machine.new.cpus ≡ length machine.old.cpus }
@@ -73,9 +73,9 @@ fn run_all<S: Seal, K: Sink>(
     ensures fits { (plan : Plan) → (past : List Event) → plan.pages ≡ pages → FitsIfClean S.stands S.image plan machine.old past →
         OnOk result (FitsIfClean S.stands S.image plan machine.new (with_directive plan past line.now Directive.GoAll)) }
     ensures all { (plan : Plan) → (past : List Event) → plan.pages ≡ pages → FitsIfClean S.stands S.image plan machine.old past →
-        OnOk result (Writes plan (K.written sink.old) (K.written sink.new) past (with_directive plan past line.now Directive.GoAll)) }
+        OnOk result (Writes plan (K.given sink.old) (K.given sink.new) past (with_directive plan past line.now Directive.GoAll)) }
     ensures prefix { (plan : Plan) → (past : List Event) → plan.pages ≡ pages → FitsIfClean S.stands S.image plan machine.old past →
-        OnErr result (WritesPart plan (K.written sink.old) (K.written sink.new) past (with_directive plan past line.now Directive.GoAll)) }
+        OnErr result (WritesPart plan (K.given sink.old) (K.given sink.new) past (with_directive plan past line.now Directive.GoAll)) }
     ensures cause { HasCause (K.faults sink.old) (K.faults sink.new) result }
     ensures count { machine.new.steps ≤ machine.old.steps + 1028 }
     ensures cpus { length machine.new.cpus ≡ length machine.old.cpus }
@@ -102,9 +102,9 @@ fn run_line<S: Seal, K: Sink>(
     ensures fits { (plan : Plan) → (past : List Event) → plan.pages ≡ pages → FitsIfClean S.stands S.image plan machine.old past →
         OnOk result (FitsIfClean S.stands S.image plan machine.new (with_directive plan past line.now line.now.directive)) }
     ensures all { (plan : Plan) → (past : List Event) → plan.pages ≡ pages → FitsIfClean S.stands S.image plan machine.old past →
-        OnOk result (Writes plan (K.written sink.old) (K.written sink.new) past (with_directive plan past line.now line.now.directive)) }
+        OnOk result (Writes plan (K.given sink.old) (K.given sink.new) past (with_directive plan past line.now line.now.directive)) }
     ensures prefix { (plan : Plan) → (past : List Event) → plan.pages ≡ pages → FitsIfClean S.stands S.image plan machine.old past →
-        OnErr result (WritesPart plan (K.written sink.old) (K.written sink.new) past (with_directive plan past line.now line.now.directive)) }
+        OnErr result (WritesPart plan (K.given sink.old) (K.given sink.new) past (with_directive plan past line.now line.now.directive)) }
     ensures cause { HasCause (K.faults sink.old) (K.faults sink.new) result }
     ensures count { machine.new.steps ≤ machine.old.steps + 1028 }
     ensures cpus { length machine.new.cpus ≡ length machine.old.cpus }
@@ -129,8 +129,8 @@ fn run_commands<S: Seal, K: Sink>(
     requires script { IsScript script.now }
     requires few { length script.now.lines ≤ SCRIPT_LIMIT }
     ensures fits { OnOk result (FitsIfClean S.stands S.image (plan_of script.now.config) machine.new (run_of script.now)) }
-    ensures all { OnOk result (Wrote (plan_of script.now.config) (K.written sink.old) (K.written sink.new) (run_of script.now)) }
-    ensures prefix { OnErr result (WrotePart (plan_of script.now.config) (K.written sink.old) (K.written sink.new) (run_of script.now)) }
+    ensures all { OnOk result (Wrote (plan_of script.now.config) (K.given sink.old) (K.given sink.new) (run_of script.now)) }
+    ensures prefix { OnErr result (WrotePart (plan_of script.now.config) (K.given sink.old) (K.given sink.new) (run_of script.now)) }
     ensures cause { HasCause (K.faults sink.old) (K.faults sink.new) result }
 {
     for line in &script.lines {
@@ -142,9 +142,9 @@ fn run_commands<S: Seal, K: Sink>(
 /// Writes the lines of a machine's normal frames in order. It fails as `put` does.
 fn put_frames<S: Seal, K: Sink>(machine: &Machine<S>, sink: &mut K) -> Result<(), Failed>
     ensures all { OnOk result
-        (K.written sink.new ≡ appended (K.written sink.old) (frames_text machine.now.normal.frames)) }
+        (K.given sink.new ≡ K.given sink.old ++ frames_text machine.now.normal.frames) }
     ensures prefix { OnErr result
-        (AppendsPrefix (K.written sink.old) (K.written sink.new) (frames_text machine.now.normal.frames)) }
+        (AppendsPrefix (K.given sink.old) (K.given sink.new) (frames_text machine.now.normal.frames)) }
     ensures cause { HasCause (K.faults sink.old) (K.faults sink.new) result }
 {
     for number in 0..machine.normal() {
@@ -164,9 +164,9 @@ fn write_report<S: Seal, K: Sink>(
     requires script { IsScript script.now }
     requires few { length script.now.lines ≤ SCRIPT_LIMIT }
     ensures all { OnOk result
-        (WroteReport script.now (K.written sink.old) (K.written sink.new)) }
+        (WroteReport script.now (K.given sink.old) (K.given sink.new)) }
     ensures prefix { OnErr result
-        (WroteReportPart script.now (K.written sink.old) (K.written sink.new)) }
+        (WroteReportPart script.now (K.given sink.old) (K.given sink.new)) }
     ensures cause { HasCause (K.faults sink.old) (K.faults sink.new) result }
 {
     run_commands(machine, script, sink)?;
@@ -186,13 +186,14 @@ fn run_sealed<S: Seal, K: Sink>(
     requires few { length script.now.lines ≤ SCRIPT_LIMIT }
     requires sealers { IsServed script.now.config S.image S.takes sealers.items }
     ensures all { OnOk result
-        (WroteReport script.now (K.written sink.old) (K.written sink.new)) }
+        (WroteReport script.now (K.given sink.old) (K.given sink.new)) }
     ensures prefix { result ≡ Err RunFault.Write →
-        WroteReportPart script.now (K.written sink.old) (K.written sink.new) }
+        WroteReportPart script.now (K.given sink.old) (K.given sink.new) }
     ensures write { result ≡ Err RunFault.Write → Rose (K.faults sink.old) (K.faults sink.new) }
     ensures memory { IfErr result (λ e. e ≢ RunFault.Write → e ≡ RunFault.Memory) }
     ensures untouched { IfErr result (λ e. e ≢ RunFault.Write →
-        IsUntouched (K.written sink.old) (K.written sink.new) (K.faults sink.old) (K.faults sink.new)) }
+        IsUntouched (K.given sink.old) (K.given sink.new) (K.faults sink.old) (K.faults sink.new)) }
+    ensures clean { OnOk result (K.faults sink.new ≡ K.faults sink.old) }
     ensures sink { K.faults sink.old ≤ K.faults sink.new }
 {
     let mut machine = Machine::build(alloc, &script.config, sealers)?;
@@ -206,13 +207,14 @@ pub fn run_on_machine<K: Sink>(alloc: Global, script: &Script, sink: &mut K) -> 
     requires script { IsScript script.now }
     requires few { length script.now.lines ≤ SCRIPT_LIMIT }
     ensures all { OnOk result
-        (WroteReport script.now (K.written sink.old) (K.written sink.new)) }
+        (WroteReport script.now (K.given sink.old) (K.given sink.new)) }
     ensures prefix { result ≡ Err RunFault.Write →
-        WroteReportPart script.now (K.written sink.old) (K.written sink.new) }
+        WroteReportPart script.now (K.given sink.old) (K.given sink.new) }
     ensures write { result ≡ Err RunFault.Write → Rose (K.faults sink.old) (K.faults sink.new) }
     ensures memory { IfErr result (λ e. e ≢ RunFault.Write → e ≡ RunFault.Memory) }
     ensures untouched { IfErr result (λ e. e ≢ RunFault.Write →
-        IsUntouched (K.written sink.old) (K.written sink.new) (K.faults sink.old) (K.faults sink.new)) }
+        IsUntouched (K.given sink.old) (K.given sink.new) (K.faults sink.old) (K.faults sink.new)) }
+    ensures clean { OnOk result (K.faults sink.new ≡ K.faults sink.old) }
     ensures sink { K.faults sink.old ≤ K.faults sink.new }
 {
     if script.config.vault {

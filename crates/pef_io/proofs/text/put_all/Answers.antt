@@ -22,10 +22,10 @@ returns-in_err-put-clause-prefix g c =
     let pieces : List (Bor (List ℕ)) = c.args.pieces.now in
     let i : ℕ = c.loop-piece.piece-index in
     let none : Bor (List ℕ) = record { ref_ptr = (0, 0); now = [] } in
-    let failed : AppendsPrefix (g.K.Sink.written c.loop-piece.sink) (g.K.Sink.written c.put.new.sink) (get_or pieces i none).now = c.in_err-put.ensures.prefix in
+    let failed : AppendsPrefix (g.K.Sink.given c.loop-piece.sink) (g.K.Sink.given c.put.new.sink) (get_or pieces i none).now = c.in_err-put.ensures.prefix in
     let within : i < length pieces = c.loop-piece-test.true in
     on_err_holds c.from_residual.result
     (rw (pieces_split pieces i none within)
-    (AppendsPrefix-after (g.K.Sink.written c.args.sink.now) (g.K.Sink.written c.loop-piece.sink) (g.K.Sink.written c.put.new.sink) (joined (take i pieces))
-    ((get_or pieces i none).now ++ joined (drop (i + 1) pieces)) c.loop-piece.invariant.written
-    (AppendsPrefix-append (g.K.Sink.written c.loop-piece.sink) (g.K.Sink.written c.put.new.sink) (get_or pieces i none).now (joined (drop (i + 1) pieces)) failed)))
+    (AppendsPrefix-after (g.K.Sink.given c.args.sink.now) (g.K.Sink.given c.loop-piece.sink) (g.K.Sink.given c.put.new.sink) (joined (take i pieces))
+    ((get_or pieces i none).now ++ joined (drop (i + 1) pieces)) c.loop-piece.invariant.given
+    (AppendsPrefix-append (g.K.Sink.given c.loop-piece.sink) (g.K.Sink.given c.put.new.sink) (get_or pieces i none).now (joined (drop (i + 1) pieces)) failed)))

@@ -9,13 +9,13 @@ pub returns-in_err-put-in-Val-clause-prefix : goal.returns-in_err-put-in-Val-cla
 returns-in_err-put-in-Val-clause-prefix g c =
     rw c.in-Val.is
     (on_err_holds c.from_residual.result
-    (AppendsPrefix-append (g.K.Sink.written c.args.sink.now) (g.K.Sink.written c.put-in-Val.new.sink) (codes "val ") (value_text c.in-Val.value) c.in_err-put-in-Val.ensures.prefix))
+    (AppendsPrefix-append (g.K.Sink.given c.args.sink.now) (g.K.Sink.given c.put-in-Val.new.sink) (codes "val ") (value_text c.in-Val.value) c.in_err-put-in-Val.ensures.prefix))
 
 -- the word whole, and a prefix of the value
 pub returns-in_ok-put-in-Val-clause-prefix : goal.returns-in_ok-put-in-Val-clause-prefix
 returns-in_ok-put-in-Val-clause-prefix g c =
     rw c.in-Val.is
     (on_err_weaker c.put_value.result
-    (AppendsPrefix-after (g.K.Sink.written c.args.sink.now) (g.K.Sink.written c.put-in-Val.new.sink) (g.K.Sink.written c.put_value.new.sink) (codes "val ") (value_text c.in-Val.value)
+    (AppendsPrefix-after (g.K.Sink.given c.args.sink.now) (g.K.Sink.given c.put-in-Val.new.sink) (g.K.Sink.given c.put_value.new.sink) (codes "val ") (value_text c.in-Val.value)
     c.in_ok-put-in-Val.ensures.all)
     c.put_value.ensures.prefix)

@@ -13,9 +13,9 @@ returns-in_err-put_frame-clause-prefix g c =
     let n : ℕ = c.loop-number.number in
     let within : n < length frames = omega (arith, c.normal-number-end.ensures, c.loop-number-test.true) in
     let split = frames_below-split (length frames) n (frame_at frames) within in
-    let old = g.K.Sink.written c.args.sink.now in
-    let middle = g.K.Sink.written c.loop-number.sink in
-    let new = g.K.Sink.written c.put_frame.new.sink in
+    let old = g.K.Sink.given c.args.sink.now in
+    let middle = g.K.Sink.given c.loop-number.sink in
+    let new = g.K.Sink.given c.put_frame.new.sink in
     let part : AppendsPrefix middle new (frame_line n (frame_at frames n)) = rw (← c.frame.ensures, ← c.bytes.ensures) c.in_err-put_frame.ensures.prefix in
     on_err_holds c.from_residual.result
     (rw split.1

@@ -1,5 +1,4 @@
-use Rattle.std.proofs.Common.{◌≡◌, ◌≤◌}
-use Rattle.pef_io.specs.Sink.{appended}
+use Rattle.std.proofs.Common.{◌≡◌, ◌++◌}
 use Rattle.pef_model.specs.Report.{frames_below}
 use Rattle.pef_core.specs.Normal.{frame_at}
 use Rattle.pef_top.proofs.run.put_frames.Given as goal
@@ -7,6 +6,6 @@ use Rattle.pef_top.proofs.run.put_frames.Given as goal
 -- the lines of the frames below this one were written
 abbrev pub invariant-loop-number : goal.invariant-loop-number
 invariant-loop-number g l = record {
-  written : g.K.Sink.written l.sink ≡ appended (g.K.Sink.written l.fn.sink) (frames_below l.number (frame_at l.machine.normal.frames));
-  never_falls : g.K.Sink.faults l.fn.sink ≤ g.K.Sink.faults l.sink;
+  written : g.K.Sink.given l.sink ≡ g.K.Sink.given l.fn.sink ++ frames_below l.number (frame_at l.machine.normal.frames);
+  clean : g.K.Sink.faults l.sink ≡ g.K.Sink.faults l.fn.sink;
 }

@@ -44,11 +44,11 @@ loop-done-preserved g c =
           subst (λ (xs : List Event). IsCutAs plan xs whole) (sym (gos-more plan n past line))
           (cut_step plan here whole e goes (c.loop-done.invariant.cut plan past pages fits) (ap (is_clean plan) (sym (gos-more plan n past line)) ∙ unclean));
       written = λ plan past pages fits start before.
-          subst (Wrote plan start (g.K.Sink.written c.run_once.new.sink)) (sym (gos-more plan n past line))
+          subst (Wrote plan start (g.K.Sink.given c.run_once.new.sink)) (sym (gos-more plan n past line))
           (c.in_ok-answer.ensures.all plan (gos plan n past line) (c.loop-done.invariant.fits plan past pages fits) start (c.loop-done.invariant.written plan past pages fits start before));
       steps = omega (arith, c.in_ok-answer.ensures.count, c.loop-done.invariant.steps);
       cpus = c.in_ok-answer.ensures.cpus ∙ c.loop-done.invariant.cpus;
-      never_falls = omega (arith, c.in_ok-answer.ensures.cause.never_falls, c.loop-done.invariant.never_falls);
+      clean = omega (arith, c.in_ok-answer.ensures.cause.clean, c.loop-done.invariant.clean);
     }
 
 -- a `go` with which go* ends, unless it comes after a clash
@@ -94,7 +94,7 @@ returns-then-ends_all-clause-all g c = λ plan past pages fits start before.
     sym (ends_is g.S.Seal.stands g.S.Seal.image plan c.run_once.new.machine here line c.in_ok-answer.answer c.ends_all.result c.line.inside.cpu at (omega arith) c.ends_all.ensures made)
     ∙ c.if-ends_all.true in
     c.loop-done.invariant.same plan past (suc k) pages fits parts.0 most ∙ ends_here plan here line k ends) in
-    wrote_whole plan start (g.K.Sink.written c.run_once.new.sink) (e ∷ here) whole same (cut_step plan here whole e goes (c.loop-done.invariant.cut plan past pages fits))
+    wrote_whole plan start (g.K.Sink.given c.run_once.new.sink) (e ∷ here) whole same (cut_step plan here whole e goes (c.loop-done.invariant.cut plan past pages fits))
     (c.in_ok-answer.ensures.all plan here (c.loop-done.invariant.fits plan past pages fits) start (c.loop-done.invariant.written plan past pages fits start before))
 
 -- the most are done
@@ -111,7 +111,7 @@ returns-clause-all g c = λ plan past pages fits start before.
     let here : List Event = gos plan c.loop-done._done past c.args.line.now in
     let whole : List Event = with_gos plan (most_gos plan) past c.args.line.now in
     let most : c.loop-done._done + 0 ≡ most_gos plan = omega (arith, pages) in
-    wrote_whole plan start (g.K.Sink.written c.loop-done.sink) here whole (λ clean. c.loop-done.invariant.same plan past 0 pages fits clean most) (c.loop-done.invariant.cut plan past pages fits)
+    wrote_whole plan start (g.K.Sink.given c.loop-done.sink) here whole (λ clean. c.loop-done.invariant.same plan past 0 pages fits clean most) (c.loop-done.invariant.cut plan past pages fits)
     (c.loop-done.invariant.written plan past pages fits start before)
 
 -- a first part of the next line is one of the whole
@@ -127,5 +127,5 @@ returns-in_err-answer-clause-prefix g c = λ plan past pages fits.
     let goes : is_clean plan here ≡ true → (block : List Event) × (whole ≡ block ++ (e ∷ here)) =
     λ clean. ((first_goes plan k here line).0, c.loop-done.invariant.same plan past (suc k) pages fits clean most ∙ (first_goes plan k here line).1) in
     on_err_holds c.from_residual.result
-    (λ start before. part_whole plan start (g.K.Sink.written c.run_once.new.sink) here whole e goes (c.loop-done.invariant.cut plan past pages fits)
+    (λ start before. part_whole plan start (g.K.Sink.given c.run_once.new.sink) here whole e goes (c.loop-done.invariant.cut plan past pages fits)
     (c.in_err-answer.ensures.prefix plan here (c.loop-done.invariant.fits plan past pages fits) start (c.loop-done.invariant.written plan past pages fits start before)))

@@ -1,4 +1,4 @@
-use Rattle.std.proofs.Common.{◌≡◌, ◌≤◌, ℕ, ◌+◌, true, false, List, length}
+use Rattle.std.proofs.Common.{◌≡◌, ℕ, ◌+◌, true, false, List, length}
 use Rattle.pef_model.specs.Event.{Event}
 use Rattle.pef_model.specs.Plan.{Plan}
 use Rattle.pef_model.specs.Run.{with_gos, most_gos}
@@ -19,8 +19,8 @@ invariant-loop-done g l = record {
   cut : (plan : Plan) (past : List Event) → plan.pages ≡ l.pages → FitsIfClean g.S.Seal.stands g.S.Seal.image plan l.fn.machine past → is_clean plan (gos plan l._done past l.line) ≡ false →
       IsCutAs plan (gos plan l._done past l.line) (with_gos plan (most_gos plan) past l.line);
   written : (plan : Plan) (past : List Event) → plan.pages ≡ l.pages → FitsIfClean g.S.Seal.stands g.S.Seal.image plan l.fn.machine past →
-      Writes plan (g.K.Sink.written l.fn.sink) (g.K.Sink.written l.sink) past (gos plan l._done past l.line);
+      Writes plan (g.K.Sink.given l.fn.sink) (g.K.Sink.given l.sink) past (gos plan l._done past l.line);
   steps : l.machine.steps ≡ l.fn.machine.steps + l._done;
   cpus : length l.machine.cpus ≡ length l.fn.machine.cpus;
-  never_falls : g.K.Sink.faults l.fn.sink ≤ g.K.Sink.faults l.sink;
+  clean : g.K.Sink.faults l.sink ≡ g.K.Sink.faults l.fn.sink;
 }

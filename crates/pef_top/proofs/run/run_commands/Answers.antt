@@ -1,4 +1,4 @@
-use Rattle.std.proofs.Common.{◌≡◌, ℕ, ◌+◌, ◌<◌, List, [], ◌∷◌, ◌++◌, length, take, drop, get_or, Option, arith, ap, sym, subst, ◌∙◌}
+use Rattle.std.proofs.Common.{◌≡◌, ℕ, ◌+◌, ◌<◌, List, [], ◌∷◌, ◌++◌, length, take, drop, get_or, arith, ap, sym, subst, ◌∙◌}
 use Rattle.std.proofs.lemmas.List.{take_more, take-append-drop}
 use Rattle.pef_model.specs.Event.{Event}
 use Rattle.pef_model.specs.Plan.{Plan, plan_of}
@@ -35,8 +35,8 @@ returns-in_err-run_line-clause-prefix g c =
     let whole : run_of script ≡ later.0 ++ with_directive plan past line line.directive =
     ap (run_of_lines plan) (sym (take-append-drop (i + 1) script.lines)) ∙ later.1 ∙ ap (λ (xs : List Event). later.0 ++ xs) more in
     on_err_holds c.from_residual.result
-    (part-longer plan (g.K.Sink.written c.args.sink.now) (g.K.Sink.written c.run_line.new.sink) later.0 (with_directive plan past line line.directive) (run_of script) whole
-    (c.in_err-run_line.ensures.prefix plan past pages c.loop-line.invariant.fits (g.K.Sink.written c.args.sink.now) c.loop-line.invariant.written))
+    (part-longer plan (g.K.Sink.given c.args.sink.now) (g.K.Sink.given c.run_line.new.sink) later.0 (with_directive plan past line line.directive) (run_of script) whole
+    (c.in_err-run_line.ensures.prefix plan past pages c.loop-line.invariant.fits (g.K.Sink.given c.args.sink.now) c.loop-line.invariant.written))
 
 -- what fits the lines so far, and was written of them, does so with one more line
 pub loop-line-preserved : goal.loop-line-preserved
@@ -50,11 +50,11 @@ loop-line-preserved g c =
     let pages : script.config.pages ≡ c.script.inside.config.pages = ap (λ (s : Script). s.config.pages) (sym c.script.view_is) in
     let more : run_of_lines plan (take (i + 1) script.lines) ≡ with_directive plan past line line.directive =
     run_more plan c.deref-line-items.result.now script.lines line i items c.loop-line-test.true c.line-item.is in
-    let start : Option (List ℕ) = g.K.Sink.written c.args.sink.now in
+    let start : List ℕ = g.K.Sink.given c.args.sink.now in
     record {
       fits = subst (FitsIfClean g.S.Seal.stands g.S.Seal.image plan c.run_line.new.machine) (sym more) (c.in_ok-run_line.ensures.fits plan past pages c.loop-line.invariant.fits);
       cpus = c.in_ok-run_line.ensures.cpus ∙ c.loop-line.invariant.cpus;
       steps = omega (arith, c.in_ok-run_line.ensures.count, c.loop-line.invariant.steps);
-      written = subst (Wrote plan start (g.K.Sink.written c.run_line.new.sink)) (sym more) (c.in_ok-run_line.ensures.all plan past pages c.loop-line.invariant.fits start c.loop-line.invariant.written);
-      never_falls = omega (arith, c.in_ok-run_line.ensures.cause.never_falls, c.loop-line.invariant.never_falls);
+      written = subst (Wrote plan start (g.K.Sink.given c.run_line.new.sink)) (sym more) (c.in_ok-run_line.ensures.all plan past pages c.loop-line.invariant.fits start c.loop-line.invariant.written);
+      clean = omega (arith, c.in_ok-run_line.ensures.cause.clean, c.loop-line.invariant.clean);
     }

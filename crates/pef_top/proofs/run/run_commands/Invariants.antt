@@ -10,6 +10,6 @@ invariant-loop-line g l = record {
   fits : FitsIfClean g.S.Seal.stands g.S.Seal.image (plan_of l.script.config) l.machine (run_of_lines (plan_of l.script.config) (take l.line-index l.script.lines));
   cpus : length l.machine.cpus ≡ l.script.config.cpus;
   steps : l.machine.steps ≤ l.line-index * 1028;
-  written : Wrote (plan_of l.script.config) (g.K.Sink.written l.fn.sink) (g.K.Sink.written l.sink) (run_of_lines (plan_of l.script.config) (take l.line-index l.script.lines));
-  never_falls : g.K.Sink.faults l.fn.sink ≤ g.K.Sink.faults l.sink;
+  written : Wrote (plan_of l.script.config) (g.K.Sink.given l.fn.sink) (g.K.Sink.given l.sink) (run_of_lines (plan_of l.script.config) (take l.line-index l.script.lines));
+  clean : g.K.Sink.faults l.sink ≡ g.K.Sink.faults l.fn.sink;
 }

@@ -25,5 +25,5 @@ pub returns-in_ok-run_once-in-Once-clause-all : goal.returns-in_ok-run_once-in-O
 returns-in_ok-run_once-in-Once-clause-all g c = λ plan past pages fits start before.
     let line : Line = c.args.line.now in
     let once : line.directive ≡ Once c.in-Once.cmd = sym (ap (λ (l : Line). l.directive) c.line.view_is) ∙ c.in-Once.is in
-    subst (λ (d : Directive). Wrote plan start (g.K.Sink.written c.run_once.new.sink) (with_directive plan past line d)) (sym once)
+    subst (λ (d : Directive). Wrote plan start (g.K.Sink.given c.run_once.new.sink) (with_directive plan past line d)) (sym once)
     (c.in_ok-run_once-in-Once.ensures.all plan past fits start before)

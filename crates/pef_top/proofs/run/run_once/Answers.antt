@@ -27,7 +27,7 @@ returns-clause-all g c = λ plan past fits start written.
     let text : List ℕ = line_text c.from.result line.cpu cmd c.step-answer.result in
     let own : Makes g.S.Seal.stands g.S.Seal.image plan c.step-answer.new.self past e c.step-answer.result → text ≡ entry_line e =
     λ made. ap (λ (n : ℕ). line_text n line.cpu cmd c.step-answer.result) c.from.ensures ∙ line_text-entry plan past line c.args.line.now cmd c.step-answer.result c.line.view_is made.answered in
-    wrote_step plan start (g.K.Sink.written c.args.sink.now) (g.K.Sink.written c.put_entry.new.sink) past e text written c.in_ok-put_entry.ensures.all
+    wrote_step plan start (g.K.Sink.given c.args.sink.now) (g.K.Sink.given c.put_entry.new.sink) past e text written c.in_ok-put_entry.ensures.all
     (λ clean no_clash. own (returns-clause-made g c plan past (fits clean) no_clash))
 
 -- or a first part of it
@@ -43,5 +43,5 @@ returns-in_err-put_entry-clause-prefix g c = λ plan past fits.
     λ made. ap (λ (n : ℕ). line_text n line.cpu cmd c.step-answer.result) c.from.ensures ∙ line_text-entry plan past line c.args.line.now cmd c.step-answer.result c.line.view_is made.answered in
     on_err_holds c.from_residual.result
     (λ start written.
-    part_step plan start (g.K.Sink.written c.args.sink.now) (g.K.Sink.written c.put_entry.new.sink) past e text written c.in_err-put_entry.ensures.prefix
+    part_step plan start (g.K.Sink.given c.args.sink.now) (g.K.Sink.given c.put_entry.new.sink) past e text written c.in_err-put_entry.ensures.prefix
     (λ clean no_clash. own (subst make c.line.view_is (c.step-answer.ensures.step plan past line.number (entries_of line.cpu past) (length past + 1) (fits clean)) no_clash)))

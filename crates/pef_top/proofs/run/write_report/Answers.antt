@@ -1,7 +1,7 @@
-use Rattle.std.proofs.Common.{◌≡◌, ℕ, true, List, ◌++◌, Option, ap, ◌∙◌}
+use Rattle.std.proofs.Common.{◌≡◌, ℕ, true, List, ◌++◌, ap, ◌∙◌, append_assoc}
 use Rattle.std.proofs.lemmas.Result.{on_err_weaker, on_ok_weaker}
-use Rattle.pef_io.specs.Sink.{appended, AppendsPrefix}
-use Rattle.pef_io.proofs.SinkLemmas.{on_err_holds, appended-appended, AppendsPrefix-append, AppendsPrefix-after}
+use Rattle.pef_io.specs.Sink.{AppendsPrefix}
+use Rattle.pef_io.proofs.SinkLemmas.{on_err_holds, AppendsPrefix-append, AppendsPrefix-after}
 use Rattle.pef_model.specs.Event.{Event}
 use Rattle.pef_model.specs.History.{pool_after}
 use Rattle.pef_model.specs.Plan.{Plan, plan_of}
@@ -18,7 +18,7 @@ use Rattle.pef_top.proofs.run.write_report.Goals as goal
 pub returns-in_err-run_commands-clause-prefix : goal.returns-in_err-run_commands-clause-prefix
 returns-in_err-run_commands-clause-prefix g c =
     on_err_holds c.from_residual.result
-    (lines_of_report c.args.script.now (g.K.Sink.written c.args.sink.now) (g.K.Sink.written c.run_commands.new.sink) c.in_err-run_commands.ensures.prefix)
+    (lines_of_report c.args.script.now (g.K.Sink.given c.args.sink.now) (g.K.Sink.given c.run_commands.new.sink) c.in_err-run_commands.ensures.prefix)
 
 -- the entries whole, and a prefix of the frames
 pub returns-in_err-put_frames-clause-prefix : goal.returns-in_err-put_frames-clause-prefix
@@ -30,10 +30,10 @@ returns-in_err-put_frames-clause-prefix g c =
     let free : List ℕ = free_text (pool_after plan past) in
     let shown : is_clean plan past ≡ true → frames ++ free ≡ report_end plan past =
     λ clean. ap (λ (text : List ℕ). text ++ free) (frames_text-fits g.S.Seal.stands g.S.Seal.image plan c.run_commands.new.machine past (c.in_ok-run_commands.ensures.fits clean)) in
-    let middle = g.K.Sink.written c.run_commands.new.sink in
-    let new = g.K.Sink.written c.put_frames.new.sink in
+    let middle = g.K.Sink.given c.run_commands.new.sink in
+    let new = g.K.Sink.given c.put_frames.new.sink in
     on_err_holds c.from_residual-in_err-put_frames.result
-    (wrote_report_part script (g.K.Sink.written c.args.sink.now) middle new (frames ++ free) c.in_ok-run_commands.ensures.all
+    (wrote_report_part script (g.K.Sink.given c.args.sink.now) middle new (frames ++ free) c.in_ok-run_commands.ensures.all
     (AppendsPrefix-append middle new frames free c.in_err-put_frames.ensures.prefix) shown)
 
 -- the frames whole too, and a prefix of the end
@@ -48,12 +48,12 @@ returns-clause-prefix g c =
     λ clean.
     (ap (λ (text : List ℕ). text ++ free) (frames_text-fits g.S.Seal.stands g.S.Seal.image plan c.run_commands.new.machine past (c.in_ok-run_commands.ensures.fits clean))
     ∙ ap (λ (n : ℕ). frames_after plan past ++ free_text n) (c.free.ensures ∙ (c.in_ok-run_commands.ensures.fits clean).free)) in
-    let middle = g.K.Sink.written c.run_commands.new.sink in
-    let after = g.K.Sink.written c.put_frames.new.sink in
-    let new = g.K.Sink.written c.put_free.new.sink in
+    let middle = g.K.Sink.given c.run_commands.new.sink in
+    let after = g.K.Sink.given c.put_frames.new.sink in
+    let new = g.K.Sink.given c.put_free.new.sink in
     on_err_weaker c.put_free.result
     (λ (part : AppendsPrefix after new free).
-    wrote_report_part script (g.K.Sink.written c.args.sink.now) middle new (frames ++ free) c.in_ok-run_commands.ensures.all
+    wrote_report_part script (g.K.Sink.given c.args.sink.now) middle new (frames ++ free) c.in_ok-run_commands.ensures.all
     (AppendsPrefix-after middle after new frames free c.in_ok-put_frames.ensures.all part) shown)
     c.put_free.ensures.prefix
 
@@ -69,11 +69,11 @@ returns-clause-all g c =
     λ clean.
     (ap (λ (text : List ℕ). text ++ free) (frames_text-fits g.S.Seal.stands g.S.Seal.image plan c.run_commands.new.machine past (c.in_ok-run_commands.ensures.fits clean))
     ∙ ap (λ (n : ℕ). frames_after plan past ++ free_text n) (c.free.ensures ∙ (c.in_ok-run_commands.ensures.fits clean).free)) in
-    let middle = g.K.Sink.written c.run_commands.new.sink in
-    let after = g.K.Sink.written c.put_frames.new.sink in
-    let new = g.K.Sink.written c.put_free.new.sink in
+    let middle = g.K.Sink.given c.run_commands.new.sink in
+    let after = g.K.Sink.given c.put_frames.new.sink in
+    let new = g.K.Sink.given c.put_free.new.sink in
     on_ok_weaker c.put_free.result
-    (λ (end : new ≡ appended after free).
-    wrote_report script (g.K.Sink.written c.args.sink.now) middle new (frames ++ free) c.in_ok-run_commands.ensures.all
-    (end ∙ ap (λ (bytes : Option (List ℕ)). appended bytes free) c.in_ok-put_frames.ensures.all ∙ appended-appended middle frames free) shown)
+    (λ (end : new ≡ after ++ free).
+    wrote_report script (g.K.Sink.given c.args.sink.now) middle new (frames ++ free) c.in_ok-run_commands.ensures.all
+    (end ∙ ap (λ (bytes : List ℕ). bytes ++ free) c.in_ok-put_frames.ensures.all ∙ append_assoc middle frames free) shown)
     c.put_free.ensures.all

@@ -1,0 +1,51 @@
+-- What a status is worth, where the text of its line or the words are asked for.
+use Rattle.std.proofs.Common.{◌≡◌, ◌↔◌, ℕ, List, [], ◌∷◌, ◌++◌, ◌∙◌, length, drop, map, codes, String, string_bytes, Result, Ok, Err, refl, ap, sym, subst, arith}
+use Rattle.std.specs.Prelude.{IfOk, OnOk, OnErr}
+use Rattle.std.specs.declared.alloc.Global.{Global}
+use Rattle.std.proofs.Math.Seq.{take-length}
+use Rattle.pef_io.specs.Sink.{AppendsPrefix}
+use Rattle.pef_top.specs.declared.outcome.RunOutcome.{RunOutcome}
+use Rattle.pef_cli.specs.Fault.{fault_text, limit_text, script_text}
+use Rattle.pef_cli.specs.Words.{AnswersWords}
+
+-- the line of each status
+pub text_one : (outcome : RunOutcome) → outcome.status ≡ 1 → fault_text outcome ≡ script_text outcome.line
+text_one outcome is = rw is refl
+
+pub text_two : (outcome : RunOutcome) → outcome.status ≡ 2 → fault_text outcome ≡ codes "pef: words\n"
+text_two outcome is = rw is refl
+
+pub text_three : (outcome : RunOutcome) → outcome.status ≡ 3 → fault_text outcome ≡ codes "pef: read fault\n"
+text_three outcome is = rw is refl
+
+pub text_four : (outcome : RunOutcome) → outcome.status ≡ 4 → fault_text outcome ≡ codes "pef: write fault\n"
+text_four outcome is = rw is refl
+
+pub text_five : (outcome : RunOutcome) → outcome.status ≡ 5 → fault_text outcome ≡ codes "pef: no memory\n"
+text_five outcome is = rw is refl
+
+pub text_six : (outcome : RunOutcome) → outcome.status ≡ 6 → fault_text outcome ≡ limit_text outcome
+text_six outcome is = rw is refl
+
+-- a line that was put whole, or a first part of it, is a first part
+pub told_part : {T E : Type 0} (r : Result T E) (old new text : List ℕ) → OnOk r (new ≡ old ++ text) → OnErr r (AppendsPrefix old new text) → AppendsPrefix old new text
+told_part (Ok value) old new text all prefix = record { count = length text; within = omega arith; bytes = all ∙ ap (λ (bytes : List ℕ). old ++ bytes) (sym (take-length text)) }
+told_part (Err failure) old new text all prefix = prefix
+
+-- and one that was put without a fault is whole
+pub told_whole : {T E P Q : Type 0} (r : Result T E) → OnOk r P → OnErr r Q → ¬ Q → P
+told_whole (Ok value) all failed no_fault = all
+told_whole (Err failure) all failed no_fault = absurd (no_fault failed)
+
+-- the words that were given answer as their list does
+pub words_answer : (args words : List (String Global)) (status : ℕ) → words ≡ drop 1 args → ((status ≡ 2) ↔ (¬ (map (λ word. string_bytes word) words ≡ codes "run" ∷ []))) → AnswersWords args status
+words_answer args words status is answers = record {
+  words = λ two. subst (λ (xs : List (String Global)). ¬ (map (λ word. string_bytes word) xs ≡ codes "run" ∷ [])) is (answers.0 two);
+  other = λ no_run no_memory. answers.1 (subst (λ (xs : List (String Global)). ¬ (map (λ word. string_bytes word) xs ≡ codes "run" ∷ [])) (sym is) no_run);
+}
+
+-- and so where the arguments were given
+pub given_words : {A E : Type 0} (args : Result A E) (items : A → List (String Global)) (words : List (String Global)) (status : ℕ) → IfOk args (λ given. words ≡ drop 1 (items given)) →
+    ((status ≡ 2) ↔ (¬ (map (λ word. string_bytes word) words ≡ codes "run" ∷ []))) → IfOk args (λ given. AnswersWords (items given) status)
+given_words (Ok given) items words status is answers = words_answer (items given) words status is answers
+given_words (Err error) items words status is answers = tt
