@@ -19,4 +19,4 @@ pub use mem_source::MemSource;
 pub use sink::Sink;
 pub use source::Source;
 pub use standard::{StdSink, StdSource};
-pub use text::{put, put_all, put_decimal, put_value};
+pub use text::{put, put_all, put_decimal, put_value, write_hexadecimal};

@@ -65,8 +65,9 @@ pub fn put_value<K: Sink>(sink: &mut K, value: u64) -> Result<(), Failed>
     put(sink, &text[start..])
 }
 
-/// Writes the hexadecimal digits of a value to the end of the text, and says where they start.
-fn write_hexadecimal(value: u64, text: &mut [u8; 16]) -> usize
+/// Writes the hexadecimal digits of a value to the end of the text, in lower case with no leading zeros, and says where they
+/// start: 0 to 15.
+pub fn write_hexadecimal(value: u64, text: &mut [u8; 16]) -> usize
     ensures within { result ≤ 16 }
     ensures digits { drop result text.new ≡ digits 16 false value }
 {

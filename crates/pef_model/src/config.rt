@@ -79,6 +79,22 @@ impl EntropyWords {
             words: Vec::new(alloc),
         }
     }
+
+    /// Adds a word at the end. For want of memory nothing is added.
+    pub fn push(&mut self, word: EntropyWord) -> Result<(), AllocError>
+        ensures ok { OnOk result (self.new ≡ self.old ++ word ∷ []) }
+        ensures err { OnErr result (self.new ≡ self.old) }
+    {
+        self.words.push(word)?;
+        Ok(())
+    }
+
+    /// The words, in their order.
+    pub fn as_slice(&self) -> &[EntropyWord]
+        ensures { result.now ≡ self.now }
+    {
+        self.words.as_slice()
+    }
 }
 
 /// The sizes of a machine, and what its guests begin with.

@@ -1,0 +1,9 @@
+mod Numerals
+mod CutParts
+mod Rows
+mod Pairs
+mod Settings
+mod ScriptLines
+mod Results
+mod Ranges
+pub mod ReadScripts

@@ -1,0 +1,9 @@
+pub mod Cause
+pub mod Line
+pub mod Token
+pub mod Table
+pub mod Command
+pub mod Setting
+pub mod Script
+pub mod Checked
+pub mod FaultLaw

@@ -1,0 +1,19 @@
+//! The laws of the grammar: each is the contract of a function that does nothing.
+
+ghost use Rattle.pef_script.specs.FaultLaw.{SomeFaults};
+ghost use Rattle.pef_script.specs.Script.{FaultWhereNothingReads, ReadsScripts};
+
+/// A text has a faulty line exactly where it reads as nothing.
+pub fn fault_where_nothing_reads()
+    ensures { FaultWhereNothingReads }
+{}
+
+/// Texts and their first faults, computed from the definitions.
+pub fn some_faults()
+    ensures { SomeFaults }
+{}
+
+/// What is read is a script: its sizes are in their ranges, its lines are in their order, and each has one of its CPUs.
+pub fn reads_scripts()
+    ensures { ReadsScripts }
+{}
