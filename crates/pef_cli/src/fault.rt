@@ -9,8 +9,19 @@ use itoa::Buffer;
 use pef_io::{Failed, Sink, put, put_all};
 use pef_top::RunOutcome;
 
+/// Writes the line of an outcome, and a text behind it. It fails as `put` does.
+pub fn put_told<K: Sink>(sink: &mut K, outcome: RunOutcome, usage: &[u8]) -> Result<(), Failed>
+    ensures all { OnOk result (K.given sink.new ≡ K.given sink.old ++ (fault_text outcome ++ usage.now)) }
+    ensures prefix { OnErr result
+        (AppendsPrefix (K.given sink.old) (K.given sink.new) (fault_text outcome ++ usage.now)) }
+    ensures cause { HasCause (K.faults sink.old) (K.faults sink.new) result }
+{
+    put_fault(sink, outcome)?;
+    put(sink, usage)
+}
+
 /// Writes the line of a status from 1 to 6, and nothing at 0. It fails as `put` does.
-pub fn put_fault<K: Sink>(sink: &mut K, outcome: RunOutcome) -> Result<(), Failed>
+fn put_fault<K: Sink>(sink: &mut K, outcome: RunOutcome) -> Result<(), Failed>
     ensures all { OnOk result (K.given sink.new ≡ K.given sink.old ++ fault_text outcome) }
     ensures prefix { OnErr result
         (AppendsPrefix (K.given sink.old) (K.given sink.new) (fault_text outcome)) }

@@ -3,6 +3,7 @@
 
 mod fault;
 mod program;
+mod usage;
 mod words;
 
 use pef_io::{StdSink, StdSource};

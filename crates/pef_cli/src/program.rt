@@ -11,7 +11,8 @@ ghost use Rattle.pef_top.specs.Top.{Reports, TookNoScript, Passes, Begins, IsUnt
 ghost use Rattle.pef_cli.specs.Told.{Tells};
 ghost use Rattle.pef_cli.specs.Words.{no_words, AnswersWords};
 
-use crate::fault::put_fault;
+use crate::fault::put_told;
+use crate::usage::usage_at;
 use crate::words::words_of;
 use pef_io::{Sink, Source};
 use pef_top::{RunOutcome, pef_run};
@@ -29,8 +30,8 @@ fn run<S: Source, K: Sink>(
 ) -> RunOutcome
     ensures done { result.status ≡ 0 →
         Reports (S.ended source.new) (S.taken source.old) (S.taken source.new) (K.given sink.old) (K.given sink.new) }
-    ensures script { result.status ≡ 1 →
-        TookNoScript (S.ended source.new) (S.taken source.old) (S.taken source.new) }
+    ensures fault { result.status ≡ 1 →
+        TookNoScript (S.ended source.new) (S.taken source.old) (S.taken source.new) result }
     ensures words { IfOk args (λ given. AnswersWords (into_iter_items given) result.status) }
     ensures no_words { IfErr args (λ error. result ≡ no_words (error_kind error)) }
     ensures read { result.status ≡ 3 → Rose (S.faults source.old) (S.faults source.new) }
@@ -56,7 +57,7 @@ fn run<S: Source, K: Sink>(
 
 /// The whole program: it runs the top call on its words, writes the line of its fault, and ends with its status.
 ///
-/// The words are the arguments but the first. Where standard error can't be written either, the status alone says what
+/// The words are the arguments but the first. At status 2 the usage text follows the line, where there is memory for it. Where standard error can't be written either, the status alone says what
 /// happened. The statuses and their lines are this project's own.
 pub fn program<S: Source, K: Sink, E: Sink>(
     alloc: Global,
@@ -67,8 +68,6 @@ pub fn program<S: Source, K: Sink, E: Sink>(
 ) -> ExitCode
     ensures done { exit_status result ≡ 0 →
         Reports (S.ended source.new) (S.taken source.old) (S.taken source.new) (K.given sink.old) (K.given sink.new) }
-    ensures script { exit_status result ≡ 1 →
-        TookNoScript (S.ended source.new) (S.taken source.old) (S.taken source.new) }
     ensures words { IfOk args (λ given. AnswersWords (into_iter_items given) (exit_status result)) }
     ensures no_words { IfErr args (λ error. exit_status result ≡ (no_words (error_kind error)).status) }
     ensures read { exit_status result ≡ 3 → Rose (S.faults source.old) (S.faults source.new) }
@@ -76,8 +75,10 @@ pub fn program<S: Source, K: Sink, E: Sink>(
     ensures begins { exit_status result ≡ 4 →
         Begins (S.ended source.new) (S.taken source.old) (S.taken source.new) (K.given sink.old) (K.given sink.new) }
 
-    // Which line is written on standard error, and that a limit that it tells is passed.
-    ensures told { Tells (Passes (S.ended source.new) (S.taken source.old) (S.taken source.new))
+    // Which line is written on standard error, that a line that it tells is the first faulty one of the input, and that a limit
+    // that it tells is passed.
+    ensures told { Tells (TookNoScript (S.ended source.new) (S.taken source.old) (S.taken source.new))
+        (Passes (S.ended source.new) (S.taken source.old) (S.taken source.new))
         result (E.given errors.old) (E.given errors.new) (E.faults errors.old) (E.faults errors.new) }
 
     ensures untouched { exit_status result ≢ 0 → exit_status result ≢ 4 →
@@ -89,8 +90,9 @@ pub fn program<S: Source, K: Sink, E: Sink>(
     ensures writes_clean { exit_status result ≢ 4 → K.faults sink.new ≡ K.faults sink.old }
 {
     let outcome = run(alloc, args, source, sink);
+    let usage = usage_at(alloc, outcome.status);
     // Where standard error can't be written either, the status alone says what happened.
-    let _ = put_fault(errors, outcome);
+    let _ = put_told(errors, outcome, &usage);
     ExitCode::from(outcome.status)
 }
 

@@ -148,4 +148,4 @@ ok_is (Err f) x e = absurd (cc)
 pub reads_scripts : ReadsScripts
 reads_scripts text script read =
     option_map_some left_script (reads text) script read.is (λ s is left.
-      subst IsScript left (script_is_script text s (ok_is (script_or_fault text) s is)))
+    subst IsScript left (script_is_script text s (ok_is (script_or_fault text) s is)))

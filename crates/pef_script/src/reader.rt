@@ -290,3 +290,6 @@ pub fn read_script(alloc: Global, text: &[u8]) -> Result<Script, ReadEnd>
     let script = check_script(alloc, text)?.keep(alloc)?;
     Ok(script)
 }
+
+#[cfg(test)]
+mod tests;

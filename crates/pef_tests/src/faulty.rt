@@ -1,110 +1,69 @@
-//! A text with one fault is no script, and nothing is written of it.
+//! A text with a fault is no script: its line is told, and nothing is written of it.
 
-use crate::script::answers;
+use crate::script::{answers, report_each};
 use pef_top::RunOutcome;
-use std::alloc::Global;
-use std::process::Abort;
 use std::test::Fail;
 
-/// Runs each text between what stands before it and what stands behind it.
-fn refuse_each(
-    rt: &impl Abort,
-    alloc: Global,
-    before: &str,
-    texts: &[&str],
-    behind: &str,
-) -> Result<(), Fail> {
-    for text in texts {
-        let mut script = before.as_bytes().to_vec(alloc)?;
-        script.extend_from_slice(text.as_bytes())?;
-        script.extend_from_slice(behind.as_bytes())?;
-        answers(rt, alloc, script, RunOutcome::plain(1), b"")?;
+/// Texts and their first faulty lines, from the tables of the grammar, by hand.
+const FAULTY: &[(&str, u64)] = &[
+    ("", 1),
+    ("pef 2\nborn 1\nbegin\n", 1),
+    ("pef 1\nborn 1\n", 3),
+    ("pef 1\nborn 1\n0 u.return 0 0\n", 3),
+    ("pef 1\nborn 1\npages 4\nbegin\n", 3),
+    ("pef 1\n\nshift 17\nborn 1\nbegin\n", 3),
+    ("pef 1\nguests 2\nborn 3\nbegin\n", 3),
+    ("pef 1\ncpus 2\nborn 1\nbegin\n2 h.ld 8\n", 5),
+    ("pef 1\nbegin\n0 go\n0\tgo\n0 gox\n", 4),
+    ("pef 1\nbegin\n# c\n\n 0 g.li r031 1", 5),
+];
+
+#[test]
+fn the_first_faulty_line_is_told(rt: HostRuntime) -> Result<(), Fail> {
+    let alloc = rt.alloc();
+    for (text, line) in FAULTY {
+        let text = text.as_bytes().to_vec(alloc)?;
+        answers(&rt, alloc, text, RunOutcome::script_fault(*line), b"")?;
     }
     Ok(())
 }
 
 #[test]
-fn a_text_without_its_header_is_no_script(rt: HostRuntime) -> Result<(), Fail> {
-    refuse_each(
+fn a_script_may_have_comments_pairs_and_guests_that_nothing_starts(
+    rt: HostRuntime,
+) -> Result<(), Fail> {
+    report_each(
         &rt,
         rt.alloc(),
-        "",
+        "pef  1\n# a comment\n\n",
         &[
-            "",
-            "pef 1\nborn 1\n",
-            "pef 1\nborn 1\n0 u.return 0 0\n",
-            "pef 2\nborn 1\nbegin\n",
-            "pef 1\nshift 8\nbegin\n",
-            "pef 1\nborn 1\npages 4\nbegin\n",
-            "pef 1\ncpus 2\nborn 1\nbegin\n2 h.ld 8\n",
+            (
+                "guests 16\nvcpus 8\npages 64\nborn 1\n begin\n0 u.return 0 0 1 2\n\n0  g.li r20 7|9 \n#\n0 g.st r20 0x0\n0 g.ld r6 0x0",
+                "9 0 u.return enter\n11 0 g.li done\n13 0 g.st done\n14 0 g.ld val 0x7\nfree 15\nend\n",
+            ),
+            (
+                "guests 3\nborn 2\nborn 3\nentropy 2 1|2 3\nbegin\n0 u.return 0 0\n",
+                "9 0 u.return ret U_INVALID\nfree 16\nend\n",
+            ),
         ],
-        "",
     )
 }
 
 #[test]
-fn a_setting_outside_its_range_or_place_is_no_script(rt: HostRuntime) -> Result<(), Fail> {
-    refuse_each(
-        &rt,
-        rt.alloc(),
-        "pef 1\n",
-        &[
-            "shift 7\n",
-            "shift 17\n",
-            "normal 0\n",
-            "normal 1025\n",
-            "secure 0\n",
-            "secure 1025\n",
-            "cpus 0\n",
-            "cpus 17\n",
-            "pages 0\n",
-            "pages 1025\n",
-            "pages 4294967297\n",
-            "pages 4 4\n",
-            "seal wax\n",
-            "shift 8\nshift 8\n",
-            "normal 2\nshift 8\n",
-            "pages 4\ncpus 2\n",
-        ],
-        "born 1\nbegin\n",
-    )
-}
-
-#[test]
-fn a_faulty_line_is_no_script(rt: HostRuntime) -> Result<(), Fail> {
-    refuse_each(
-        &rt,
-        rt.alloc(),
-        "pef 1\nborn 1\nbegin\n",
-        &[
-            "\n",
-            "0 g.li r1 7",
-            "1 g.li r1 7\n",
-            "0  g.li r1 7\n",
-            "0 g.li  r1 7\n",
-            "0 g.li r1 7 \n",
-            "0\tg.li r1 7\n",
-            "0 g.li r01 7\n",
-            "0 g.li r32 7\n",
-            "0 g.li r1 18446744073709551616\n",
-            "0 g.li r1 0x10000000000000000\n",
-            "0 g.add r1 2\n",
-            "0 u.return 1 2 3\n",
-            "0 h.ld\n",
-            "0 h.ld 8 8\n",
-            "0 h.st 8\n",
-            "0 h.st 1 0x100 0 0 8\n",
-            "0 g.irq 0\n",
-            "0 g.irq \n",
-            "0 u.pageout 1 0x100 0 0\n",
-            "0 u.pageout 1 0x100 0 0 8 8\n",
-            "0 u.pageout 1 r1 0 0 8\n",
-            "0 u.pagein 1 0x100 0 0\n",
-            "0 u.pagein 1 0x100 0 0 8 8\n",
-            "0 u.pagein 1 r1 0 0 8\n",
-            "0 go 1\n",
-            "0 go *\n",
-        ],
-        "",
-    )
+fn too_many_command_lines_are_refused_where_none_is_faulty(rt: HostRuntime) -> Result<(), Fail> {
+    let alloc = rt.alloc();
+    let mut text = b"pef 1\nbegin\n".as_slice().to_vec(alloc)?;
+    for _ in 0..200_001u32 {
+        text.extend_from_slice(b"0 go\n")?;
+    }
+    let mut faulty = text.as_slice().to_vec(alloc)?;
+    faulty.extend_from_slice(b"0 gox\n")?;
+    let wanted = RunOutcome {
+        status: 6,
+        line: 2,
+        left: 200_001,
+        right: 200_000,
+    };
+    answers(&rt, alloc, text, wanted, b"")?;
+    answers(&rt, alloc, faulty, RunOutcome::script_fault(200_004), b"")
 }

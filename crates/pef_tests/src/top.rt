@@ -74,7 +74,12 @@ fn ends(
     let mut source = MemSource::build(text.as_bytes().to_vec(alloc)?, fails(alloc, bad_read)?);
     let mut sink = MemSink::build(alloc, 100, fails(alloc, bad_write)?)?;
     let outcome = call(alloc, words, &mut source, &mut sink)?;
-    assert_eq!(rt; outcome, RunOutcome::plain(status), "{words:?} {text:?}");
+    let wanted = if status == 1 {
+        RunOutcome::script_fault(1)
+    } else {
+        RunOutcome::plain(status)
+    };
+    assert_eq!(rt; outcome, wanted, "{words:?} {text:?}");
     let report = if status == 0 {
         STORE_AND_LOAD_REPORT
     } else {

@@ -1,9 +1,4 @@
-pub mod CutParts
-pub mod Numerals
-pub mod Lines
-pub mod Scripts
 pub mod OneWord
-pub mod LineText
 pub mod FramesText
 pub mod RunText
 pub mod Clean
@@ -12,4 +7,5 @@ pub mod ReportText
 pub mod GoSteps
 pub mod Pairs
 pub mod Outcomes
+pub mod Reported
 pub mod Memory

@@ -54,7 +54,7 @@ pub memory_is_taken_in_order : MemoryIsTakenInOrder
 memory_is_taken_in_order before left after left_after whole = record {
   reports = λ old new at. subst (λ (bytes : List ℕ). IsReported bytes old new) (all before left after left_after at.text whole at.took) at.reported;
   begins = λ old new at. subst (λ (bytes : List ℕ). IsBegun bytes old new) (all before left after left_after at.text whole at.took) at.begun;
-  no_script = λ at. subst IsNoScript (all before left after left_after at.text whole at.took) at.none;
+  no_script = λ outcome at. subst (λ (bytes : List ℕ). IsNoScript bytes outcome) (all before left after left_after at.text whole at.took) at.none;
   passes = λ outcome at. past_left at.text left outcome (compared before left after left_after at.text whole at.took) at.past;
   answers = λ outcome at. due_left at.text left outcome (compared before left after left_after at.text whole at.took) at.due;
 }

@@ -13,7 +13,8 @@ use Rattle.pef_model.specs.Script.{Line}
 use Rattle.pef_model.proofs.Runs.{done}
 use Rattle.pef_io.specs.Sink.{AppendsPrefix}
 use Rattle.pef_io.proofs.SinkLemmas.{AppendsPrefix-append, AppendsPrefix-after}
-use Rattle.pef_top.specs.Text.{line_text, text_of}
+use Rattle.pef_report.specs.Text.{line_text}
+use Rattle.pef_top.specs.Text.{text_of}
 
 -- the line of an entry that a line makes
 pub line_text-entry : (plan : Plan) (past : List Event) (line same : Line) (cmd : Cmd) (answer : Answer) → line ≡ same → answer ≡ (entry_after plan past same cmd).trace.answer →

@@ -7,7 +7,7 @@ use Rattle.pef_top.specs.Top.{Reports, IsReported, Begins, IsBegun, TookNoScript
 pub record HoldsOfLeft (before left after left_after : List ℕ) : Type 0 where
   pub reports : (old new : List ℕ) → Reports (left_after ≡ []) before after old new → IsReported left old new
   pub begins : (old new : List ℕ) → Begins (left_after ≡ []) before after old new → IsBegun left old new
-  pub no_script : TookNoScript (left_after ≡ []) before after → IsNoScript left
+  pub no_script : (outcome : RunOutcome) → TookNoScript (left_after ≡ []) before after outcome → IsNoScript left outcome
   pub passes : (outcome : RunOutcome) → Passes (left_after ≡ []) before after outcome → IsPast left outcome
   pub answers : (outcome : RunOutcome) → Answers (left_after ≡ []) before after outcome → outcome ≡ due left
 

@@ -1,20 +1,14 @@
 -- The texts of a report.
-use Rattle.std.specs.Prelude.{◌≡◌, ◌⊎◌, ℕ, Bool, true, false, List, ◌++◌, length, reverse, codes, decimal}
+use Rattle.std.specs.Prelude.{◌≡◌, ◌⊎◌, ℕ, Bool, true, false, List, ◌++◌, length, reverse}
 use Rattle.std.specs.List.{flat_map}
-use Rattle.pef_model.specs.declared.command.Cmd.{Cmd}
-use Rattle.pef_model.specs.declared.entry.Answer.{Answer}
 use Rattle.pef_io.specs.Sink.{AppendsPrefix}
 use Rattle.pef_model.specs.Event.{Event}
 use Rattle.pef_model.specs.Plan.{Plan, plan_of}
 use Rattle.pef_model.specs.Sound.{is_clean, sound}
-use Rattle.pef_model.specs.Report.{command_name, answer_text, entry_line, frames_below, report}
+use Rattle.pef_model.specs.Report.{entry_line, frames_below, report}
 use Rattle.pef_model.specs.Run.{run_of}
 use Rattle.pef_model.specs.Script.{Script}
 use Rattle.pef_core.specs.Normal.{frame_at}
-
--- the line of a step: the script's line, the CPU, the command's name, the answer
-abbrev pub line_text : ℕ → ℕ → Cmd → Answer → List ℕ
-line_text line cpu cmd a = decimal line ++ (codes " " ++ (decimal cpu ++ (codes " " ++ (command_name cmd ++ (codes " " ++ (answer_text a ++ codes "\n"))))))
 
 -- the lines of the entries of a history, the oldest first
 abbrev pub text_of : List Event → List ℕ

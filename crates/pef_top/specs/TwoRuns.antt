@@ -2,7 +2,8 @@
 use Rattle.std.specs.Prelude.{ℕ, List}
 use Rattle.pef_model.specs.Plan.{plan_of}
 use Rattle.pef_model.specs.Run.{run_of}
-use Rattle.pef_model.specs.Script.{Script, Reads}
+use Rattle.pef_model.specs.Script.{Script}
+use Rattle.pef_script.specs.Script.{Reads}
 use Rattle.pef_model.specs.Sound.{sound}
 use Rattle.pef_model.specs.Alike.{IsAlike, ClashTogether}
 use Rattle.pef_model.specs.SeenReport.{ReportTheSame}

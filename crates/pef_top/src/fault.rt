@@ -1,19 +1,20 @@
 //! Each fault of a run has one outcome.
 
 ghost use Rattle.std.specs.Prelude.{◌≡◌};
-ghost use Rattle.pef_top.specs.Fault.{outcome_of, fault_of_input};
+ghost use Rattle.pef_top.specs.Fault.{outcome_of, fault_of_input, fault_of_read};
 
 use crate::input::InputFault;
 use crate::limits::Limit;
 use crate::outcome::RunOutcome;
 use pef_io::Failed;
+use pef_script::ReadEnd;
 use std::alloc::AllocError;
 
 /// Why a script was not run to its end.
 #[derive(Clone, Copy, Debug, PartialEq, Eq)]
 pub enum RunFault {
-    /// The input is no script.
-    Script,
+    /// The input is no script: its first faulty line, from 1.
+    Script(u64),
     /// A read failed.
     Read,
     /// A write failed.
@@ -30,7 +31,7 @@ impl RunFault {
         ensures { result ≡ outcome_of self }
     {
         match self {
-            RunFault::Script => RunOutcome::plain(1),
+            RunFault::Script(line) => RunOutcome::script_fault(line),
             RunFault::Read => RunOutcome::plain(3),
             RunFault::Write => RunOutcome::plain(4),
             RunFault::Memory => RunOutcome::plain(5),
@@ -47,6 +48,17 @@ impl From<InputFault> for RunFault {
             InputFault::Read => RunFault::Read,
             InputFault::TooLong => RunFault::Limit(Limit::Script),
             InputFault::Memory => RunFault::Memory,
+        }
+    }
+}
+
+impl From<ReadEnd> for RunFault {
+    ghost from_gives = { λ end e. e ≡ fault_of_read end };
+
+    fn from(end: ReadEnd) -> RunFault {
+        match end {
+            ReadEnd::Fault(fault) => RunFault::Script(u64::from(fault.line)),
+            ReadEnd::NoMemory => RunFault::Memory,
         }
     }
 }

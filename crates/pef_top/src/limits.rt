@@ -7,6 +7,9 @@ ghost use Rattle.pef_top.specs.Limits.{frames_bytes, pages_bytes, limit_of, chec
 use crate::fault::RunFault;
 use pef_model::Config;
 
+/// The most command lines that a script may have. This project's own.
+pub const COMMAND_LIMIT: usize = 200_000;
+
 /// The most bytes that all frames of a machine may have, and the most that all pages of its guests may have. This
 /// project's own.
 pub const MEMORY_LIMIT: u64 = 67_108_864;
@@ -16,6 +19,8 @@ pub const MEMORY_LIMIT: u64 = 67_108_864;
 pub enum Limit {
     /// Limit 1: a text has more bytes than a script may have.
     Script,
+    /// Limit 2: a script has so many command lines.
+    Commands { count: u64 },
     /// Limit 3: the normal and the secure frames have so many bytes.
     Frames { bytes: u64 },
     /// Limit 4: the pages of all guests have so many bytes.
@@ -38,11 +43,16 @@ fn bytes_of_pages(config: &Config) -> u64
     u64::from(u32::from(config.guests) * config.pages) << config.shift
 }
 
-/// Refuses a configuration that passes limit 3 or 4, by the first of them.
-pub fn check_limits(config: &Config) -> Result<(), RunFault>
+/// Refuses so many command lines and a configuration that pass one of limits 2 to 4, by the first of them.
+pub fn check_limits(count: usize, config: &Config) -> Result<(), RunFault>
     requires { IsInRange config.now }
-    ensures { result ≡ checked (limit_of config.now) }
+    ensures { result ≡ checked (limit_of count config.now) }
 {
+    if count > COMMAND_LIMIT {
+        return Err(RunFault::Limit(Limit::Commands {
+            count: count as u64,
+        }));
+    }
     let frames = bytes_of_frames(config);
     let pages = bytes_of_pages(config);
     if frames > MEMORY_LIMIT {

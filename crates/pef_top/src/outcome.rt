@@ -2,7 +2,7 @@
 
 ghost use Rattle.std.specs.Prelude.{◌≡◌};
 
-use crate::limits::{Limit, MEMORY_LIMIT};
+use crate::limits::{COMMAND_LIMIT, Limit, MEMORY_LIMIT};
 
 /// The most bytes that a script may have. This project's own.
 pub const SCRIPT_LIMIT: usize = 16_777_216;
@@ -12,7 +12,7 @@ pub const SCRIPT_LIMIT: usize = 16_777_216;
 /// | status | comes |
 /// |---|---|
 /// | 0 | done; the input was read to its end |
-/// | 1 | the input is no script |
+/// | 1 | the input is no script: `line` is its first faulty line, from 1 |
 /// | 2 | the words are none that the program knows |
 /// | 3 | a read failed |
 /// | 4 | a write failed; what was written is a first part of the text |
@@ -27,9 +27,9 @@ pub struct RunOutcome {
 }
 
 impl RunOutcome {
-    ghost use Rattle.pef_top.specs.Outcome.{plain, limit_passed};
+    ghost use Rattle.pef_top.specs.Outcome.{plain, script_fault, limit_passed};
 
-    /// An outcome that says no more than its status, from 0 to 5.
+    /// An outcome that says no more than its status, which is 0 or from 2 to 5.
     pub fn plain(status: u8) -> RunOutcome
         ensures { result ≡ plain status }
     {
@@ -41,12 +41,25 @@ impl RunOutcome {
         }
     }
 
+    /// The input is no script: its first faulty line, from 1.
+    pub fn script_fault(line: u64) -> RunOutcome
+        ensures { result ≡ script_fault line }
+    {
+        RunOutcome {
+            status: 1,
+            line,
+            left: 0,
+            right: 0,
+        }
+    }
+
     /// A limit is passed: its number, what stood, and the limit. Of limit 1 stood what was read, one byte past it.
     pub(crate) fn limit_passed(passed: Limit) -> RunOutcome
         ensures { result ≡ limit_passed passed }
     {
         let (line, left, right) = match passed {
             Limit::Script => (1, SCRIPT_LIMIT as u64 + 1, SCRIPT_LIMIT as u64),
+            Limit::Commands { count } => (2, count, COMMAND_LIMIT as u64),
             Limit::Frames { bytes } => (3, bytes, MEMORY_LIMIT),
             Limit::Pages { bytes } => (4, bytes, MEMORY_LIMIT),
         };

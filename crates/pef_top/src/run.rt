@@ -7,6 +7,7 @@ ghost use Rattle.pef_model.specs.Plan.{Plan, plan_of};
 ghost use Rattle.pef_model.specs.Event.{Event};
 ghost use Rattle.pef_model.specs.Run.{is_in_progress, is_again, entry_after, with_directive, run_of};
 ghost use Rattle.pef_model.specs.Script.{IsScript};
+ghost use Rattle.pef_script.specs.Script.{left_script};
 ghost use Rattle.pef_seal.specs.Serves.{Serves};
 ghost use Rattle.pef_core.specs.Start.{IsServed};
 ghost use Rattle.pef_core.specs.Steps.{Fits, Makes};
@@ -16,13 +17,13 @@ ghost use Rattle.pef_model.specs.Sound.{is_clash};
 ghost use Rattle.pef_top.specs.Top.{IsUntouched};
 
 use crate::fault::RunFault;
-use crate::outcome::SCRIPT_LIMIT;
-use crate::report::{put_entry, put_frame, put_free};
-use crate::script::{Line, Script};
+use crate::limits::COMMAND_LIMIT;
 use crate::sealers::{stream_sealers, vault_sealers};
 use pef_core::Machine;
 use pef_io::{Failed, Sink};
 use pef_model::{Answer, Cmd, Directive};
+use pef_report::{put_end, put_entry, put_frame};
+use pef_script::{Line, Script};
 use pef_seal::Seal;
 use std::alloc::Global;
 
@@ -126,15 +127,15 @@ fn run_commands<S: Seal, K: Sink>(
 ) -> Result<(), Failed>
     requires fits { Fits S.stands S.image (plan_of script.now.config) machine.old [] }
     requires steps { machine.old.steps ≡ 0 }
-    requires script { IsScript script.now }
-    requires few { length script.now.lines ≤ SCRIPT_LIMIT }
-    ensures fits { OnOk result (FitsIfClean S.stands S.image (plan_of script.now.config) machine.new (run_of script.now)) }
-    ensures all { OnOk result (Wrote (plan_of script.now.config) (K.given sink.old) (K.given sink.new) (run_of script.now)) }
-    ensures prefix { OnErr result (WrotePart (plan_of script.now.config) (K.given sink.old) (K.given sink.new) (run_of script.now)) }
+    requires script { IsScript (left_script script.now) }
+    requires few { length script.now.lines ≤ COMMAND_LIMIT }
+    ensures fits { OnOk result (FitsIfClean S.stands S.image (plan_of script.now.config) machine.new (run_of (left_script script.now))) }
+    ensures all { OnOk result (Wrote (plan_of script.now.config) (K.given sink.old) (K.given sink.new) (run_of (left_script script.now))) }
+    ensures prefix { OnErr result (WrotePart (plan_of script.now.config) (K.given sink.old) (K.given sink.new) (run_of (left_script script.now))) }
     ensures cause { HasCause (K.faults sink.old) (K.faults sink.new) result }
 {
     for line in &script.lines {
-        run_line(machine, script.config.pages, line, sink)?;
+        run_line(machine, script.config.pages, &line.line, sink)?;
     }
     Ok(())
 }
@@ -161,17 +162,17 @@ fn write_report<S: Seal, K: Sink>(
 ) -> Result<(), Failed>
     requires fits { Fits S.stands S.image (plan_of script.now.config) machine.old [] }
     requires steps { machine.old.steps ≡ 0 }
-    requires script { IsScript script.now }
-    requires few { length script.now.lines ≤ SCRIPT_LIMIT }
+    requires script { IsScript (left_script script.now) }
+    requires few { length script.now.lines ≤ COMMAND_LIMIT }
     ensures all { OnOk result
-        (WroteReport script.now (K.given sink.old) (K.given sink.new)) }
+        (WroteReport (left_script script.now) (K.given sink.old) (K.given sink.new)) }
     ensures prefix { OnErr result
-        (WroteReportPart script.now (K.given sink.old) (K.given sink.new)) }
+        (WroteReportPart (left_script script.now) (K.given sink.old) (K.given sink.new)) }
     ensures cause { HasCause (K.faults sink.old) (K.faults sink.new) result }
 {
     run_commands(machine, script, sink)?;
     put_frames(machine, sink)?;
-    put_free(sink, machine.free())
+    put_end(sink, machine.free())
 }
 
 /// Runs a script on the machine of its configuration, with a sealer for each guest in order of lpid, and writes the report.
@@ -182,13 +183,13 @@ fn run_sealed<S: Seal, K: Sink>(
     sealers: Vec<S>,
     sink: &mut K,
 ) -> Result<(), RunFault>
-    requires script { IsScript script.now }
-    requires few { length script.now.lines ≤ SCRIPT_LIMIT }
+    requires script { IsScript (left_script script.now) }
+    requires few { length script.now.lines ≤ COMMAND_LIMIT }
     requires sealers { IsServed script.now.config S.image S.takes sealers.items }
     ensures all { OnOk result
-        (WroteReport script.now (K.given sink.old) (K.given sink.new)) }
+        (WroteReport (left_script script.now) (K.given sink.old) (K.given sink.new)) }
     ensures prefix { result ≡ Err RunFault.Write →
-        WroteReportPart script.now (K.given sink.old) (K.given sink.new) }
+        WroteReportPart (left_script script.now) (K.given sink.old) (K.given sink.new) }
     ensures write { result ≡ Err RunFault.Write → Rose (K.faults sink.old) (K.faults sink.new) }
     ensures memory { IfErr result (λ e. e ≢ RunFault.Write → e ≡ RunFault.Memory) }
     ensures untouched { IfErr result (λ e. e ≢ RunFault.Write →
@@ -204,12 +205,12 @@ fn run_sealed<S: Seal, K: Sink>(
 /// Runs a script on the machine of its configuration, by the seal that it names, and writes the report. Nothing is written
 /// before all memory is taken. The faults are that there is no memory, and that a write failed.
 pub fn run_on_machine<K: Sink>(alloc: Global, script: &Script, sink: &mut K) -> Result<(), RunFault>
-    requires script { IsScript script.now }
-    requires few { length script.now.lines ≤ SCRIPT_LIMIT }
+    requires script { IsScript (left_script script.now) }
+    requires few { length script.now.lines ≤ COMMAND_LIMIT }
     ensures all { OnOk result
-        (WroteReport script.now (K.given sink.old) (K.given sink.new)) }
+        (WroteReport (left_script script.now) (K.given sink.old) (K.given sink.new)) }
     ensures prefix { result ≡ Err RunFault.Write →
-        WroteReportPart script.now (K.given sink.old) (K.given sink.new) }
+        WroteReportPart (left_script script.now) (K.given sink.old) (K.given sink.new) }
     ensures write { result ≡ Err RunFault.Write → Rose (K.faults sink.old) (K.faults sink.new) }
     ensures memory { IfErr result (λ e. e ≢ RunFault.Write → e ≡ RunFault.Memory) }
     ensures untouched { IfErr result (λ e. e ≢ RunFault.Write →

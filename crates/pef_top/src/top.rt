@@ -1,10 +1,10 @@
 //! The top call: a script is read, run and reported, from bytes to bytes.
 
-ghost use Rattle.std.specs.Prelude.{◌≡◌, ◌≢◌, ◌≤◌, ◌↔◌, [], ◌∷◌, map, codes, string_bytes, OnOk, IfErr, Err};
+ghost use Rattle.std.specs.Prelude.{◌≡◌, ◌≢◌, ◌≤◌, ◌↔◌, ℕ, [], ◌∷◌, map, codes, string_bytes, OnOk, IfErr, Err};
 ghost use Rattle.pef_io.specs.Cause.{Rose};
 ghost use Rattle.pef_top.specs.declared.limits.Limit.{Limit};
 ghost use Rattle.pef_top.specs.Fault.{IsFault};
-ghost use Rattle.pef_top.specs.Outcome.{IsOutcome, limit_passed};
+ghost use Rattle.pef_top.specs.Outcome.{IsOutcome, script_fault, limit_passed};
 ghost use Rattle.pef_top.specs.Input.{StopsInTime};
 ghost use Rattle.pef_top.specs.Top.{Reports, TookNoScript, Passes, Begins, IsUntouched, AnswersAsDue};
 
@@ -12,10 +12,10 @@ use crate::fault::RunFault;
 use crate::input::read_all;
 use crate::limits::check_limits;
 use crate::outcome::RunOutcome;
-use crate::reader::read_script;
 use crate::run::run_on_machine;
 use crate::words::is_run;
 use pef_io::{Sink, Source};
+use pef_script::check_script;
 use std::alloc::Global;
 
 /// Reads a script, runs it and writes its report. Nothing is written before all memory is taken.
@@ -26,8 +26,8 @@ fn run_script<S: Source, K: Sink>(
 ) -> Result<(), RunFault>
     ensures done { OnOk result
         (Reports (S.ended source.new) (S.taken source.old) (S.taken source.new) (K.given sink.old) (K.given sink.new)) }
-    ensures script { result ≡ Err RunFault.Script →
-        TookNoScript (S.ended source.new) (S.taken source.old) (S.taken source.new) }
+    ensures fault { (line : ℕ) → result ≡ Err (RunFault.Script line) →
+        TookNoScript (S.ended source.new) (S.taken source.old) (S.taken source.new) (script_fault line) }
     ensures read { result ≡ Err RunFault.Read → Rose (S.faults source.old) (S.faults source.new) }
     ensures write { result ≡ Err RunFault.Write → Rose (K.faults sink.old) (K.faults sink.new) }
     ensures begins { result ≡ Err RunFault.Write →
@@ -45,10 +45,9 @@ fn run_script<S: Source, K: Sink>(
     ensures sink { K.faults sink.old ≤ K.faults sink.new }
 {
     let text = read_all(alloc, source)?;
-    let Some(script) = read_script(alloc, &text)? else {
-        return Err(RunFault::Script);
-    };
-    check_limits(&script.config)?;
+    let checked = check_script(alloc, &text)?;
+    check_limits(checked.count(), checked.config())?;
+    let script = checked.keep(alloc)?;
     run_on_machine(alloc, &script, sink)
 }
 
@@ -56,7 +55,7 @@ fn run_script<S: Source, K: Sink>(
 ///
 /// What was taken is what the source gave in this call, and what was given is what the sink took in it; nothing is asked of
 /// the devices but what `Source` and `Sink` say. The words are those after the program's name. Refusals come in this order: the words; a failed read or a script that is
-/// too long, as reading goes; an input that is no script; limit 3, and then limit 4; want of memory, which may come wherever
+/// too long, as reading goes; an input that is no script, by its first faulty line; limits 2, 3 and 4; want of memory, which may come wherever
 /// memory is taken; a failed write. At a failed write a first part of the report was written, or, where the run has a digest
 /// collision, a first part of the lines before the first, or these and more; at every other refusal nothing.
 pub fn pef_run<S: Source, K: Sink>(
@@ -67,7 +66,7 @@ pub fn pef_run<S: Source, K: Sink>(
 ) -> RunOutcome
     ensures done { result.status ≡ 0 →
         Reports (S.ended source.new) (S.taken source.old) (S.taken source.new) (K.given sink.old) (K.given sink.new) }
-    ensures script { result.status ≡ 1 → TookNoScript (S.ended source.new) (S.taken source.old) (S.taken source.new) }
+    ensures fault { result.status ≡ 1 → TookNoScript (S.ended source.new) (S.taken source.old) (S.taken source.new) result }
     ensures words { (result.status ≡ 2) ↔
         (¬ (map (λ word. string_bytes word) words.now ≡ codes "run" ∷ [])) }
     ensures read { result.status ≡ 3 → Rose (S.faults source.old) (S.faults source.new) }

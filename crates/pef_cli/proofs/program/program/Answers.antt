@@ -1,3 +1,4 @@
+use Rattle.std.proofs.Common.{◌∙◌}
 use Rattle.pef_cli.proofs.Outcomes.{told_part, told_whole}
 use Rattle.pef_cli.proofs.program.program.Goals as goal
 
@@ -7,7 +8,10 @@ returns-clause-told g c = record {
   outcome = c.run-outcome.result;
   fields = c.run-outcome.ensures.fields;
   status = c.from.ensures;
+  fault = c.run-outcome.ensures.fault;
   limit = c.run-outcome.ensures.limit;
-  part = told_part c.put_fault.result _ _ _ c.put_fault.ensures.all c.put_fault.ensures.prefix;
-  whole = λ no_fault. told_whole c.put_fault.result c.put_fault.ensures.all c.put_fault.ensures.cause.failed no_fault;
+  usage = c.deref.result.now;
+  alone = λ other. c.deref.ensures.value ∙ c.usage_at-usage.ensures other;
+  part = told_part c.put_told.result _ _ _ c.put_told.ensures.all c.put_told.ensures.prefix;
+  whole = λ no_fault. told_whole c.put_told.result c.put_told.ensures.all c.put_told.ensures.cause.failed no_fault;
 }

@@ -7,7 +7,7 @@ use Rattle.pef_model.specs.Run.{entry_after, entries_of}
 use Rattle.pef_model.specs.Script.{Line}
 use Rattle.pef_model.specs.Sound.{is_clash}
 use Rattle.pef_core.specs.Steps.{Makes}
-use Rattle.pef_top.specs.Text.{line_text}
+use Rattle.pef_report.specs.Text.{line_text}
 use Rattle.pef_top.proofs.RunText.{line_text-entry}
 use Rattle.pef_top.proofs.Wrote.{wrote_step, part_step}
 use Rattle.pef_top.proofs.run.run_once.Goals as goal
