@@ -7,3 +7,4 @@ mod ScriptLines
 mod Results
 mod Ranges
 pub mod ReadScripts
+mod WrittenLines

@@ -7,3 +7,4 @@ pub mod Setting
 pub mod Script
 pub mod Checked
 pub mod FaultLaw
+pub mod WrittenLaw

@@ -2,6 +2,7 @@
 
 ghost use Rattle.pef_script.specs.FaultLaw.{SomeFaults};
 ghost use Rattle.pef_script.specs.Script.{FaultWhereNothingReads, ReadsScripts};
+ghost use Rattle.pef_script.specs.WrittenLaw.{EachLineIsRead};
 
 /// A text has a faulty line exactly where it reads as nothing.
 pub fn fault_where_nothing_reads()
@@ -16,4 +17,9 @@ pub fn some_faults()
 /// What is read is a script: its sizes are in their ranges, its lines are in their order, and each has one of its CPUs.
 pub fn reads_scripts()
     ensures { ReadsScripts }
+{}
+
+/// The words that are written for a command line are read as it, with numbers in decimal or hexadecimal.
+pub fn each_line_is_read()
+    ensures { EachLineIsRead }
 {}

@@ -15,3 +15,5 @@ mod token;
 pub use fault::{Cause, ReadEnd, ScriptFault};
 pub use line::{Line, ReadLine};
 pub use reader::{CheckedScript, Script, check_script, read_script};
+pub use setting::{SETTINGS, Setting, SettingRow};
+pub use table::{Kind, Row, TABLE, Word};

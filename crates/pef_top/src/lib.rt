@@ -11,6 +11,7 @@ mod sealers;
 mod top;
 mod words;
 
+pub use input::{InputFault, read_all};
 pub use limits::{COMMAND_LIMIT, MEMORY_LIMIT};
 pub use outcome::{RunOutcome, SCRIPT_LIMIT};
 pub use sealers::{stream_sealers, vault_sealers};
