@@ -1,12 +1,12 @@
 -- What an access leaves of the pages: how many they are, what holds of each, and which frames are held.
-use Rattle.std.proofs.Common.{◌≡◌, ◌≢◌, ℕ, ◌+◌, ◌/◌, ◌%◌, ◌^◌, ◌<◌, ◌≤◌, ◌==◌, if◌then◌else◌, length, count_by, Some, None, IsSome, ◌↔◌, ◌⊎◌, inl, inr, arith, refl, ap, sym, subst, ◌∙◌}
+use Rattle.std.proofs.Common.{◌≡◌, ◌≢◌, ℕ, ◌+◌, ◌/◌, ◌%◌, ◌^◌, ◌<◌, ◌≤◌, ◌==◌, if◌then◌else◌, Bool, true, false, List, length, count_by, Some, None, IsSome, ◌↔◌, ◌⊎◌, inl, inr, arith, refl, ap, sym, subst, ◌∙◌}
 use Rattle.std.proofs.lemmas.List.{length-replicate, length-set, get_or-set_same, get_or-set_other}
 use Rattle.std.proofs.lemmas.List.Sums.{sum_by-cons}
 use Rattle.std.proofs.lemmas.Bool.{cases_eq}
 use Rattle.pef_model.specs.declared.state.Kind.TheVariants as kind
 use Rattle.pef_model.specs.declared.state.Way.TheVariants.{Outward}
 use Rattle.pef_model.specs.Doubleword.{with_doubleword}
-use Rattle.pef_model.specs.Deed.{Reach, NoPage, InFrame, Backs, NoFrame, Moves}
+use Rattle.pef_model.specs.GuestPart.{Meeting, Private, Unbacked}
 use Rattle.pef_model.proofs.Doublewords.{length-with_doubleword}
 use Rattle.pef_frames.specs.Frame.{FrameState, zero_frame}
 use Rattle.pef_frames.specs.Pool.{PoolState}
@@ -66,56 +66,51 @@ held_where_backed shift pages gpa number at =
     }
 
 -- where an access is done its page is at rest in a frame afterwards
-abbrev pub HeldAfter : ℕ → PagesState FrameState → ℕ → Reach → Type 0
-HeldAfter shift pages gpa InFrame = IsHeld shift pages gpa
-HeldAfter shift pages gpa Backs = IsHeld shift pages gpa
-HeldAfter shift pages gpa NoPage = Unit {0}
-HeldAfter shift pages gpa NoFrame = Unit {0}
-HeldAfter shift pages gpa Moves = Unit {0}
+abbrev pub HeldAfter : ℕ → PagesState FrameState → ℕ → Bool → Meeting → Type 0
+HeldAfter shift pages gpa any Private = IsHeld shift pages gpa
+HeldAfter shift pages gpa true Unbacked = IsHeld shift pages gpa
+HeldAfter shift pages gpa any met = Unit {0}
 
 -- an access knows this of the pages that it leaves
-pub held_after : (shift : ℕ) (pages : PagesState FrameState) (pool : PoolState) (gpa : ℕ) (r : Reach) → Met shift pages pool gpa r → HeldAfter shift (pages_after pages (gpa / 2 ^ shift) pool r) gpa r
-held_after shift pages pool gpa InFrame m = m
-held_after shift pages pool gpa Backs m = subst (λ (p : PoolState). IsHeld shift (pages_after pages (gpa / 2 ^ shift) p Backs) gpa) (sym m.pool_is) (held_where_backed shift pages gpa m.number m.at)
-held_after shift pages pool gpa NoPage m = tt
-held_after shift pages pool gpa NoFrame m = tt
-held_after shift pages pool gpa Moves m = tt
+pub held_after : (shift : ℕ) (pages : PagesState FrameState) (pool : PoolState) (gpa : ℕ) (any : Bool) (r : Meeting) → Met shift pages pool gpa any r → HeldAfter shift (pages_after pages (gpa / 2 ^ shift) pool r) gpa any r
+held_after shift pages pool gpa any Private m = m
+held_after shift pages pool gpa true Unbacked m = subst (λ (p : PoolState). IsHeld shift (pages_after pages (gpa / 2 ^ shift) p Unbacked) gpa) (sym m.pool_is) (held_where_backed shift pages gpa m.number m.at)
+held_after shift pages pool gpa any met m = tt
 
 -- a store leaves the page in its frame with the doubleword
-pub stored_is : (shift : ℕ) (pages : PagesState FrameState) (gpa value : ℕ) (h : IsHeld shift pages gpa) →
-    stored_at pages (place_at shift gpa) value InFrame ≡ with_secure pages (gpa / 2 ^ shift) (frame_with h.frame (gpa % 2 ^ shift) value)
-stored_is shift pages gpa value h =
+pub stored_is : (shift : ℕ) (pages : PagesState FrameState) (gpa value : ℕ) (any : Bool) (h : IsHeld shift pages gpa) →
+    stored_at pages (place_at shift gpa) value any Private ≡ with_secure pages (gpa / 2 ^ shift) (frame_with h.frame (gpa % 2 ^ shift) value)
+stored_is shift pages gpa value any h =
     ap (λ (c : Cell FrameState). stored_in pages (gpa / 2 ^ shift) (frame_in c) (gpa % 2 ^ shift) value) h.at.cell_is
     ∙ ap (λ (c : Cell FrameState). with_cell pages (gpa / 2 ^ shift) (with_frame c (frame_with h.frame (gpa % 2 ^ shift) value))) h.at.cell_is
 
 -- what a store in a frame keeps, a store keeps whatever it met
-pub where_stored : (Q : PagesState FrameState → Type 0) (shift : ℕ) (pages : PagesState FrameState) (gpa value : ℕ) (r : Reach) → HeldAfter shift pages gpa r → Q pages →
-    ((h : IsHeld shift pages gpa) → Q (with_secure pages (gpa / 2 ^ shift) (frame_with h.frame (gpa % 2 ^ shift) value))) → Q (stored_at pages (place_at shift gpa) value r)
-where_stored Q shift pages gpa value InFrame h before stored = subst Q (sym (stored_is shift pages gpa value h)) (stored h)
-where_stored Q shift pages gpa value Backs h before stored = subst Q (sym (stored_is shift pages gpa value h)) (stored h)
-where_stored Q shift pages gpa value NoPage h before stored = before
-where_stored Q shift pages gpa value NoFrame h before stored = before
-where_stored Q shift pages gpa value Moves h before stored = before
+pub where_stored : (Q : PagesState FrameState → Type 0) (shift : ℕ) (pages : PagesState FrameState) (gpa value : ℕ) (any : Bool) (r : Meeting) → HeldAfter shift pages gpa any r → Q pages →
+    ((h : IsHeld shift pages gpa) → Q (with_secure pages (gpa / 2 ^ shift) (frame_with h.frame (gpa % 2 ^ shift) value))) → Q (stored_at pages (place_at shift gpa) value any r)
+where_stored Q shift pages gpa value any Private h before stored = subst Q (sym (stored_is shift pages gpa value any h)) (stored h)
+where_stored Q shift pages gpa value true Unbacked h before stored = subst Q (sym (stored_is shift pages gpa value true h)) (stored h)
+where_stored Q shift pages gpa value any met h before stored = before
 
 -- what a backing keeps, an access keeps whatever it met; Q speaks of the pages and the pool
-pub where_reached : (Q : PagesState FrameState → PoolState → Type 0) (shift : ℕ) (pages : PagesState FrameState) (pool : PoolState) (gpa : ℕ) (r : Reach) → Met shift pages pool gpa r → Q pages pool →
+pub where_reached : (Q : PagesState FrameState → PoolState → Type 0) (shift : ℕ) (pages : PagesState FrameState) (pool : PoolState) (gpa : ℕ) (any : Bool) (r : Meeting) → Met shift pages pool gpa any r → Q pages pool →
     ((m : IsToBack shift pages pool gpa) → Q (with_backed shift pages (gpa / 2 ^ shift) m.number) (pool_of pool.count shift m.more)) → Q (pages_after pages (gpa / 2 ^ shift) pool r) (pool_after pool r)
-where_reached Q shift pages pool gpa Backs m before backed =
-    subst (λ (p : PoolState). Q (pages_after pages (gpa / 2 ^ shift) p Backs) (pool_after p Backs)) (sym m.pool_is) (backed m)
-where_reached Q shift pages pool gpa InFrame m before backed = before
-where_reached Q shift pages pool gpa NoPage m before backed = before
-where_reached Q shift pages pool gpa NoFrame m before backed = before
-where_reached Q shift pages pool gpa Moves m before backed = before
+where_reached Q shift pages pool gpa any Private m before backed = before
+where_reached Q shift pages pool gpa true Unbacked m before backed =
+    subst (λ (p : PoolState). Q (pages_after pages (gpa / 2 ^ shift) p Unbacked) (pool_after p Unbacked)) (sym m.pool_is) (backed m)
+where_reached Q shift pages pool gpa false Unbacked none before backed =
+    subst (λ (free : List ℕ). Q (pages_after pages (gpa / 2 ^ shift) (record pool { free = free }) Unbacked) (pool_after (record pool { free = free }) Unbacked)) (sym none)
+    (subst (λ (free : List ℕ). Q pages (record pool { free = free })) none before)
+where_reached Q shift pages pool gpa any met m before backed = before
 
 -- an access leaves as many pages, and so does a store
-pub length_after : (shift : ℕ) (pages : PagesState FrameState) (pool : PoolState) (gpa : ℕ) (r : Reach) → Met shift pages pool gpa r → length (pages_after pages (gpa / 2 ^ shift) pool r).pages ≡ length pages.pages
-length_after shift pages pool gpa r m =
-    where_reached (λ (x : PagesState FrameState) (p : PoolState). length x.pages ≡ length pages.pages) shift pages pool gpa r m refl
+pub length_after : (shift : ℕ) (pages : PagesState FrameState) (pool : PoolState) (gpa : ℕ) (any : Bool) (r : Meeting) → Met shift pages pool gpa any r → length (pages_after pages (gpa / 2 ^ shift) pool r).pages ≡ length pages.pages
+length_after shift pages pool gpa any r m =
+    where_reached (λ (x : PagesState FrameState) (p : PoolState). length x.pages ≡ length pages.pages) shift pages pool gpa any r m refl
     (λ b. length_with pages (gpa / 2 ^ shift) (zero_frame (2 ^ shift) b.number))
 
-pub length_stored : (shift : ℕ) (pages : PagesState FrameState) (gpa value : ℕ) (r : Reach) → HeldAfter shift pages gpa r → length (stored_at pages (place_at shift gpa) value r).pages ≡ length pages.pages
-length_stored shift pages gpa value r h =
-    where_stored (λ (x : PagesState FrameState). length x.pages ≡ length pages.pages) shift pages gpa value r h refl
+pub length_stored : (shift : ℕ) (pages : PagesState FrameState) (gpa value : ℕ) (any : Bool) (r : Meeting) → HeldAfter shift pages gpa any r → length (stored_at pages (place_at shift gpa) value any r).pages ≡ length pages.pages
+length_stored shift pages gpa value any r h =
+    where_stored (λ (x : PagesState FrameState). length x.pages ≡ length pages.pages) shift pages gpa value any r h refl
     (λ i. length_with pages (gpa / 2 ^ shift) (frame_with i.frame (gpa % 2 ^ shift) value))
 
 -- how often a number is that of a frame which the pages hold
@@ -130,10 +125,10 @@ times_with pages gfn frame c number below is =
     ∙ frames-set pages gfn (page_with (page_at pages gfn) (cell.Secure frame)) (λ (f : FrameState). f.number == number) below
 
 -- a frame that an access takes is held once more and free once less
-pub frames_after : (shift : ℕ) (pages : PagesState FrameState) (pool : PoolState) (gpa number : ℕ) (r : Reach) → Met shift pages pool gpa r →
+pub frames_after : (shift : ℕ) (pages : PagesState FrameState) (pool : PoolState) (gpa number : ℕ) (any : Bool) (r : Meeting) → Met shift pages pool gpa any r →
     times_in (pages_after pages (gpa / 2 ^ shift) pool r) number + times_free (pool_after pool r) number ≡ times_in pages number + times_free pool number
-frames_after shift pages pool gpa number r m =
-    where_reached (λ (x : PagesState FrameState) (p : PoolState). times_in x number + times_free p number ≡ times_in pages number + times_free pool number) shift pages pool gpa r m refl (λ b.
+frames_after shift pages pool gpa number any r m =
+    where_reached (λ (x : PagesState FrameState) (p : PoolState). times_in x number + times_free p number ≡ times_in pages number + times_free pool number) shift pages pool gpa any r m refl (λ b.
     let came : times_in (with_secure pages (gpa / 2 ^ shift) (zero_frame (2 ^ shift) b.number)) number + 0 ≡ times_in pages number + once b.number number =
     times_with pages (gpa / 2 ^ shift) (zero_frame (2 ^ shift) b.number) cell.Invalid number b.at.below b.at.cell_is in
     let left : times_free pool number ≡ once b.number number + times_free (pool_of pool.count shift b.more) number =
@@ -141,9 +136,9 @@ frames_after shift pages pool gpa number r m =
     omega (arith, came, left))
 
 -- a store leaves each frame its number
-pub frames_stored : (shift : ℕ) (pages : PagesState FrameState) (gpa value number : ℕ) (r : Reach) → HeldAfter shift pages gpa r → times_in (stored_at pages (place_at shift gpa) value r) number ≡ times_in pages number
-frames_stored shift pages gpa value number r h =
-    where_stored (λ (x : PagesState FrameState). times_in x number ≡ times_in pages number) shift pages gpa value r h refl (λ i.
+pub frames_stored : (shift : ℕ) (pages : PagesState FrameState) (gpa value number : ℕ) (any : Bool) (r : Meeting) → HeldAfter shift pages gpa any r → times_in (stored_at pages (place_at shift gpa) value any r) number ≡ times_in pages number
+frames_stored shift pages gpa value number any r h =
+    where_stored (λ (x : PagesState FrameState). times_in x number ≡ times_in pages number) shift pages gpa value any r h refl (λ i.
     let same : times_in (with_secure pages (gpa / 2 ^ shift) (frame_with i.frame (gpa % 2 ^ shift) value)) number + once i.frame.number number ≡ times_in pages number + once i.frame.number number =
     times_with pages (gpa / 2 ^ shift) (frame_with i.frame (gpa % 2 ^ shift) value) (cell.Secure i.frame) number i.at.below i.at.cell_is in
     omega (arith, same))
@@ -188,14 +183,14 @@ pub like_backed : (shift : ℕ) (pages : PagesState FrameState) (gpa number : �
 like_backed shift pages gpa number at = record { each = (like_with shift pages gpa cell.Invalid (zero_frame (2 ^ shift) number) at refl refl).each }
 
 -- an access leaves pages like those before, and so does a store
-pub like_after : (shift : ℕ) (pages : PagesState FrameState) (pool : PoolState) (gpa : ℕ) (r : Reach) → Met shift pages pool gpa r → AreLikePages pages (pages_after pages (gpa / 2 ^ shift) pool r)
-like_after shift pages pool gpa r m =
-    where_reached (λ (x : PagesState FrameState) (p : PoolState). AreLikePages pages x) shift pages pool gpa r m (record { each = λ n. like_itself (page_at pages n) })
+pub like_after : (shift : ℕ) (pages : PagesState FrameState) (pool : PoolState) (gpa : ℕ) (any : Bool) (r : Meeting) → Met shift pages pool gpa any r → AreLikePages pages (pages_after pages (gpa / 2 ^ shift) pool r)
+like_after shift pages pool gpa any r m =
+    where_reached (λ (x : PagesState FrameState) (p : PoolState). AreLikePages pages x) shift pages pool gpa any r m (record { each = λ n. like_itself (page_at pages n) })
     (λ b. like_backed shift pages gpa b.number b.at)
 
-pub like_stored : (shift : ℕ) (pages : PagesState FrameState) (gpa value : ℕ) (r : Reach) → HeldAfter shift pages gpa r → AreLikePages pages (stored_at pages (place_at shift gpa) value r)
-like_stored shift pages gpa value r h =
-    where_stored (AreLikePages pages) shift pages gpa value r h (record { each = λ n. like_itself (page_at pages n) })
+pub like_stored : (shift : ℕ) (pages : PagesState FrameState) (gpa value : ℕ) (any : Bool) (r : Meeting) → HeldAfter shift pages gpa any r → AreLikePages pages (stored_at pages (place_at shift gpa) value any r)
+like_stored shift pages gpa value any r h =
+    where_stored (AreLikePages pages) shift pages gpa value any r h (record { each = λ n. like_itself (page_at pages n) })
     (λ i. like_with shift pages gpa (cell.Secure i.frame) (frame_with i.frame (gpa % 2 ^ shift) value) i.at refl refl)
 
 -- a page of a whole guest; inside: the guest is Secure
@@ -220,10 +215,10 @@ pub record AreWholePages (size secure steps : ℕ) (inside : Type 0) (pages : Pa
   pub each : (gfn : ℕ) → IsWholePage size secure steps inside (page_at pages gfn)
 
 -- an access leaves the pages of a whole guest so, since the frame that it takes is one of the pool's
-pub whole_after : (shift steps : ℕ) (inside : Type 0) (pages : PagesState FrameState) (pool : PoolState) (gpa : ℕ) (r : Reach) → Met shift pages pool gpa r →
+pub whole_after : (shift steps : ℕ) (inside : Type 0) (pages : PagesState FrameState) (pool : PoolState) (gpa : ℕ) (any : Bool) (r : Meeting) → Met shift pages pool gpa any r →
     AreWholePages (2 ^ shift) pool.count steps inside pages → AreWholePages (2 ^ shift) pool.count steps inside (pages_after pages (gpa / 2 ^ shift) pool r)
-whole_after shift steps inside pages pool gpa r m whole =
-    where_reached (λ (x : PagesState FrameState) (p : PoolState). AreWholePages (2 ^ shift) pool.count steps inside x) shift pages pool gpa r m whole (λ b. record {
+whole_after shift steps inside pages pool gpa any r m whole =
+    where_reached (λ (x : PagesState FrameState) (p : PoolState). AreWholePages (2 ^ shift) pool.count steps inside x) shift pages pool gpa any r m whole (λ b. record {
       each = each_with_page (λ (n : ℕ). IsWholePage (2 ^ shift) pool.count steps inside) pages (gpa / 2 ^ shift) (page_with (page_at pages (gpa / 2 ^ shift)) (cell.Secure (zero_frame (2 ^ shift) b.number))) b.at.below
           (whole_with (2 ^ shift) pool.count steps inside (page_at pages (gpa / 2 ^ shift)) (zero_frame (2 ^ shift) b.number) (whole.each (gpa / 2 ^ shift))
           (record { length_is = length-replicate (2 ^ shift) 0; number = b.small }))
@@ -231,10 +226,10 @@ whole_after shift steps inside pages pool gpa r m whole =
     })
 
 -- so does a store, since a frame keeps its size and its number
-pub whole_stored : (shift secure steps : ℕ) (inside : Type 0) (pages : PagesState FrameState) (gpa value : ℕ) (r : Reach) → 8 ≤ shift → HeldAfter shift pages gpa r →
-    AreWholePages (2 ^ shift) secure steps inside pages → AreWholePages (2 ^ shift) secure steps inside (stored_at pages (place_at shift gpa) value r)
-whole_stored shift secure steps inside pages gpa value r least h whole =
-    where_stored (AreWholePages (2 ^ shift) secure steps inside) shift pages gpa value r h whole (λ i. record {
+pub whole_stored : (shift secure steps : ℕ) (inside : Type 0) (pages : PagesState FrameState) (gpa value : ℕ) (any : Bool) (r : Meeting) → 8 ≤ shift → HeldAfter shift pages gpa any r →
+    AreWholePages (2 ^ shift) secure steps inside pages → AreWholePages (2 ^ shift) secure steps inside (stored_at pages (place_at shift gpa) value any r)
+whole_stored shift secure steps inside pages gpa value any r least h whole =
+    where_stored (AreWholePages (2 ^ shift) secure steps inside) shift pages gpa value any r h whole (λ i. record {
       each = each_with_page (λ (n : ℕ). IsWholePage (2 ^ shift) secure steps inside) pages (gpa / 2 ^ shift) (page_with (page_at pages (gpa / 2 ^ shift)) (cell.Secure (frame_with i.frame (gpa % 2 ^ shift) value))) i.at.below
           (whole_with (2 ^ shift) secure steps inside (page_at pages (gpa / 2 ^ shift)) (frame_with i.frame (gpa % 2 ^ shift) value) (whole.each (gpa / 2 ^ shift))
           (record {

@@ -1,13 +1,11 @@
 -- An access keeps what is needed to have those pages back that are Out.
-use Rattle.std.proofs.Common.{◌≡◌, ◌≢◌, ℕ, ◌<◌, ◌^◌, ◌==◌, Bool, true, false, ◌&&◌, if◌then◌else◌, List, Option, Some, None, IsSome, option_map, ◌⊎◌, inl, inr, arith, refl, ap, sym, subst, ◌∙◌}
-use Rattle.std.specs.Prelude.{unwrap_or}
+use Rattle.std.proofs.Common.{◌≡◌, ◌≢◌, ℕ, ◌<◌, ◌^◌, Bool, true, false, if◌then◌else◌, List, Option, Some, None, IsSome, option_map, ◌⊎◌, inl, inr, refl, ap, sym, subst, ◌∙◌}
 use Rattle.std.proofs.lemmas.Bool.{cases_eq}
-use Rattle.std.proofs.lemmas.Bool.Decides.{nat_tests}
 use Rattle.pef_model.specs.declared.state.Regs.{Regs}
 use Rattle.pef_model.specs.declared.state.Tag.{Tag}
 use Rattle.pef_model.specs.Plan.{Plan}
-use Rattle.pef_model.specs.GuestPart.{Page, page_of, is_invalid, put, secured, with_secure_page}
-use Rattle.pef_model.specs.Guest.{Guest as GuestWhole, private_doubleword}
+use Rattle.pef_model.specs.GuestPart.{Page, page_of, put, secured, with_secure_page}
+use Rattle.pef_model.specs.Guest.{Guest as GuestWhole}
 use Rattle.pef_model.specs.PageOut.{tag_of, private_page}
 use Rattle.pef_frames.specs.Frame.{FrameState}
 use Rattle.pef_pages.specs.Cells.{way_of}
@@ -18,7 +16,7 @@ use Rattle.pef_guest.specs.Shows.{kept_in, digest_by, first_there, sealed_of, Sh
 use Rattle.pef_core.proofs.SamePage.{same_page_bytes}
 use Rattle.pef_core.proofs.AccessPages.{AreLikePages}
 use Rattle.pef_core.proofs.GuestAfter.{with_step}
-use Rattle.pef_core.proofs.StepShows.{put_here, put_there}
+use Rattle.pef_model.proofs.Puts.{put-here, put-other}
 
 -- a guest of the model has the pages that are sealed as before, and their tags
 pub record KeepsSealed (plan : Plan) (old new : GuestWhole) : Type 0 where
@@ -26,12 +24,12 @@ pub record KeepsSealed (plan : Plan) (old new : GuestWhole) : Type 0 where
   pub versions : (gfn : ℕ) → (new.part.pages gfn).version ≡ (old.part.pages gfn).version
   pub sealed : (gfn : ℕ) → sealed_of (new.part.pages gfn) ≡ sealed_of (old.part.pages gfn)
   pub pending : (gfn : ℕ) → (new.part.pages gfn).pending ≡ (old.part.pages gfn).pending
-  pub doublewords : (gpa : ℕ) (bytes : List ℕ) → sealed_of (old.part.pages (page_of plan gpa)) ≡ Some bytes → private_doubleword plan new gpa ≡ private_doubleword plan old gpa
+  pub doublewords : (gpa : ℕ) (bytes : List ℕ) → sealed_of (old.part.pages (page_of plan gpa)) ≡ Some bytes → new.content gpa ≡ old.content gpa
 
 -- a page of which something is sealed has the bytes that it had
 private_stays : (plan : Plan) (old new : GuestWhole) (gfn : ℕ) (bytes : List ℕ) → KeepsSealed plan old new → sealed_of (old.part.pages gfn) ≡ Some bytes → private_page plan new gfn ≡ private_page plan old gfn
 private_stays plan old new gfn bytes keeps is =
-    same_page_bytes plan.shift (private_doubleword plan new) (private_doubleword plan old) gfn (λ gpa page. keeps.doublewords gpa bytes (ap (λ (n : ℕ). sealed_of (old.part.pages n)) page ∙ is))
+    same_page_bytes plan.shift (new.content) (old.content) gfn (λ gpa page. keeps.doublewords gpa bytes (ap (λ (n : ℕ). sealed_of (old.part.pages n)) page ∙ is))
 
 -- the guest a step later keeps what it needs, where each page is like the one before
 pub keeps_sealed : {S : Type 0} (stands : S → Tag → List ℕ → List ℕ → Type 0) (image : S → Tag → List ℕ → List ℕ) (plan : Plan) (old : Guest S) (g new : GuestWhole) (pages : PagesState FrameState) (vid : ℕ) (vcpu : Vcpu) →
@@ -78,45 +76,24 @@ module _ (plan : Plan) (g : GuestWhole) (at : ℕ) (none : sealed_of (g.part.pag
   another : (gfn : ℕ) (bytes : List ℕ) → sealed_of (g.part.pages gfn) ≡ Some bytes → gfn ≢ at
   another gfn bytes is same = let here : sealed_of (g.part.pages gfn) ≡ None = ap (λ (n : ℕ). sealed_of (g.part.pages n)) same ∙ none in cc
 
-  -- its doublewords are as before
-  same_doubleword : (h : GuestWhole) (gpa : ℕ) → h.content ≡ content → h.part.pages (page_of plan gpa) ≡ g.part.pages (page_of plan gpa) → page_of plan gpa ≢ at → private_doubleword plan h gpa ≡ private_doubleword plan g gpa
-  same_doubleword h gpa is same other =
-      ap (λ (p : Page). if is_invalid p then 0 else h.content gpa) same
-      ∙ ap (λ (value : ℕ). if is_invalid (g.part.pages (page_of plan gpa)) then 0 else value) (ap (λ (f : ℕ → ℕ). f gpa) is ∙ others gpa other)
-
   -- what holds of the page that is backed, and of every other, holds of each
   by_page : {X : Type 0} (f : Page → X) → f (secured (g.part.pages at)) ≡ f (g.part.pages at) → (gfn : ℕ) → (gfn ≡ at) ⊎ (gfn ≢ at) → f (put g.part.pages at (secured (g.part.pages at)) gfn) ≡ f (g.part.pages gfn)
   by_page f here gfn (inl same) =
-      ap (λ (n : ℕ). f (put g.part.pages at (secured (g.part.pages at)) n)) same ∙ ap f (put_here g.part.pages at (secured (g.part.pages at))) ∙ here ∙ sym (ap (λ (n : ℕ). f (g.part.pages n)) same)
-  by_page f here gfn (inr other) = ap f (put_there g.part.pages at (secured (g.part.pages at)) gfn other)
+      ap (λ (n : ℕ). f (put g.part.pages at (secured (g.part.pages at)) n)) same ∙ ap f (put-here g.part.pages at (secured (g.part.pages at))) ∙ here ∙ sym (ap (λ (n : ℕ). f (g.part.pages n)) same)
+  by_page f here gfn (inr other) = ap f (put-other g.part.pages at (secured (g.part.pages at)) gfn other)
 
-  pub accessed_keeps : (backs : Bool) (registers : ℕ → Regs) → KeepsSealed plan g (record { part = if backs then with_secure_page g.part at else g.part; content = content; registers = registers })
-  accessed_keeps true registers = record {
+  pub accessed_keeps : (backs : Bool) (registers : ℕ → Regs) (clean : Bool) → KeepsSealed plan g (record g { part = if backs then with_secure_page g.part at else g.part; content = content; registers = registers; clean = clean })
+  accessed_keeps true registers clean = record {
     generation = refl;
     versions = λ gfn. by_page (λ (p : Page). p.version) refl gfn (cases_eq gfn at);
     sealed = λ gfn. by_page sealed_of (sym none) gfn (cases_eq gfn at);
     pending = λ gfn. by_page (λ (p : Page). p.pending) (sym (none_pending (g.part.pages at) none)) gfn (cases_eq gfn at);
-    doublewords = λ gpa bytes is.
-        let other : page_of plan gpa ≢ at = another (page_of plan gpa) bytes is in
-        same_doubleword (record { part = with_secure_page g.part at; content = content; registers = registers }) gpa refl (put_there g.part.pages at (secured (g.part.pages at)) (page_of plan gpa) other) other;
+    doublewords = λ gpa bytes is. others gpa (another (page_of plan gpa) bytes is);
   }
-  accessed_keeps false registers = record {
+  accessed_keeps false registers clean = record {
     generation = refl;
     versions = λ gfn. refl;
     sealed = λ gfn. refl;
     pending = λ gfn. refl;
-    doublewords = λ gpa bytes is. same_doubleword (record { part = g.part; content = content; registers = registers }) gpa refl refl (another (page_of plan gpa) bytes is);
+    doublewords = λ gpa bytes is. others gpa (another (page_of plan gpa) bytes is);
   }
-
--- an access changes the doublewords of its own page alone
-pub accessed_there : (plan : Plan) (g : GuestWhole) (at : ℕ) (backs : Bool) (gpa : ℕ) → page_of plan gpa ≢ page_of plan at → unwrap_or (if backs && (page_of plan at == page_of plan gpa) then Some 0 else None) (g.content gpa) ≡ g.content gpa
-accessed_there plan g at true gpa other = ap (λ (b : Bool). unwrap_or (if b then Some 0 else None) (g.content gpa)) (let test : (page_of plan at == page_of plan gpa) ≡ false = grind (arith, nat_tests) in test)
-accessed_there plan g at false gpa other = refl
-
--- and so does a store
-pub stored_there : (plan : Plan) (g : GuestWhole) (at value : ℕ) (backs : Bool) (gpa : ℕ) → page_of plan gpa ≢ page_of plan at →
-    unwrap_or (if at == gpa then Some value else (if backs && (page_of plan at == page_of plan gpa) then Some 0 else None)) (g.content gpa) ≡ g.content gpa
-stored_there plan g at value backs gpa other =
-    let differ : at ≢ gpa = λ same. other (ap (page_of plan) (sym same)) in
-    ap (λ (b : Bool). unwrap_or (if b then Some value else (if backs && (page_of plan at == page_of plan gpa) then Some 0 else None)) (g.content gpa)) (let test : (at == gpa) ≡ false = grind (arith, nat_tests) in test)
-    ∙ accessed_there plan g at backs gpa other

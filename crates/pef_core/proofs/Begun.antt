@@ -1,16 +1,14 @@
 -- The machine as it begins is whole, and has no history behind it.
-use Rattle.std.proofs.Common.{◌≡◌, ℕ, zero, suc, ◌+◌, ◌^◌, ◌<◌, ◌==◌, nat_lt, Bool, true, false, if◌then◌else◌, List, [], ◌∷◌, ◌++◌, length, replicate, Option, None, refl, ap, sym, subst, ◌∙◌, arith, append-nil, IsSome}
-use Rattle.std.specs.Prelude.{slice_index_or, option_map}
+use Rattle.std.proofs.Common.{◌≡◌, ℕ, zero, suc, ◌+◌, ◌^◌, ◌<◌, ◌==◌, nat_lt, if◌then◌else◌, List, [], ◌∷◌, ◌++◌, length, replicate, refl, ap, sym, subst, ◌∙◌, arith, append-nil}
+use Rattle.std.specs.Prelude.{slice_index_or}
 use Rattle.std.specs.List.{count_by, flat_map}
 use Rattle.std.proofs.lemmas.List.{length-replicate, get_or-replicate}
 use Rattle.pef_model.specs.declared.config.Config.{Config}
-use Rattle.pef_model.specs.declared.state.Kind.TheVariants as kind
-use Rattle.pef_model.specs.declared.state.Mover.{Mover}
 use Rattle.pef_model.specs.declared.state.Tag.{Tag}
 use Rattle.pef_model.specs.declared.state.VState.TheVariants.{Idle}
 use Rattle.pef_model.specs.Plan.{Plan, plan_of, IsInRange}
 use Rattle.pef_model.specs.Registers.{fresh_registers}
-use Rattle.pef_model.specs.GuestPart.{start_part_of, page_of}
+use Rattle.pef_model.specs.GuestPart.{start_state}
 use Rattle.pef_model.specs.Guest.{start_guest}
 use Rattle.pef_frames.specs.Frame.{FrameState, numbers_of}
 use Rattle.pef_frames.specs.Pool.{PoolState, full_pool}
@@ -20,12 +18,11 @@ use Rattle.pef_pages.specs.declared.page.Page.{Page}
 use Rattle.pef_pages.specs.Cells.{kind_of, mover_of, way_of}
 use Rattle.pef_pages.specs.Pages.{invalid_page, invalid_pages, page_at, held}
 use Rattle.std.proofs.lemmas.Bool.{false≢true}
-use Rattle.pef_core.proofs.AccessSeals.{none_pending}
 use Rattle.pef_guest.specs.declared.cpu.Cpu.{Cpu}
 use Rattle.pef_guest.specs.declared.vcpu.Vcpu.{Vcpu}
 use Rattle.pef_guest.specs.declared.guest.Guest.{Guest}
-use Rattle.pef_guest.specs.Start.{IsStartCpu, IsStartGuest, start_vcpu, start_state, start_phase}
-use Rattle.pef_guest.specs.Shows.{ShowsPages, ShowsVcpu, ShowsSealed, Shows, vcpu_at, kept_in, digest_by, sealed_of}
+use Rattle.pef_guest.specs.Start.{IsStartCpu, IsStartGuest, start_vcpu}
+use Rattle.pef_guest.specs.Shows.{ShowsPages, ShowsVcpu, ShowsSealed, Shows, vcpu_at, kept_in}
 use Rattle.pef_core.specs.Normal.{NormalState, ShowsNormal, zero_frames}
 use Rattle.pef_core.specs.Start.{AreStartCpus, AreStartGuests, Begins}
 use Rattle.pef_core.specs.State.{State, Each, IsCpuOf, IsGuestOf, IsVcpu, HasVcpu, Works, FramesOnce, IsWholeMachine}
@@ -43,34 +40,15 @@ none_held : (count : ℕ) → held {F = FrameState} (invalid_pages count) ≡ []
 none_held zero = refl
 none_held (suc count) = none_held count
 
-shows_pages : (plan : Plan) (b : Bool) → ShowsPages plan (invalid_pages plan.pages) (record { part = start_part_of b; content = λ gpa. 0; registers = λ vid. fresh_registers })
-shows_pages plan b = record {
+shows_pages : (plan : Plan) (lpid : ℕ) → ShowsPages plan (invalid_pages plan.pages) (start_guest plan lpid)
+shows_pages plan lpid = record {
   count = length-replicate plan.pages invalid_page;
-  kinds = λ gfn below. ap (λ (page : Page FrameState). kind_of page.cell) (page_begun plan.pages gfn) ∙ kinds b gfn;
-  movers = λ gfn below. ap (λ (page : Page FrameState). mover_of page.cell) (page_begun plan.pages gfn) ∙ movers b gfn;
-  order = order b;
+  kinds = λ gfn below. ap (λ (page : Page FrameState). kind_of page.cell) (page_begun plan.pages gfn);
+  movers = λ gfn below. ap (λ (page : Page FrameState). mover_of page.cell) (page_begun plan.pages gfn);
+  order = refl;
   holds = λ gfn frame secure there. let none = sym (ap (λ (page : Page FrameState). kind_of page.cell) (page_begun plan.pages gfn)) ∙ secure in cc;
-} where
-  kinds : (b : Bool) (gfn : ℕ) → kind.Invalid ≡ ((start_part_of b).pages gfn).kind
-  kinds true gfn = refl
-  kinds false gfn = refl
-
-  movers : (b : Bool) (gfn : ℕ) → (let none : Option Mover = None in none) ≡ ((start_part_of b).pages gfn).mover
-  movers true gfn = refl
-  movers false gfn = refl
-
-  order : (b : Bool) → [] ≡ (start_part_of b).order
-  order true = refl
-  order false = refl
-
--- each page has version 0, and nothing was sealed of it
-begun_version : (b : Bool) (gfn : ℕ) → 0 ≡ ((start_part_of b).pages gfn).version
-begun_version true gfn = refl
-begun_version false gfn = refl
-
-none_sealed : (b : Bool) (gfn : ℕ) → (let none : Option (List ℕ) = None in none) ≡ sealed_of ((start_part_of b).pages gfn)
-none_sealed true gfn = refl
-none_sealed false gfn = refl
+  zeros = λ gfn invalid gpa page. refl;
+}
 
 -- a guest as it begins shows the one of the model
 module _ {S : Type 0} (stands : S → Tag → List ℕ → List ℕ → Type 0) (image : S → Tag → List ℕ → List ℕ) (config : Config) (lpid : ℕ) (guest : Guest S) (start : IsStartGuest config lpid guest.sealer guest)
@@ -79,31 +57,19 @@ module _ {S : Type 0} (stands : S → Tag → List ℕ → List ℕ → Type 0) 
   vcpu_begun vid below =
       ap (λ (vcpus : List Vcpu). slice_index_or vcpus vid (start_vcpu Idle)) start.vcpus ∙ get_or-replicate config.vcpus vid (start_vcpu (start_state ((plan_of config).is_born lpid))) (start_vcpu Idle) below
 
-  phase : (b : Bool) → start_phase b ≡ (start_part_of b).phase
-  phase true = refl
-  phase false = refl
-
-  generation : (b : Bool) → 1 ≡ (start_part_of b).generation
-  generation true = refl
-  generation false = refl
-
-  shows_vcpu : (b : Bool) (vid : ℕ) → ShowsVcpu (start_vcpu (start_state b)) ((start_part_of b).vcpus vid) fresh_registers
-  shows_vcpu true vid = record { state = refl; generation = refl; registers = refl }
-  shows_vcpu false vid = record { state = refl; generation = refl; registers = refl }
-
   page_is : (gfn : ℕ) → page_at guest.pages gfn ≡ invalid_page
   page_is gfn = ap (λ pages. page_at pages gfn) start.pages ∙ page_begun config.pages gfn
 
   shows_sealed : ShowsSealed stands image (plan_of config) guest (start_guest (plan_of config) lpid)
   shows_sealed = record {
     images = images;
-    versions = λ gfn below. ap (λ (page : Page FrameState). page.version) (page_is gfn) ∙ begun_version ((plan_of config).is_born lpid) gfn;
-    digests = λ gfn below. ap (λ (page : Page FrameState). kept_in page.cell) (page_is gfn) ∙ ap (option_map digest_by) (none_sealed ((plan_of config).is_born lpid) gfn);
-    stands_for = λ gfn sealed below is. (let none = none_sealed ((plan_of config).is_born lpid) gfn ∙ is in cc);
-    words = λ gpa sealed aligned below is. (let none = none_sealed ((plan_of config).is_born lpid) (page_of (plan_of config) gpa) ∙ is in cc);
+    versions = λ gfn below. ap (λ (page : Page FrameState). page.version) (page_is gfn);
+    digests = λ gfn below. ap (λ (page : Page FrameState). kept_in page.cell) (page_is gfn);
+    stands_for = λ gfn sealed below is. cc;
+    words = λ gpa sealed aligned below is. cc;
     pendings = λ gfn below. (
       λ outward. absurd (let none = sym (ap (λ (page : Page FrameState). way_of (mover_of page.cell)) (page_is gfn)) ∙ outward in cc),
-      λ there. absurd (false≢true (subst IsSome (none_pending ((start_part_of ((plan_of config).is_born lpid)).pages gfn) (sym (none_sealed ((plan_of config).is_born lpid) gfn))) there)),
+      λ there. absurd (false≢true there),
     );
   }
 
@@ -111,13 +77,13 @@ module _ {S : Type 0} (stands : S → Tag → List ℕ → List ℕ → Type 0) 
   shows_guest = record {
     shift = start.shift;
     normal = start.normal;
-    phase = start.phase ∙ phase ((plan_of config).is_born lpid);
-    generation = start.generation ∙ generation ((plan_of config).is_born lpid);
-    pages = subst (λ pages. ShowsPages (plan_of config) pages (start_guest (plan_of config) lpid)) (sym start.pages) (shows_pages (plan_of config) ((plan_of config).is_born lpid));
+    phase = start.phase;
+    generation = start.generation;
+    pages = subst (λ pages. ShowsPages (plan_of config) pages (start_guest (plan_of config) lpid)) (sym start.pages) (shows_pages (plan_of config) lpid);
     sealed = shows_sealed;
     count = ap length start.vcpus ∙ length-replicate config.vcpus (start_vcpu (start_state ((plan_of config).is_born lpid)));
     vcpus = λ vid below.
-        subst (λ vcpu. ShowsVcpu vcpu ((start_part_of ((plan_of config).is_born lpid)).vcpus vid) fresh_registers) (sym (vcpu_begun vid below)) (shows_vcpu ((plan_of config).is_born lpid) vid);
+        subst (λ vcpu. ShowsVcpu vcpu ((start_guest (plan_of config) lpid).part.vcpus vid) fresh_registers) (sym (vcpu_begun vid below)) (record { state = refl; generation = refl; registers = refl });
   }
 
 module _ {S : Type 0} (stands : S → Tag → List ℕ → List ℕ → Type 0) (image : S → Tag → List ℕ → List ℕ) (takes : S → ℕ → ℕ → Type 0) (config : Config) (range : IsInRange config) (cpus : List Cpu) (guests : List (Guest S)) (pool : PoolState) (normal : NormalState)

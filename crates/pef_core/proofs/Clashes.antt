@@ -7,14 +7,15 @@ use Rattle.pef_model.specs.declared.command.Cmd.TheVariants.{Go}
 use Rattle.pef_model.specs.declared.entry.Answer.{Answer}
 use Rattle.pef_model.specs.Plan.{Plan}
 use Rattle.pef_model.specs.Event.{Event, Mark}
-use Rattle.pef_model.specs.Target.{Ask}
+use Rattle.pef_model.specs.Target.{Ask, AtGuest, AtFrame}
 use Rattle.pef_model.specs.Cpu.{CpuPart}
 use Rattle.pef_model.specs.GuestPart.{GuestPart}
 use Rattle.pef_model.specs.PageIn.{is_last_sealed}
 use Rattle.pef_model.specs.Guest.{Guest as GuestWhole}
 use Rattle.pef_model.specs.Deed.{coming_back, deed_page_in_end, deed_page_in_test}
 use Rattle.pef_model.specs.History.{cpu_after, guest_after, entry_of}
-use Rattle.pef_model.specs.Sound.{ends_in_clash, is_clash}
+use Rattle.pef_model.specs.Sound.{clashes_at, is_clash}
+use Rattle.pef_model.specs.Clash.{ends_in_clash}
 use Rattle.pef_frames.specs.Pool.{PoolState}
 use Rattle.pef_guest.specs.declared.cpu.Cpu.{Cpu}
 use Rattle.pef_guest.specs.declared.guest.Guest.{Guest}
@@ -44,4 +45,7 @@ module _ {S : Type 0} (stands : S → Tag → List ℕ → List ℕ → Type 0) 
     none =
         sym (ap (λ (b : Bool). ends_in_clash (guest_after plan lpid past).part (record move { copied = b }) (cpu_after plan n past).hand) copied)
         ∙ sym (ap (λ (l : ℕ). ends_in_clash (guest_after plan l past).part move (cpu_after plan n past).hand) lpid_is)
-        ∙ sym (ap (ends_in_clash (guest_after plan move.lpid past).part move) (end_bytes (guest_after plan lpid past).part (ask_inward move (cpu_after plan n past)) move)) ∙ clean
+        ∙ sym (ap (ends_in_clash (guest_after plan move.lpid past).part move) (end_bytes (guest_after plan lpid past).part (ask_inward move (cpu_after plan n past)) move))
+        ∙ ap (λ (b : Bool). clashes_at (λ l. (guest_after plan l past).part) e (if b then AtGuest move.lpid else AtFrame move.frame)) (sym copied) ∙ clean where
+          e : Event
+          e = entry_of (ask_inward move (cpu_after plan n past)) mark Go (deed_page_in_end (guest_after plan lpid past).part (ask_inward move (cpu_after plan n past)) move)

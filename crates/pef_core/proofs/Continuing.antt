@@ -32,6 +32,7 @@ use Rattle.pef_core.specs.State.{State}
 use Rattle.pef_core.specs.Steps.{Fits, Makes, Continues}
 use Rattle.pef_core.proofs.Lists.{set_same}
 use Rattle.pef_core.proofs.Fitting.{cpus_after, guests_after, guests_stay, frames_stay, free_after}
+use Rattle.pef_core.proofs.StepShows.{shows_stays}
 use Rattle.pef_core.proofs.Entries.{ask_in_hypervisor, ask_in_guest, ask_in_work, ask_aside, is_go, entry_at, deed_placed, return_apart, address_unpooled}
 
 -- the mark of a step of a CPU
@@ -126,12 +127,12 @@ module _ {S : Type 0} (stands : S → Tag → List ℕ → List ℕ → Type 0) 
 
   -- a command that aims at nothing
   pub alone : (plan : Plan) (past : List Event) (line place stamp : ℕ) → Fits stands image plan old past → (new_cpu : Cpu) (ask : Ask) (cmd : Cmd) (a : Answer) →
-      ask_of (cpu_after plan n past) cmd ≡ ask → target_in plan ask.before ask.lpid cmd ≡ Alone → a ≡ (deed_alone ask cmd).answer →
-      ShowsCpu new_cpu (next_cpu (cpu_after plan n past) (entry_of ask (mark_at n line place stamp) cmd (deed_alone ask cmd))) →
+      ask_of (cpu_after plan n past) cmd ≡ ask → target_in plan ask.before ask.lpid cmd ≡ Alone → a ≡ (deed_alone plan ask cmd).answer →
+      ShowsCpu new_cpu (next_cpu (cpu_after plan n past) (entry_of ask (mark_at n line place stamp) cmd (deed_alone plan ask cmd))) →
       Makes stands image plan (record old { cpus = slice_set old.cpus n new_cpu }) past (next_entry plan past (mark_at n line place stamp) cmd) a
   alone plan past line place stamp fits new_cpu ask cmd a learns aims answered shows =
       let mark : Mark = mark_at n line place stamp in
-      let e : Event = entry_of ask mark cmd (deed_alone ask cmd) in
+      let e : Event = entry_of ask mark cmd (deed_alone plan ask cmd) in
       makes_alone plan past line place stamp fits cmd e (entry_at plan past mark cmd ask Alone learns aims) new_cpu old.normal a answered (λ lpid. ap (is_guest lpid) aims) refl shows
       (frames_stay plan past e old.normal refl fits.normal_is)
 
@@ -145,16 +146,16 @@ module _ {S : Type 0} (stands : S → Tag → List ℕ → List ℕ → Type 0) 
 
   -- a command that the hypervisor doesn't give, while it runs
   idle_continues : (cmd : Cmd) → cpu.ctx ≡ ctx.Hv → ((plan : Plan) (lpid : ℕ) → target_in plan ctx.Hv lpid cmd ≡ Alone) →
-      ((c : CpuPart) (mark : Mark) → next_cpu c (entry_of (ask_hypervisor c) mark cmd (deed_alone (ask_hypervisor c) cmd)) ≡ record c { ctx = ctx.Hv }) →
-      ((c : CpuPart) → answer.Context ≡ (deed_alone (ask_hypervisor c) cmd).answer) → Continues stands image old old n cmd answer.Context
+      ((plan : Plan) (c : CpuPart) (mark : Mark) → next_cpu c (entry_of (ask_hypervisor c) mark cmd (deed_alone plan (ask_hypervisor c) cmd)) ≡ record c { ctx = ctx.Hv }) →
+      ((plan : Plan) (c : CpuPart) → answer.Context ≡ (deed_alone plan (ask_hypervisor c) cmd).answer) → Continues stands image old old n cmd answer.Context
   idle_continues cmd hv aims leaves answers = aside cmd by_history where
     by_history : (plan : Plan) (past : List Event) (line place stamp : ℕ) → Fits stands image plan old past →
         Makes stands image plan (record old { cpus = slice_set old.cpus n cpu }) past (next_entry plan past (mark_at n line place stamp) cmd) answer.Context
     by_history plan past line place stamp fits =
         let c : CpuPart = cpu_after plan n past in
         let shows : ShowsCpu cpu c = fits.cpus n cpu there in
-        alone plan past line place stamp fits cpu (ask_hypervisor c) cmd answer.Context (ask_in_hypervisor c cmd (context plan past ctx.Hv hv fits)) (aims plan c.lpid) (answers c)
-        (subst (ShowsCpu cpu) (sym (leaves c (mark_at n line place stamp))) (record { ctx = hv; own = shows.own; lpid = shows.lpid; vid = shows.vid; last = shows.last; hand = shows.hand }))
+        alone plan past line place stamp fits cpu (ask_hypervisor c) cmd answer.Context (ask_in_hypervisor c cmd (context plan past ctx.Hv hv fits)) (aims plan c.lpid) (answers plan c)
+        (subst (ShowsCpu cpu) (sym (leaves plan c (mark_at n line place stamp))) (record { ctx = hv; own = shows.own; lpid = shows.lpid; vid = shows.vid; last = shows.last; hand = shows.hand }))
 
   pub hypervisor_idle : (cmd : Cmd) → cpu.ctx ≡ ctx.Hv → is_idle cmd ≡ true → Continues stands image old old n cmd answer.Context
   hypervisor_idle (HLd ra) hv h = cc
@@ -162,7 +163,7 @@ module _ {S : Type 0} (stands : S → Tag → List ℕ → List ℕ → Type 0) 
   hypervisor_idle (UPagein lpid src gpa flags order) hv h = cc
   hypervisor_idle (UPageout lpid dest gpa flags order) hv h = cc
   hypervisor_idle (UReturn r0 r2 outs) hv h = cc
-  hypervisor_idle cmd hv h = idle_continues cmd hv (λ plan lpid. refl) (λ c mark. refl) (λ c. refl)
+  hypervisor_idle cmd hv h = idle_continues cmd hv (λ plan lpid. refl) (λ plan c mark. refl) (λ plan c. refl)
 
   -- a command that no guest gives, while a vCPU runs
   pub guest_busy : (run : Run) (cmd : Cmd) → cpu.ctx ≡ ctx.Guest run → is_no_guests cmd ≡ true → Continues stands image old old n cmd answer.Context
@@ -178,7 +179,7 @@ module _ {S : Type 0} (stands : S → Tag → List ℕ → List ℕ → Type 0) 
     by_history plan past line place stamp fits =
         let c : CpuPart = cpu_after plan n past in
         alone plan past line place stamp fits cpu (ask_running run c) cmd answer.Context (ask_in_guest c run cmd (context plan past (ctx.Guest run) is fits)) (aims plan c.lpid cmd other) refl
-        (fits.cpus n cpu there)
+        (shows_stays run cpu c is (fits.cpus n cpu there))
 
   -- every command but the next step, with a call in progress
   pub work_busy : (work : Work) (cmd : Cmd) → cpu.ctx ≡ ctx.Uv work → is_go cmd ≡ false → Continues stands image old old n cmd answer.Context
@@ -189,12 +190,16 @@ module _ {S : Type 0} (stands : S → Tag → List ℕ → List ℕ → Type 0) 
     aims plan (Outward move) lpid Go h = cc
     aims plan (Outward move) lpid cmd h = refl
 
+    stays : (plan : Plan) (work : Work) (c : CpuPart) (mark : Mark) → cpu.ctx ≡ ctx.Uv work → ShowsCpu cpu c → ShowsCpu cpu (next_cpu c (entry_of (ask_aside work c) mark cmd (deed_alone plan (ask_aside work c) cmd)))
+    stays plan (Inward move) c mark is shows = record { ctx = is; own = shows.own; lpid = shows.lpid; vid = shows.vid; last = shows.last; hand = shows.hand }
+    stays plan (Outward move) c mark is shows = record { ctx = is; own = shows.own; lpid = shows.lpid; vid = shows.vid; last = shows.last; hand = shows.hand }
+
     by_history : (plan : Plan) (past : List Event) (line place stamp : ℕ) → Fits stands image plan old past →
         Makes stands image plan (record old { cpus = slice_set old.cpus n cpu }) past (next_entry plan past (mark_at n line place stamp) cmd) answer.Context
     by_history plan past line place stamp fits =
         let c : CpuPart = cpu_after plan n past in
         alone plan past line place stamp fits cpu (ask_aside work c) cmd answer.Context (ask_in_work c work cmd (context plan past (ctx.Uv work) is fits) other) (aims plan work c.lpid cmd other) refl
-        (fits.cpus n cpu there)
+        (stays plan work c (mark_at n line place stamp) is (fits.cpus n cpu there))
 
   -- UV_RETURN of the hypervisor
   pub return_continues : (new_cpu : Cpu) (i : ℕ) (guest new_guest : Guest S) (r0 r2 : ℕ) (outs : List ℕ) (a : Answer) → cpu.ctx ≡ ctx.Hv → cpu.number ≡ n → cpu.lpid ≡ i + 1 →

@@ -1,5 +1,5 @@
 -- The entry that the model gives for a step of the machine's CPU, by what the CPU and the guest show.
-use Rattle.std.proofs.Common.{◌≡◌, ℕ, ◌==◌, nat_lt, Bool, true, false, if◌then◌else◌, List, [], Option, Some, None, refl, ap, ◌∙◌, ◌&&◌}
+use Rattle.std.proofs.Common.{◌≡◌, ℕ, ◌==◌, nat_lt, Bool, true, false, if◌then◌else◌, List, [], ◌∷◌, slice_index, Option, Some, None, refl, ap, ◌∙◌, ◌&&◌}
 use Rattle.pef_model.specs.declared.state.Run.{Run}
 use Rattle.pef_model.specs.declared.state.Move.{Move}
 use Rattle.pef_model.specs.declared.state.Work.{Work}
@@ -15,12 +15,13 @@ use Rattle.pef_model.specs.Plan.{Plan}
 use Rattle.pef_model.specs.Event.{Event, Mark}
 use Rattle.pef_model.specs.Target.{Ask, Target, Alone, AtFrame, frame_of, has_real_place, uses_hand, target_in}
 use Rattle.pef_model.specs.Cpu.{CpuPart}
-use Rattle.pef_model.specs.GuestPart.{GuestPart}
-use Rattle.pef_model.specs.Guest.{Guest as GuestWhole, private_doubleword}
+use Rattle.pef_model.specs.GuestPart.{GuestPart, Meeting, Private, Unbacked, Moves, meets}
+use Rattle.pef_model.specs.Guest.{Guest as GuestWhole}
+use Rattle.pef_model.specs.Memory.{offset_of}
 use Rattle.pef_model.specs.PageOut.{page_out_code}
 use Rattle.pef_model.specs.PageIn.{page_in_operands, is_last_sealed}
-use Rattle.pef_model.specs.Deed.{Deed, Reach, NoPage, InFrame, Backs, NoFrame, Moves, answering, returning, giving, coming_back, deed_access, deed_alone, deed_frame, deed_running, deed_gone, deed_return, deed_page_out, deed_page_out_begin, deed_page_out_end, deed_page_in, deed_page_in_end, deed_page_in_test, deed_page_in_with, may_return_in, is_waiting, reach}
-use Rattle.pef_model.specs.History.{ask_of, cpu_after, guest_after, pool_after, frame_after, deed_after, entry_of, next_entry, next_entry_by}
+use Rattle.pef_model.specs.Deed.{Deed, answering, returning, giving, coming_back, deed_access, deed_alone, deed_frame, deed_running, deed_gone, deed_return, deed_page_out, deed_page_out_begin, deed_page_out_end, deed_page_in, deed_page_in_end, deed_page_in_test, deed_page_in_with, may_return_in, is_waiting}
+use Rattle.pef_model.specs.History.{ask_of, cpu_after, guest_after, pool_after, frame_after, found_after, deed_after, entry_of, next_entry, next_entry_by}
 use Rattle.pef_guest.specs.Rows.{ask_hypervisor, ask_reading, ask_inward, ask_outward}
 use Rattle.pef_core.specs.Rows.{ask_running, deed_at_address, is_no_guests}
 
@@ -83,7 +84,7 @@ module _ (plan : Plan) (past : List Event) where
   -- what a load or store of the hypervisor does
   pub deed_placed : (ask : Ask) (ra : ℕ) (cmd : Cmd) (b : Bool) →
       deed_after plan past ask cmd (if b then AtFrame (frame_of plan ra) else Alone)
-      ≡ (if b then deed_frame plan (frame_of plan ra) (frame_after plan (frame_of plan ra) past) ask cmd else deed_alone ask cmd)
+      ≡ (if b then deed_frame plan (frame_of plan ra) (frame_after plan (frame_of plan ra) past) ask cmd else deed_alone plan ask cmd)
   deed_placed ask ra cmd true = refl
   deed_placed ask ra cmd false = refl
 
@@ -92,18 +93,18 @@ module _ (plan : Plan) (past : List Event) where
       (run.generation == (guest_after plan lpid past).part.generation) ≡ b → nat_lt 0 (pool_after plan past) ≡ any →
       next_entry plan past mark cmd
       ≡ entry_of (ask_running run (cpu_after plan mark.cpu past)) mark cmd
-      (if b then deed_running plan (guest_after plan lpid past) any (ask_running run (cpu_after plan mark.cpu past)) cmd else deed_gone (ask_running run (cpu_after plan mark.cpu past)))
+      (if b then deed_running plan run (guest_after plan lpid past) (found_after plan past) any (ask_running run (cpu_after plan mark.cpu past)) cmd else deed_gone (ask_running run (cpu_after plan mark.cpu past)))
   guest_entry mark run cmd lpid b any is own here test free =
       ap (λ (ask : Ask). next_entry_by plan past ask mark cmd) (ask_in_guest (cpu_after plan mark.cpu past) run cmd is) ∙ by_command cmd own
-      ∙ ap (λ (l : ℕ). entry_of ask mark cmd (if run.generation == (guest_after plan l past).part.generation then deed_running plan (guest_after plan l past) (nat_lt 0 (pool_after plan past)) ask cmd else deed_gone ask)) here
-      ∙ ap (λ (x : Bool). entry_of ask mark cmd (if x then deed_running plan (guest_after plan lpid past) (nat_lt 0 (pool_after plan past)) ask cmd else deed_gone ask)) test
-      ∙ ap (λ (x : Bool). entry_of ask mark cmd (if b then deed_running plan (guest_after plan lpid past) x ask cmd else deed_gone ask)) free where
+      ∙ ap (λ (l : ℕ). entry_of ask mark cmd (if run.generation == (guest_after plan l past).part.generation then deed_running plan run (guest_after plan l past) (found_after plan past) (nat_lt 0 (pool_after plan past)) ask cmd else deed_gone ask)) here
+      ∙ ap (λ (x : Bool). entry_of ask mark cmd (if x then deed_running plan run (guest_after plan lpid past) (found_after plan past) (nat_lt 0 (pool_after plan past)) ask cmd else deed_gone ask)) test
+      ∙ ap (λ (x : Bool). entry_of ask mark cmd (if b then deed_running plan run (guest_after plan lpid past) (found_after plan past) x ask cmd else deed_gone ask)) free where
         ask : Ask
         ask = ask_running run (cpu_after plan mark.cpu past)
 
         by_command : (cmd : Cmd) → is_no_guests cmd ≡ false →
             next_entry_by plan past ask mark cmd
-            ≡ entry_of ask mark cmd (if run.generation == (guest_after plan run.lpid past).part.generation then deed_running plan (guest_after plan run.lpid past) (nat_lt 0 (pool_after plan past)) ask cmd else deed_gone ask)
+            ≡ entry_of ask mark cmd (if run.generation == (guest_after plan run.lpid past).part.generation then deed_running plan run (guest_after plan run.lpid past) (found_after plan past) (nat_lt 0 (pool_after plan past)) ask cmd else deed_gone ask)
         by_command (HLd ra) h = cc
         by_command (HSt ra value) h = cc
         by_command Go h = cc
@@ -153,19 +154,19 @@ in_unframed g ask move = by_test (move.generation == g.generation) (is_last_seal
 -- a load or store of the hypervisor touches no pool
 pub address_unpooled : (plan : Plan) (bytes : ℕ → List ℕ) (c : CpuPart) (ra : ℕ) (cmd : Cmd) → (deed_at_address plan bytes (ask_hypervisor c) ra cmd).pool ≡ None
 address_unpooled plan bytes c ra cmd = by_test (has_real_place plan ra) where
-  by_test : (b : Bool) → (if b then deed_frame plan (frame_of plan ra) (bytes (frame_of plan ra)) (ask_hypervisor c) cmd else deed_alone (ask_hypervisor c) cmd).pool ≡ None
+  by_test : (b : Bool) → (if b then deed_frame plan (frame_of plan ra) (bytes (frame_of plan ra)) (ask_hypervisor c) cmd else deed_alone plan (ask_hypervisor c) cmd).pool ≡ None
   by_test true = refl
   by_test false = refl
 
 -- a guest's own step touches no normal frame
-access_unframed : (ask : Ask) (success : Answer) (r : Reach) → (deed_access ask success r).frame ≡ None
-access_unframed ask success NoPage = refl
-access_unframed ask success InFrame = refl
-access_unframed ask success Backs = refl
-access_unframed ask success NoFrame = refl
-access_unframed ask success Moves = refl
+access_unframed : (ask : Ask) (success : Answer) (through : ℕ → Answer) (out : List ℕ) (any : Bool) (r : Meeting) → (deed_access ask success through out any r).frame ≡ None
+access_unframed ask success through out any Private = refl
+access_unframed ask success through out true Unbacked = refl
+access_unframed ask success through out false Unbacked = refl
+access_unframed ask success through out any Moves = refl
+access_unframed ask success through out any met = refl
 
-pub running_unframed : (plan : Plan) (g : GuestWhole) (any : Bool) (ask : Ask) (cmd : Cmd) → (deed_running plan g any ask cmd).frame ≡ None
-running_unframed plan g any ask (GLd rd gpa) = access_unframed ask (answer.Val (private_doubleword plan g gpa)) (reach plan g.part any gpa)
-running_unframed plan g any ask (GSt rs gpa) = access_unframed ask answer.Done (reach plan g.part any gpa)
-running_unframed plan g any ask cmd = refl
+pub running_unframed : (plan : Plan) (run : Run) (g : GuestWhole) (seen : ℕ → ℕ → ℕ) (any : Bool) (ask : Ask) (cmd : Cmd) → (deed_running plan run g seen any ask cmd).frame ≡ None
+running_unframed plan run g seen any ask (GLd rd gpa) = access_unframed ask (answer.Val (g.content gpa)) (λ n. answer.Val (seen n (offset_of plan gpa))) [] any (meets plan g.part gpa)
+running_unframed plan run g seen any ask (GSt rs gpa) = access_unframed ask answer.Done (λ n. answer.Done) (slice_index (g.registers run.vid).gpr rs ∷ []) any (meets plan g.part gpa)
+running_unframed plan run g seen any ask cmd = refl

@@ -58,22 +58,22 @@ module _ (plan : Plan) (past : List Event) (e : Event) where
   frames_stay normal none shows = record {
     shift = shows.shift;
     count = shows.count;
-    bytes = λ n below. shows.bytes n below ∙ sym (ap (λ (f : Option ℕ). if is_number n f then next_frame plan (frame_after plan n past) e else frame_after plan n past) none);
+    bytes = λ n below. shows.bytes n below ∙ sym (ap (λ (f : Option ℕ). if is_number n f then next_frame plan n (frame_after plan n past) e else frame_after plan n past) none);
   }
 
   -- an entry that leaves the frame that it reads leaves all
-  pub frame_read : (normal : NormalState) → ((bytes : List ℕ) → next_frame plan bytes e ≡ bytes) → ShowsNormal plan normal (λ k. frame_after plan k past) → ShowsNormal plan normal (λ k. frame_after plan k (e ∷ past))
+  pub frame_read : (normal : NormalState) → ((n : ℕ) (bytes : List ℕ) → next_frame plan n bytes e ≡ bytes) → ShowsNormal plan normal (λ k. frame_after plan k past) → ShowsNormal plan normal (λ k. frame_after plan k (e ∷ past))
   frame_read normal leaves shows = record {
     shift = shows.shift;
     count = shows.count;
     bytes = λ k below. shows.bytes k below ∙ sym (by_test k (touches_frame k e));
   } where
-    by_test : (k : ℕ) (b : Bool) → (if b then next_frame plan (frame_after plan k past) e else frame_after plan k past) ≡ frame_after plan k past
-    by_test k true = leaves (frame_after plan k past)
+    by_test : (k : ℕ) (b : Bool) → (if b then next_frame plan k (frame_after plan k past) e else frame_after plan k past) ≡ frame_after plan k past
+    by_test k true = leaves k (frame_after plan k past)
     by_test k false = refl
 
   -- the frame that an entry writes has what the entry leaves, and every other what it had
-  pub frame_written : (normal : NormalState) (n : ℕ) (bytes : List ℕ) → e.saw.frame ≡ Some n → n < length normal.frames → bytes ≡ next_frame plan (frame_at normal.frames n) e →
+  pub frame_written : (normal : NormalState) (n : ℕ) (bytes : List ℕ) → e.saw.frame ≡ Some n → n < length normal.frames → bytes ≡ next_frame plan n (frame_at normal.frames n) e →
       ShowsNormal plan normal (λ k. frame_after plan k past) → ShowsNormal plan (record normal { frames = slice_set normal.frames n bytes }) (λ k. frame_after plan k (e ∷ past))
   frame_written normal n bytes frame there is shows = record {
     shift = shows.shift;
@@ -86,11 +86,11 @@ module _ (plan : Plan) (past : List Event) (e : Event) where
     by_place : (k : ℕ) → k < plan.normal → (k ≡ n) ⊎ (k ≢ n) → frame_at (slice_set normal.frames n bytes) k ≡ frame_after plan k (e ∷ past)
     by_place k below (inl same) =
         ap (frame_at (slice_set normal.frames n bytes)) same ∙ get_or-set_same normal.frames n bytes [] there ∙ is
-        ∙ ap (λ (b : List ℕ). next_frame plan b e) (shows.bytes n (subst (λ (m : ℕ). n < m) shows.count there))
-        ∙ sym (counts (touches_frame n) (next_frame plan) (start_frame plan) e past (touched n ∙ same_test n)) ∙ ap (λ (m : ℕ). frame_after plan m (e ∷ past)) (sym same)
+        ∙ ap (λ (b : List ℕ). next_frame plan n b e) (shows.bytes n (subst (λ (m : ℕ). n < m) shows.count there))
+        ∙ sym (counts (touches_frame n) (next_frame plan n) (start_frame plan) e past (touched n ∙ same_test n)) ∙ ap (λ (m : ℕ). frame_after plan m (e ∷ past)) (sym same)
     by_place k below (inr other) =
         get_or-set_other normal.frames n k bytes [] other ∙ shows.bytes k below
-        ∙ sym (skips (touches_frame k) (next_frame plan) (start_frame plan) e past (touched k ∙ other_test n k other))
+        ∙ sym (skips (touches_frame k) (next_frame plan k) (start_frame plan) e past (touched k ∙ other_test n k other))
 
   -- the number of free frames, whether the entry touched the pool or not
   pub free_after : pool_after plan (e ∷ past) ≡ pool_with (pool_after plan past) e.saw.pool

@@ -1,5 +1,5 @@
 -- A guest after an access: it is whole, and keeps its sizes.
-use Rattle.std.proofs.Common.{◌≡◌, ℕ, ◌+◌, ◌^◌, ◌<◌, true, length, arith, refl, subst, ◌∙◌}
+use Rattle.std.proofs.Common.{◌≡◌, ℕ, ◌+◌, ◌^◌, ◌<◌, Bool, true, false, length, arith, refl, subst, ◌∙◌}
 use Rattle.std.proofs.lemmas.List.{length-set}
 use Rattle.std.specs.Vec.{with_item}
 use Rattle.pef_model.specs.declared.state.Phase.{Phase}
@@ -12,7 +12,7 @@ use Rattle.pef_guest.specs.declared.guest.Guest.{Guest}
 use Rattle.pef_guest.specs.Whole.{IsOutside, IsWhole}
 use Rattle.pef_model.specs.declared.state.Run.{Run}
 use Rattle.pef_model.specs.declared.entry.Answer.TheVariants.{Val, Done}
-use Rattle.pef_model.specs.Deed.{Reach, NoPage, InFrame, Backs, NoFrame, Moves}
+use Rattle.pef_model.specs.GuestPart.{Meeting, Moves, Private, Unbacked}
 use Rattle.pef_guest.specs.declared.cpu.Cpu.{Cpu}
 use Rattle.pef_guest.specs.Keeps.{KeepsGuest, KeepsMovers}
 use Rattle.pef_core.specs.Rows.{StaysOrLeaves, access_answer}
@@ -80,16 +80,16 @@ pub keeps_movers : {S : Type 0} (number : ℕ) (old : Guest S) (pages : PagesSta
 keeps_movers number old pages vid vcpu like gfn mover other moves = (like.each gfn).mover ∙ moves
 
 -- a load or store leaves its CPU, whatever it meets
-pub load_stays : (run : Run) (cpu : Cpu) (value : ℕ) (r : Reach) → StaysOrLeaves run cpu cpu (access_answer (Val value) r)
-load_stays run cpu value InFrame = refl
-load_stays run cpu value Backs = refl
-load_stays run cpu value NoPage = refl
-load_stays run cpu value NoFrame = refl
-load_stays run cpu value Moves = refl
+pub load_stays : (run : Run) (cpu : Cpu) (value : ℕ) (any : Bool) (r : Meeting) → StaysOrLeaves run cpu cpu (access_answer (Val value) any r)
+load_stays run cpu value any Private = refl
+load_stays run cpu value true Unbacked = refl
+load_stays run cpu value false Unbacked = refl
+load_stays run cpu value any Moves = refl
+load_stays run cpu value any met = refl
 
-pub store_stays : (run : Run) (cpu : Cpu) (r : Reach) → StaysOrLeaves run cpu cpu (access_answer Done r)
-store_stays run cpu InFrame = refl
-store_stays run cpu Backs = refl
-store_stays run cpu NoPage = refl
-store_stays run cpu NoFrame = refl
-store_stays run cpu Moves = refl
+pub store_stays : (run : Run) (cpu : Cpu) (any : Bool) (r : Meeting) → StaysOrLeaves run cpu cpu (access_answer Done any r)
+store_stays run cpu any Private = refl
+store_stays run cpu true Unbacked = refl
+store_stays run cpu false Unbacked = refl
+store_stays run cpu any Moves = refl
+store_stays run cpu any met = refl

@@ -21,6 +21,8 @@ pub mod AccessSeals
 pub mod AccessShows
 pub mod AccessRows
 pub mod Accesses
+pub mod AsideRow
+pub mod NormalRow
 pub mod Begun
 pub mod Refusals
 pub mod Leaving

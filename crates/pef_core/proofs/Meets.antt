@@ -1,7 +1,7 @@
 -- What is known of the pages and the pool, by what an access met.
 use Rattle.std.proofs.Common.{◌≡◌, ℕ, ◌+◌, ◌/◌, ◌%◌, ◌^◌, ◌<◌, ◌≤◌, nat_lt, Bool, true, false, if◌then◌else◌, List, [], ◌∷◌, length, is_some, arith, refl, ap, subst}
 use Rattle.std.proofs.lemmas.Bool.Decides.{nat_tests}
-use Rattle.pef_model.specs.Deed.{Reach, NoPage, InFrame, Backs, NoFrame, Moves, reach_kind, reach_invalid}
+use Rattle.pef_model.specs.GuestPart.{Meeting, NoPlace, Moves, Private, Unbacked, meets_kind}
 use Rattle.pef_model.proofs.Places.{room_at}
 use Rattle.pef_frames.specs.Frame.{FrameState}
 use Rattle.pef_frames.specs.Pool.{PoolState}
@@ -9,7 +9,7 @@ use Rattle.pef_pages.specs.declared.cell.Cell.{Cell}
 use Rattle.pef_pages.specs.declared.cell.Cell.TheVariants as cell
 use Rattle.pef_pages.specs.Cells.{kind_of, mover_of, frame_in}
 use Rattle.pef_pages.specs.Pages.{PagesState, cell_at}
-use Rattle.pef_core.specs.Access.{has_place, is_any_free, reach_page, reach_at, TakesBelow, HaveFrames}
+use Rattle.pef_core.specs.Access.{has_place, is_any_free, meets_page_at, meets_at, TakesBelow, HaveFrames}
 
 -- an address is that of a doubleword in one of the pages, and its page has this cell
 pub record IsAt (shift : ℕ) (pages : PagesState FrameState) (gpa : ℕ) (c : Cell FrameState) : Type 0 where
@@ -35,13 +35,12 @@ pub record IsToBack (shift : ℕ) (pages : PagesState FrameState) (pool : PoolSt
   pub pool_is : pool ≡ pool_of pool.count shift (number ∷ more)
   pub small : number < pool.count
 
--- what is known where an access met this
-abbrev pub Met : ℕ → PagesState FrameState → PoolState → ℕ → Reach → Type 0
-Met shift pages pool gpa InFrame = IsHeld shift pages gpa
-Met shift pages pool gpa Backs = IsToBack shift pages pool gpa
-Met shift pages pool gpa NoPage = Unit {0}
-Met shift pages pool gpa NoFrame = Unit {0}
-Met shift pages pool gpa Moves = Unit {0}
+-- what is known where an access met this; any: a frame is free
+abbrev pub Met : ℕ → PagesState FrameState → PoolState → ℕ → Bool → Meeting → Type 0
+Met shift pages pool gpa any Private = IsHeld shift pages gpa
+Met shift pages pool gpa true Unbacked = IsToBack shift pages pool gpa
+Met shift pages pool gpa false Unbacked = pool.free ≡ []
+Met shift pages pool gpa any met = Unit {0}
 
 -- the place of a doubleword is in its frame
 pub room_in : (shift : ℕ) (pages : PagesState FrameState) (gpa : ℕ) → 8 ≤ shift → (h : IsHeld shift pages gpa) → gpa % 2 ^ shift + 8 ≤ length h.frame.bytes
@@ -54,23 +53,23 @@ placed shift count gpa e = (grind (arith, nat_tests), grind (arith, nat_tests))
 -- what an access knows of what it meets
 module _ (shift : ℕ) (pages : PagesState FrameState) (pool : PoolState) (gpa : ℕ) (sizes : HaveFrames (2 ^ shift) pages) (size : pool.size ≡ 2 ^ shift) where
   -- it met this, and a frame that it takes has a number below the count
-  abbrev IsMet : Reach → Type 0
-  IsMet r = TakesBelow pool r → Met shift pages pool gpa r
+  abbrev IsMet : Bool → Meeting → Type 0
+  IsMet any r = TakesBelow pool r → Met shift pages pool gpa any r
 
-  by_free : (gpa % 8 ≡ 0) × (gpa / 2 ^ shift < length pages.pages) → cell_at pages (gpa / 2 ^ shift) ≡ cell.Invalid → (free : List ℕ) → pool.free ≡ free → IsMet (reach_invalid (nat_lt 0 (length free)))
-  by_free place is [] e = λ small. tt
+  by_free : (gpa % 8 ≡ 0) × (gpa / 2 ^ shift < length pages.pages) → cell_at pages (gpa / 2 ^ shift) ≡ cell.Invalid → (free : List ℕ) → pool.free ≡ free → IsMet (nat_lt 0 (length free)) Unbacked
+  by_free place is [] e = λ small. e
   by_free place is (number ∷ more) e =
       let some : true ≡ nat_lt 0 (length (number ∷ more)) = (let many : 0 < length (number ∷ more) = omega arith in grind (arith, nat_tests)) in
       let pool_is : pool ≡ pool_of pool.count shift (number ∷ more) = λ i. record { count = pool.count; size = size i; free = e i } in
-      subst (λ (b : Bool). IsMet (reach_invalid b)) some (λ small. record {
+      subst (λ (b : Bool). IsMet b Unbacked) some (λ small. record {
         number = number;
         more = more;
         at = record { aligned = place.0; below = place.1; cell_is = is };
         pool_is = pool_is;
-        small = subst (λ (p : PoolState). TakesBelow p Backs) pool_is small;
+        small = subst (λ (p : PoolState). TakesBelow p Unbacked) pool_is small;
       })
 
-  by_cell : (gpa % 8 ≡ 0) × (gpa / 2 ^ shift < length pages.pages) → (c : Cell FrameState) → cell_at pages (gpa / 2 ^ shift) ≡ c → IsMet (if is_some (mover_of c) then Moves else reach_kind (kind_of c) (is_any_free pool))
+  by_cell : (gpa % 8 ≡ 0) × (gpa / 2 ^ shift < length pages.pages) → (c : Cell FrameState) → cell_at pages (gpa / 2 ^ shift) ≡ c → IsMet (is_any_free pool) (if is_some (mover_of c) then Moves else meets_kind (kind_of c))
   by_cell place (cell.Secure frame) is = λ small. record {
     frame = frame;
     at = record { aligned = place.0; below = place.1; cell_is = is };
@@ -84,9 +83,9 @@ module _ (shift : ℕ) (pages : PagesState FrameState) (pool : PoolState) (gpa :
   by_cell place (cell.MovesIn frame cpu digest) is = λ small. tt
 
   by_place : (b : Bool) → has_place shift (length pages.pages) gpa ≡ b →
-      IsMet (if b then reach_page pages (gpa / 2 ^ shift) (is_any_free pool) else NoPage)
+      IsMet (is_any_free pool) (if b then meets_page_at pages (gpa / 2 ^ shift) else NoPlace)
   by_place true test = by_cell (placed shift (length pages.pages) gpa test) (cell_at pages (gpa / 2 ^ shift)) refl
   by_place false test = λ small. tt
 
-  pub met : TakesBelow pool (reach_at shift pages pool gpa) → Met shift pages pool gpa (reach_at shift pages pool gpa)
+  pub met : TakesBelow pool (meets_at shift pages gpa) → Met shift pages pool gpa (is_any_free pool) (meets_at shift pages gpa)
   met = by_place (has_place shift (length pages.pages) gpa) refl

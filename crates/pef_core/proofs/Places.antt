@@ -110,7 +110,7 @@ module _ {S : Type 0} (guests : List (Guest S)) (normal : NormalState) (n : ℕ)
         (record { number = is.number; selects = selects; works = subst (Works (slice_set guests (run.lpid - 1) new_guest) normal n) (sym running) works; hand = is.hand })
 
     by_answer : (a : Answer) → StaysOrLeaves run cpu new a → IsCpuOf (slice_set guests (run.lpid - 1) new_guest) normal n new
-    by_answer (answer.Exit exit) h = subst (IsCpuOf (slice_set guests (run.lpid - 1) new_guest) normal n) (sym h) (record { number = is.number; selects = works.0; works = tt; hand = is.hand })
+    by_answer (answer.Exit exit) h = subst (IsCpuOf (slice_set guests (run.lpid - 1) new_guest) normal n) (sym (h [])) (record { number = is.number; selects = works.0; works = tt; hand = is.hand })
     by_answer a h = same h
 
 -- the CPU that was read is in the context that was read

@@ -1,5 +1,5 @@
 -- Each page of a machine lies where the model says that its copy counts.
-use Rattle.std.proofs.Common.{◌≡◌, ℕ, ◌+◌, ◌%◌, ◌^◌, ◌<◌, false, Bool, if◌then◌else◌, List, Option, Some, None, IsSome, refl, ap, sym, subst, ◌∙◌}
+use Rattle.std.proofs.Common.{◌≡◌, ℕ, ◌+◌, ◌%◌, ◌^◌, ◌<◌, List, Option, Some, None, IsSome, refl, ap, sym, subst, ◌∙◌}
 use Rattle.std.specs.Prelude.{slice_get, option_map}
 use Rattle.std.proofs.lemmas.Bool.{false≢true}
 use Rattle.pef_model.specs.declared.state.Kind.{Kind}
@@ -11,11 +11,12 @@ use Rattle.pef_model.specs.declared.state.Tag.{Tag}
 use Rattle.pef_model.specs.Plan.{Plan}
 use Rattle.pef_model.specs.Event.{Event}
 use Rattle.pef_model.specs.Doubleword.{doubleword}
-use Rattle.pef_model.specs.GuestPart.{Page, page_of, is_invalid}
+use Rattle.pef_model.specs.GuestPart.{Page, page_of}
 use Rattle.pef_model.specs.Memory.{offset_of}
 use Rattle.pef_model.specs.Authority.{InSealedBytes, authority_by}
 use Rattle.pef_model.specs.History.{guest_after, last_store, IsLegal}
-use Rattle.pef_model.specs.MoveLaw.{KeepsWhatIsSealed, IsMovedBy, page_after, EachCpuMovesItsPageIn, EachMoverHasItsCall, EachPageKeepsWhatIsSealed}
+use Rattle.pef_model.proofs.Paging.{moving_in_is_out}
+use Rattle.pef_model.specs.MoveLaw.{KeepsWhatIsSealed, IsMovedBy, page_after, EachMoverHasItsCall, EachPageKeepsWhatIsSealed}
 use Rattle.pef_frames.specs.Frame.{FrameState}
 use Rattle.pef_pages.specs.declared.cell.Cell.{Cell}
 use Rattle.pef_pages.specs.declared.cell.Cell.TheVariants as cell
@@ -36,14 +37,13 @@ stays_sealed page bytes keeps other is = by_pending page.pending refl where
   by_pending (Some other_bytes) there = absurd (other (keeps.pending.0 (subst IsSome (sym there) refl)))
 
 -- with the model's laws of moves
-module _ (moved_in : EachCpuMovesItsPageIn) (called : EachMoverHasItsCall) (kept : EachPageKeepsWhatIsSealed) where
+module _ (called : EachMoverHasItsCall) (kept : EachPageKeepsWhatIsSealed) where
   -- a page that moves inward is Out, since its mover has a page-in in progress
   moves_out_page : (plan : Plan) (past : List Event) (lpid gfn cpu : ℕ) → IsLegal plan past → (page_after plan past lpid gfn).mover ≡ Some (record { cpu = cpu; way = Inward }) → (page_after plan past lpid gfn).kind ≡ kind.Out
   moves_out_page plan past lpid gfn cpu legal is =
       let call : IsMovedBy plan past lpid gfn (record { cpu = cpu; way = Inward }) = called plan past lpid gfn (record { cpu = cpu; way = Inward }) legal is in
       let generation = call.generation ∙ ap (λ (l : ℕ). (guest_after plan l past).part.generation) (sym call.lpid_is) in
-      let own = moved_in plan past cpu call.move legal call.ctx_is generation in
-      ap (λ (l : ℕ). (page_after plan past l gfn).kind) (sym call.lpid_is) ∙ ap (λ (f : ℕ). (page_after plan past call.move.lpid f).kind) (sym call.gfn_is) ∙ own.kind
+      ap (λ (l : ℕ). (page_after plan past l gfn).kind) (sym call.lpid_is) ∙ ap (λ (f : ℕ). (page_after plan past call.move.lpid f).kind) (sym call.gfn_is) ∙ moving_in_is_out plan past cpu call.move legal call.ctx_is generation
 
   module _ {S : Type 0} (stands : S → Tag → List ℕ → List ℕ → Type 0) (image : S → Tag → List ℕ → List ℕ) (takes : S → ℕ → ℕ → Type 0) (m : State S) (whole : IsWholeMachine takes m) (plan : Plan) (past : List Event)
       (i : ℕ) (guest : Guest S) (gfn : ℕ) (fits : Fits stands image plan m past) (legal : IsLegal plan past) (here : slice_get m.guests i ≡ Some guest) (below : gfn < plan.pages) where
@@ -69,16 +69,8 @@ module _ (moved_in : EachCpuMovesItsPageIn) (called : EachMoverHasItsCall) (kept
           once = is_once m whole.frames_once i guest here gfn frame there (subst (λ (k : ℕ). frame.number < k) is.secure own.number);
           digest = none;
         } where
-          private_kind : (gpa : ℕ) → page_of plan gpa ≡ gfn → is_invalid ((guest_after plan (i + 1) past).part.pages (page_of plan gpa)) ≡ false
-          private_kind gpa at =
-              let part = (guest_after plan (i + 1) past).part in
-              let kind_is : (part.pages (page_of plan gpa)).kind ≡ kind.Secure = ap (λ (f : ℕ). (part.pages f).kind) at ∙ sym (shows.pages.kinds gfn below) ∙ secure in
-              λ j. is_invalid (record (part.pages (page_of plan gpa)) { kind = kind_is j })
-
           holds : (gpa : ℕ) → gpa % 8 ≡ 0 → page_of plan gpa ≡ gfn → doubleword frame.bytes (offset_of plan gpa) ≡ last_store plan past (i + 1) gpa
-          holds gpa aligned at =
-              shows.pages.holds gfn frame secure there gpa aligned at
-              ∙ ap (λ (b : Bool). if b then 0 else (guest_after plan (i + 1) past).content gpa) (sym (private_kind gpa at))
+          holds = shows.pages.holds gfn frame secure there
 
     placed_by : Kind → Type 0
     placed_by k = IsPlacedAt stands m plan guest (guest_after plan (i + 1) past).part gfn (last_store plan past (i + 1)) (authority_by k ((guest_after plan (i + 1) past).part.pages gfn).sealed)

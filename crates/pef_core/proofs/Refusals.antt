@@ -1,12 +1,13 @@
 -- What a guest's refused command leaves.
-use Rattle.std.proofs.Common.{◌≡◌, ℕ, ◌<◌, length, refl, ap, sym, subst, ◌∙◌, get_or}
+use Rattle.std.proofs.Common.{◌≡◌, ℕ, ◌<◌, nat_lt, Bool, true, false, List, [], ◌∷◌, length, arith, refl, ap, sym, subst, ◌∙◌, get_or}
 use Rattle.std.specs.Prelude.{slice_index_or, slice_set}
+use Rattle.std.proofs.lemmas.Bool.Decides.{nat_tests}
 use Rattle.std.proofs.lemmas.List.{get_or-set_same, get_or-set_other, get_or_default, set-get_or}
 use Rattle.pef_model.specs.declared.command.Code.{Code}
 use Rattle.pef_model.specs.declared.state.Regs.{Regs}
 use Rattle.pef_model.specs.declared.state.VState.TheVariants.{Idle}
 use Rattle.pef_model.specs.declared.entry.Answer.TheVariants.{Val, Done}
-use Rattle.pef_model.specs.Deed.{Reach, NoPage, InFrame, Backs, NoFrame, Moves}
+use Rattle.pef_model.specs.GuestPart.{Meeting, Moves, Private, Unbacked}
 use Rattle.pef_frames.specs.Pool.{PoolState}
 use Rattle.pef_num.specs.declared.place.Place.{Place}
 use Rattle.pef_guest.specs.declared.vcpu.Vcpu.{Vcpu}
@@ -40,18 +41,29 @@ module _ {S : Type 0} (old : Guest S) (vid : ℕ) (vcpu : Vcpu) (below : vid < l
     vcpus = ap (slice_set old.vcpus.items vid) there ∙ set-get_or old.vcpus.items vid vcpu;
   }
 
-  pub load_refused : (gfn : ℕ) (pool : PoolState) (regs : Regs) (value : ℕ) (r : Reach) →
-      LeavesCommand vid old (with_step old (pages_after old.pages gfn pool r) vid (vcpu_after vcpu regs r)) pool (pool_after pool r) (access_answer (Val value) r)
-  load_refused gfn pool regs value InFrame = tt
-  load_refused gfn pool regs value Backs = tt
-  load_refused gfn pool regs value NoPage = (same_guest, refl)
-  load_refused gfn pool regs value NoFrame = (same_guest, refl)
-  load_refused gfn pool regs value Moves = (same_guest, refl)
+  -- a page that no frame backs stays
+  unbacked : (gfn : ℕ) (pool : PoolState) → pool.free ≡ [] → SameGuest old (with_step old (pages_after old.pages gfn pool Unbacked) vid vcpu) × (pool_after pool Unbacked ≡ pool)
+  unbacked gfn pool none =
+      subst (λ (free : List ℕ). SameGuest old (with_step old (pages_after old.pages gfn (record pool { free = free }) Unbacked) vid vcpu) × (pool_after (record pool { free = free }) Unbacked ≡ record pool { free = free })) (sym none)
+      (same_guest, refl)
 
-  pub store_refused : (place : Place) (pool : PoolState) (regs : Regs) (value : ℕ) (r : Reach) →
-      LeavesCommand vid old (with_step old (stored_at (pages_after old.pages place.page pool r) place value r) vid (vcpu_after vcpu regs r)) pool (pool_after pool r) (access_answer Done r)
-  store_refused place pool regs value InFrame = tt
-  store_refused place pool regs value Backs = tt
-  store_refused place pool regs value NoPage = (same_guest, refl)
-  store_refused place pool regs value NoFrame = (same_guest, refl)
-  store_refused place pool regs value Moves = (same_guest, refl)
+  pub load_refused : (gfn : ℕ) (pool : PoolState) (regs : Regs) (value : ℕ) (any : Bool) (r : Meeting) → (any ≡ false → pool.free ≡ []) →
+      LeavesCommand vid old (with_step old (pages_after old.pages gfn pool r) vid (vcpu_after vcpu regs any r)) pool (pool_after pool r) (access_answer (Val value) any r)
+  load_refused gfn pool regs value any Private none = tt
+  load_refused gfn pool regs value true Unbacked none = tt
+  load_refused gfn pool regs value false Unbacked none = unbacked gfn pool (none refl)
+  load_refused gfn pool regs value any Moves none = (same_guest, refl)
+  load_refused gfn pool regs value any met none = (same_guest, refl)
+
+  pub store_refused : (place : Place) (pool : PoolState) (regs : Regs) (value : ℕ) (any : Bool) (r : Meeting) → (any ≡ false → pool.free ≡ []) →
+      LeavesCommand vid old (with_step old (stored_at (pages_after old.pages place.page pool r) place value any r) vid (vcpu_after vcpu regs any r)) pool (pool_after pool r) (access_answer Done any r)
+  store_refused place pool regs value any Private none = tt
+  store_refused place pool regs value true Unbacked none = tt
+  store_refused place pool regs value false Unbacked none = unbacked place.page pool (none refl)
+  store_refused place pool regs value any Moves none = (same_guest, refl)
+  store_refused place pool regs value any met none = (same_guest, refl)
+
+-- where no frame is free the pool has none
+pub none_free : (free : List ℕ) → nat_lt 0 (length free) ≡ false → free ≡ []
+none_free [] none = refl
+none_free (number ∷ more) none = absurd (let many : 0 < length (number ∷ more) = omega arith in grind (arith, nat_tests))

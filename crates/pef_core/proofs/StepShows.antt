@@ -1,31 +1,35 @@
 -- A guest whose vCPU does a step is that of the model after the step, once the vCPU and the pages are.
-use Rattle.std.proofs.Common.{◌≡◌, ◌≢◌, ℕ, ◌<◌, ◌==◌, Bool, false, if◌then◌else◌, List, length, ◌⊎◌, inl, inr, arith, refl, ap, sym, subst, ◌∙◌}
+use Rattle.std.proofs.Common.{◌≡◌, ◌≢◌, ℕ, ◌<◌, Bool, List, length, ◌⊎◌, inl, inr, refl, ap, sym, subst, ◌∙◌}
 use Rattle.std.proofs.lemmas.List.{get_or-set_same, get_or-set_other, length-set}
 use Rattle.std.proofs.lemmas.Bool.{cases_eq}
-use Rattle.std.proofs.lemmas.Bool.Decides.{nat_tests}
 use Rattle.pef_model.specs.declared.state.Pending.{Pending}
 use Rattle.pef_model.specs.declared.state.Regs.{Regs}
 use Rattle.pef_model.specs.declared.state.Tag.{Tag}
 use Rattle.pef_model.specs.declared.state.VState.TheVariants.{Idle, Running, Parked}
+use Rattle.pef_model.specs.declared.state.Run.{Run}
+use Rattle.pef_model.specs.declared.state.Ctx.TheVariants as ctx
 use Rattle.pef_model.specs.Plan.{Plan}
+use Rattle.pef_model.specs.Cpu.{CpuPart}
+use Rattle.pef_guest.specs.declared.cpu.Cpu.{Cpu}
 use Rattle.pef_model.specs.GuestPart.{GuestPart, VcpuPart, put, with_running_vcpu, with_parked_vcpu}
 use Rattle.pef_model.specs.Guest.{Guest as GuestWhole, entered_at}
-use Rattle.pef_model.proofs.Folds.{same_test}
+use Rattle.pef_model.proofs.Puts.{put-here, put-other}
 use Rattle.pef_frames.specs.Frame.{FrameState}
 use Rattle.pef_pages.specs.Pages.{PagesState}
 use Rattle.pef_guest.specs.declared.vcpu.Vcpu.{Vcpu}
 use Rattle.pef_guest.specs.declared.guest.Guest.{Guest}
 use Rattle.pef_guest.specs.Start.{start_vcpu}
-use Rattle.pef_guest.specs.Shows.{ShowsPages, ShowsSealed, ShowsVcpu, vcpu_at, Shows}
+use Rattle.pef_guest.specs.Shows.{ShowsPages, ShowsSealed, ShowsCpu, ShowsVcpu, vcpu_at, Shows}
 use Rattle.pef_core.specs.Rows.{with_registers}
 use Rattle.pef_core.proofs.GuestAfter.{with_step}
 
--- a function with another value at one place
-pub put_here : {X : Type 0} (f : ℕ → X) (at : ℕ) (x : X) → put f at x at ≡ x
-put_here f at x = ap (λ (b : Bool). if b then x else f at) (same_test at)
+-- the model's guest after a step of a vCPU
+abbrev pub stepped : GuestWhole → ℕ → GuestPart → (ℕ → ℕ) → Regs → Bool → GuestWhole
+stepped g vid part content regs clean = record g { part = part; content = content; registers = put g.registers vid regs; clean = clean }
 
-pub put_there : {X : Type 0} (f : ℕ → X) (at : ℕ) (x : X) (n : ℕ) → n ≢ at → put f at x n ≡ f n
-put_there f at x n other = ap (λ (b : Bool). if b then x else f n) (let test : (n == at) ≡ false = grind (arith, nat_tests) in test)
+-- a CPU that runs a vCPU before and after a step
+pub shows_stays : (run : Run) (cpu : Cpu) (c : CpuPart) → cpu.ctx ≡ ctx.Guest run → ShowsCpu cpu c → ShowsCpu cpu (record c { ctx = ctx.Guest run })
+shows_stays run cpu c runs shows = record { ctx = runs; own = shows.own; lpid = shows.lpid; vid = shows.vid; last = shows.last; hand = shows.hand }
 
 module _ {S : Type 0} (stands : S → Tag → List ℕ → List ℕ → Type 0) (image : S → Tag → List ℕ → List ℕ) (plan : Plan) (old : Guest S) (g : GuestWhole) (vid : ℕ) (shows : Shows stands image plan old g)
     (below : vid < length old.vcpus.items) where
@@ -34,16 +38,16 @@ module _ {S : Type 0} (stands : S → Tag → List ℕ → List ℕ → Type 0) 
   shows_own = shows.vcpus vid (subst (λ (n : ℕ). vid < n) shows.count below)
 
   -- the guest a step later, once its pages and its vCPU are those of the model's guest
-  pub shows_step : (part : GuestPart) (content : ℕ → ℕ) (pages : PagesState FrameState) (vcpu : Vcpu) (regs : Regs) → part.phase ≡ g.part.phase → part.generation ≡ g.part.generation →
-      ((n : ℕ) → n ≢ vid → part.vcpus n ≡ g.part.vcpus n) → ShowsVcpu vcpu (part.vcpus vid) regs → ShowsPages plan pages (record { part = part; content = content; registers = put g.registers vid regs }) →
-      ShowsSealed stands image plan (with_step old pages vid vcpu) (record { part = part; content = content; registers = put g.registers vid regs }) →
-      Shows stands image plan (with_step old pages vid vcpu) (record { part = part; content = content; registers = put g.registers vid regs })
+  pub shows_step : {clean : Bool} (part : GuestPart) (content : ℕ → ℕ) (pages : PagesState FrameState) (vcpu : Vcpu) (regs : Regs) → part.phase ≡ g.part.phase → part.generation ≡ g.part.generation →
+      ((n : ℕ) → n ≢ vid → part.vcpus n ≡ g.part.vcpus n) → ShowsVcpu vcpu (part.vcpus vid) regs → ShowsPages plan pages (record g { part = part; content = content }) →
+      ShowsSealed stands image plan (with_step old pages vid vcpu) (stepped g vid part content regs clean) →
+      Shows stands image plan (with_step old pages vid vcpu) (stepped g vid part content regs clean)
   shows_step part content pages vcpu regs phase generation others own shows_pages shows_sealed = record {
     shift = shows.shift;
     normal = shows.normal;
     phase = shows.phase ∙ sym phase;
     generation = shows.generation ∙ sym generation;
-    pages = shows_pages;
+    pages = record { count = shows_pages.count; kinds = shows_pages.kinds; movers = shows_pages.movers; order = shows_pages.order; holds = shows_pages.holds; zeros = shows_pages.zeros };
     sealed = shows_sealed;
     count = length-set old.vcpus.items vid vcpu ∙ shows.count;
     vcpus = λ n less. by_number n less (cases_eq n vid);
@@ -60,43 +64,47 @@ module _ {S : Type 0} (stands : S → Tag → List ℕ → List ℕ → Type 0) 
         subst (λ (m : ℕ). ShowsVcpu (vcpu_at (with_step old pages vid vcpu) m) (part.vcpus m) (put g.registers vid regs m)) (sym is) (record {
           state = ap (λ (v : Vcpu). v.state) here ∙ own.state;
           generation = ap (λ (v : Vcpu). v.generation) here ∙ own.generation;
-          registers = ap (λ (v : Vcpu). v.regs) here ∙ own.registers ∙ sym (put_here g.registers vid regs);
+          registers = ap (λ (v : Vcpu). v.regs) here ∙ own.registers ∙ sym (put-here g.registers vid regs);
         })
     by_number n less (inr other) = record {
       state = ap (λ (v : Vcpu). v.state) (there n other) ∙ (shows.vcpus n less).state ∙ sym (ap (λ (v : VcpuPart). v.state) (others n other));
       generation = ap (λ (v : Vcpu). v.generation) (there n other) ∙ (shows.vcpus n less).generation ∙ sym (ap (λ (v : VcpuPart). v.generation) (others n other));
-      registers = ap (λ (v : Vcpu). v.regs) (there n other) ∙ (shows.vcpus n less).registers ∙ sym (put_there g.registers vid regs n other);
+      registers = ap (λ (v : Vcpu). v.regs) (there n other) ∙ (shows.vcpus n less).registers ∙ sym (put-other g.registers vid regs n other);
     }
 
   -- the same where the pages stay
-  shows_vcpu : (vcpus : ℕ → VcpuPart) (vcpu : Vcpu) (regs : Regs) → ((n : ℕ) → n ≢ vid → vcpus n ≡ g.part.vcpus n) → ShowsVcpu vcpu (vcpus vid) regs →
-      Shows stands image plan (with_step old old.pages vid vcpu) (record { part = record g.part { vcpus = vcpus }; content = g.content; registers = put g.registers vid regs })
+  shows_vcpu : {clean : Bool} (vcpus : ℕ → VcpuPart) (vcpu : Vcpu) (regs : Regs) → ((n : ℕ) → n ≢ vid → vcpus n ≡ g.part.vcpus n) → ShowsVcpu vcpu (vcpus vid) regs →
+      Shows stands image plan (with_step old old.pages vid vcpu) (stepped g vid (record g.part { vcpus = vcpus }) g.content regs clean)
   shows_vcpu vcpus vcpu regs others own =
       shows_step (record g.part { vcpus = vcpus }) g.content old.pages vcpu regs refl refl others own
-      (record { count = shows.pages.count; kinds = shows.pages.kinds; movers = shows.pages.movers; order = shows.pages.order; holds = shows.pages.holds })
+      (record { count = shows.pages.count; kinds = shows.pages.kinds; movers = shows.pages.movers; order = shows.pages.order; holds = shows.pages.holds; zeros = shows.pages.zeros })
       (record { images = shows.sealed.images; versions = shows.sealed.versions; digests = shows.sealed.digests; stands_for = shows.sealed.stands_for; words = shows.sealed.words; pendings = shows.sealed.pendings })
 
   -- a step that changes the registers of its vCPU
-  pub shows_registers : (change : Regs → Regs) →
-      Shows stands image plan (with_step old old.pages vid (with_registers (vcpu_at old vid) (change (vcpu_at old vid).regs))) (record { part = g.part; content = g.content; registers = put g.registers vid (change (g.registers vid)) })
+  pub shows_registers : {clean : Bool} (change : Regs → Regs) →
+      Shows stands image plan (with_step old old.pages vid (with_registers (vcpu_at old vid) (change (vcpu_at old vid).regs))) (stepped g vid g.part g.content (change (g.registers vid)) clean)
   shows_registers change =
       shows_vcpu g.part.vcpus (with_registers (vcpu_at old vid) (change (vcpu_at old vid).regs)) (change (g.registers vid)) (λ n other. refl)
       (record { state = shows_own.state; generation = shows_own.generation; registers = ap change shows_own.registers })
 
   -- a vCPU that leaves is parked
-  pub shows_parked : (pending : Pending) →
-      Shows stands image plan (with_step old old.pages vid (record (vcpu_at old vid) { state = Parked pending })) (record { part = with_parked_vcpu g.part vid pending; content = g.content; registers = put g.registers vid (g.registers vid) })
+  pub shows_parked : {clean : Bool} (pending : Pending) →
+      Shows stands image plan (with_step old old.pages vid (record (vcpu_at old vid) { state = Parked pending })) (stepped g vid (with_parked_vcpu g.part vid pending) g.content (g.registers vid) clean)
   shows_parked pending =
-      shows_vcpu (with_parked_vcpu g.part vid pending).vcpus (record (vcpu_at old vid) { state = Parked pending }) (g.registers vid) (put_there g.part.vcpus vid _)
-      (subst (λ (v : VcpuPart). ShowsVcpu (record (vcpu_at old vid) { state = Parked pending }) v (g.registers vid)) (sym (put_here g.part.vcpus vid _))
+      shows_vcpu (with_parked_vcpu g.part vid pending).vcpus (record (vcpu_at old vid) { state = Parked pending }) (g.registers vid) (put-other g.part.vcpus vid _)
+      (subst (λ (v : VcpuPart). ShowsVcpu (record (vcpu_at old vid) { state = Parked pending }) v (g.registers vid)) (sym (put-here g.part.vcpus vid _))
       (record { state = refl; generation = shows_own.generation; registers = shows_own.registers }))
 
   -- a vCPU that is taken up runs on the CPU, in the generation of its guest
-  pub shows_running : (cpu r2 : ℕ) →
+  pub shows_running : {clean : Bool} (cpu r2 : ℕ) →
       Shows stands image plan (with_step old old.pages vid (record { state = Running cpu; generation = old.generation; regs = entered_at (vcpu_at old vid).regs r2 }))
-      (record { part = with_running_vcpu g.part vid cpu; content = g.content; registers = put g.registers vid (entered_at (g.registers vid) r2) })
+      (stepped g vid (with_running_vcpu g.part vid cpu) g.content (entered_at (g.registers vid) r2) clean)
   shows_running cpu r2 =
       let vcpu : Vcpu = record { state = Running cpu; generation = old.generation; regs = entered_at (vcpu_at old vid).regs r2 } in
-      shows_vcpu (with_running_vcpu g.part vid cpu).vcpus vcpu (entered_at (g.registers vid) r2) (put_there g.part.vcpus vid _)
-      (subst (λ (v : VcpuPart). ShowsVcpu vcpu v (entered_at (g.registers vid) r2)) (sym (put_here g.part.vcpus vid _))
+      shows_vcpu (with_running_vcpu g.part vid cpu).vcpus vcpu (entered_at (g.registers vid) r2) (put-other g.part.vcpus vid _)
+      (subst (λ (v : VcpuPart). ShowsVcpu vcpu v (entered_at (g.registers vid) r2)) (sym (put-here g.part.vcpus vid _))
       (record { state = refl; generation = shows.generation; registers = ap (λ (x : Regs). entered_at x r2) shows_own.registers }))
+
+  -- a command of another context leaves the guest
+  pub shows_read : {clean : Bool} → Shows stands image plan (with_step old old.pages vid (vcpu_at old vid)) (stepped g vid g.part g.content (g.registers vid) clean)
+  shows_read = shows_registers (λ regs. regs)

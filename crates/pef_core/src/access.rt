@@ -3,7 +3,7 @@
 ghost use Rattle.std.specs.Prelude.{◌≡◌, ◌+◌, ◌^◌, ◌<◌, ◌≤◌, length, IfOk};
 ghost use Rattle.pef_model.specs.Plan.{IsWithin};
 ghost use Rattle.pef_pages.specs.Pages.{frame_at};
-ghost use Rattle.pef_core.specs.Access.{place_at, reach_at, found_at, pages_after, pool_after, TakesBelow, HaveFrames, IsReached, doubleword_in, stored_in};
+ghost use Rattle.pef_core.specs.Access.{is_any_free, place_at, meets_at, found_at, pages_after, pool_after, TakesBelow, HaveFrames, IsReached, doubleword_in, stored_in};
 
 use crate::place::place_below;
 use pef_frames::{Pool, SecFrame};
@@ -27,10 +27,10 @@ pub fn reach(
     requires frames { HaveFrames (2 ^ shift) pages.old }
     requires size { pool.old.size ≡ 2 ^ shift }
     ensures place { IfOk result (IsReached pages.new) }
-    ensures result { result ≡ found_at (place_at shift gpa) (reach_at shift pages.old pool.old gpa) }
-    ensures pages { pages.new ≡ pages_after pages.old (place_at shift gpa).page pool.old (reach_at shift pages.old pool.old gpa) }
-    ensures pool { pool.new ≡ pool_after pool.old (reach_at shift pages.old pool.old gpa) }
-    ensures number { TakesBelow pool.old (reach_at shift pages.old pool.old gpa) }
+    ensures result { result ≡ found_at (place_at shift gpa) (is_any_free pool.old) (meets_at shift pages.old gpa) }
+    ensures pages { pages.new ≡ pages_after pages.old (place_at shift gpa).page pool.old (meets_at shift pages.old gpa) }
+    ensures pool { pool.new ≡ pool_after pool.old (meets_at shift pages.old gpa) }
+    ensures number { TakesBelow pool.old (meets_at shift pages.old gpa) }
 {
     let Some(place) = place_below(gpa, shift, pages.count()) else {
         return Err(Answer::Hole);

@@ -1,13 +1,13 @@
 //! What a running guest's own commands do is what the model says, whatever the guest has kept so far.
 
-ghost use Rattle.std.specs.Prelude.{◌≡◌, ◌^◌, ◌<◌, ◌≤◌, false, length, slice_index, slice_set};
+ghost use Rattle.std.specs.Prelude.{◌≡◌, ◌^◌, ◌<◌, ◌≤◌, ℕ, false, List, length, slice_index, slice_set};
 ghost use Rattle.pef_model.specs.Registers.{load_return, load_call, with_code};
 ghost use Rattle.pef_model.specs.Guest.{at_next_instruction};
 ghost use Rattle.pef_model.specs.Plan.{IsWithin};
 ghost use Rattle.pef_frames.specs.Frame.{FrameState};
 ghost use Rattle.pef_pages.specs.Pages.{PagesState, frame_at};
 ghost use Rattle.pef_guest.specs.Whole.{IsWhole};
-ghost use Rattle.pef_core.specs.Access.{place_at, reach_at, pages_after, pool_after, TakesBelow, HaveFrames, doubleword_in, stored_at};
+ghost use Rattle.pef_core.specs.Access.{is_any_free, place_at, meets_at, pages_after, pool_after, TakesBelow, HaveFrames, doubleword_in, stored_at};
 ghost use Rattle.pef_core.specs.Alone.{uses_pool};
 ghost use Rattle.pef_core.specs.Refused.{LeavesCommand, RefusesVcpu};
 ghost use Rattle.pef_core.specs.Rows.{access_answer, with_registers, vcpu_after, DoesCommand, IsRunning, StaysOrLeaves, left_by};
@@ -77,11 +77,11 @@ fn load(
     requires shift { IsWithin 8 16 shift }
     requires frames { HaveFrames (2 ^ shift) pages.old }
     requires size { pool.old.size ≡ 2 ^ shift }
-    ensures pages { pages.new ≡ pages_after pages.old (place_at shift gpa).page pool.old (reach_at shift pages.old pool.old gpa) }
-    ensures pool { pool.new ≡ pool_after pool.old (reach_at shift pages.old pool.old gpa) }
-    ensures number { TakesBelow pool.old (reach_at shift pages.old pool.old gpa) }
-    ensures answer { result ≡ access_answer (Answer.Val (doubleword_in (frame_at pages.new (place_at shift gpa).page) (place_at shift gpa).off)) (reach_at shift pages.old pool.old gpa) }
-    ensures vcpu { vcpu.new ≡ vcpu_after vcpu.old (at_next_instruction vcpu.old.regs (slice_set vcpu.old.regs.gpr rd (doubleword_in (frame_at pages.new (place_at shift gpa).page) (place_at shift gpa).off))) (reach_at shift pages.old pool.old gpa) }
+    ensures pages { pages.new ≡ pages_after pages.old (place_at shift gpa).page pool.old (meets_at shift pages.old gpa) }
+    ensures pool { pool.new ≡ pool_after pool.old (meets_at shift pages.old gpa) }
+    ensures number { TakesBelow pool.old (meets_at shift pages.old gpa) }
+    ensures answer { result ≡ access_answer (Answer.Val (doubleword_in (frame_at pages.new (place_at shift gpa).page) (place_at shift gpa).off)) (is_any_free pool.old) (meets_at shift pages.old gpa) }
+    ensures vcpu { vcpu.new ≡ vcpu_after vcpu.old (at_next_instruction vcpu.old.regs (slice_set vcpu.old.regs.gpr rd (doubleword_in (frame_at pages.new (place_at shift gpa).page) (place_at shift gpa).off))) (is_any_free pool.old) (meets_at shift pages.old gpa) }
 {
     match access::reach(pages, pool, shift, gpa) {
         Ok(place) => {
@@ -105,12 +105,12 @@ fn store(
     requires shift { IsWithin 8 16 shift }
     requires frames { HaveFrames (2 ^ shift) pages.old }
     requires size { pool.old.size ≡ 2 ^ shift }
-    ensures pages { pages.new ≡ stored_at (pages_after pages.old (place_at shift gpa).page pool.old (reach_at shift pages.old pool.old gpa)) (place_at shift gpa) (slice_index vcpu.old.regs.gpr rs) (reach_at shift pages.old pool.old gpa) }
-    ensures pool { pool.new ≡ pool_after pool.old (reach_at shift pages.old pool.old gpa) }
-    ensures number { TakesBelow pool.old (reach_at shift pages.old pool.old gpa) }
+    ensures pages { pages.new ≡ stored_at (pages_after pages.old (place_at shift gpa).page pool.old (meets_at shift pages.old gpa)) (place_at shift gpa) (slice_index vcpu.old.regs.gpr rs) (is_any_free pool.old) (meets_at shift pages.old gpa) }
+    ensures pool { pool.new ≡ pool_after pool.old (meets_at shift pages.old gpa) }
+    ensures number { TakesBelow pool.old (meets_at shift pages.old gpa) }
     ensures value { slice_index vcpu.old.regs.gpr rs < 2 ^ 64 }
-    ensures answer { result ≡ access_answer Answer.Done (reach_at shift pages.old pool.old gpa) }
-    ensures vcpu { vcpu.new ≡ vcpu_after vcpu.old (at_next_instruction vcpu.old.regs vcpu.old.regs.gpr) (reach_at shift pages.old pool.old gpa) }
+    ensures answer { result ≡ access_answer Answer.Done (is_any_free pool.old) (meets_at shift pages.old gpa) }
+    ensures vcpu { vcpu.new ≡ vcpu_after vcpu.old (at_next_instruction vcpu.old.regs vcpu.old.regs.gpr) (is_any_free pool.old) (meets_at shift pages.old gpa) }
 {
     let value = registers::value_of(&vcpu.regs.gpr, rs);
     match access::reach(pages, pool, shift, gpa) {
@@ -127,7 +127,7 @@ fn store(
 fn interrupt(vcpu: &mut Vcpu, cpu: &mut Cpu, run: Run) -> Answer
     ensures answer { result ≡ Answer.Exit Exit.Irq }
     ensures vcpu { vcpu.new ≡ record vcpu.old { state = VState.Parked Pending.Irq } }
-    ensures cpu { cpu.new ≡ left_by cpu.old run Exit.Irq }
+    ensures cpu { (shown : List ℕ) → cpu.new ≡ left_by cpu.old run Exit.Irq shown }
 {
     vcpu.park(Pending::Irq);
     cpu.leave(run, Exit::Irq)

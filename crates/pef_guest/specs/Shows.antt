@@ -12,7 +12,7 @@ use Rattle.pef_model.specs.Doubleword.{doubleword}
 use Rattle.pef_model.specs.Cpu.{CpuPart}
 use Rattle.pef_model.specs.GuestPart.{Page, VcpuPart, page_of}
 use Rattle.pef_model.specs.PageOut.{tag_of, private_page}
-use Rattle.pef_model.specs.Guest.{Guest as GuestWhole, private_doubleword}
+use Rattle.pef_model.specs.Guest.{Guest as GuestWhole}
 use Rattle.pef_model.specs.Memory.{offset_of}
 use Rattle.pef_frames.specs.Frame.{FrameState}
 use Rattle.pef_pages.specs.declared.cell.Cell.{Cell}
@@ -37,13 +37,18 @@ pub record ShowsCpu (cpu : Cpu) (part : CpuPart) : Type 0 where
 abbrev pub HoldsPage : Plan → GuestWhole → ℕ → FrameState → Type 0
 HoldsPage plan g gfn frame = (gpa : ℕ) → gpa % 8 ≡ 0 → page_of plan gpa ≡ gfn → doubleword frame.bytes (offset_of plan gpa) ≡ g.content gpa
 
--- the pages are those of the model, in their order, and the frame of each Secure page holds what was last stored there
+-- each doubleword of a page of the model is 0
+abbrev pub IsZeroPage : Plan → GuestWhole → ℕ → Type 0
+IsZeroPage plan g gfn = (gpa : ℕ) → page_of plan gpa ≡ gfn → g.content gpa ≡ 0
+
+-- the pages are those of the model, in their order; the frame of each Secure page holds what was last stored there, and an Invalid page is 0
 pub record ShowsPages (plan : Plan) (pages : PagesState FrameState) (g : GuestWhole) : Type 0 where
   pub count : length pages.pages ≡ plan.pages
   pub kinds : (gfn : ℕ) → gfn < plan.pages → kind_at pages gfn ≡ (g.part.pages gfn).kind
   pub movers : (gfn : ℕ) → gfn < plan.pages → mover_at pages gfn ≡ (g.part.pages gfn).mover
   pub order : pages.order ≡ g.part.order
   pub holds : (gfn : ℕ) (frame : FrameState) → kind_at pages gfn ≡ kind.Secure → frame_at pages gfn ≡ Some frame → HoldsPage plan g gfn frame
+  pub zeros : (gfn : ℕ) → kind_at pages gfn ≡ kind.Invalid → IsZeroPage plan g gfn
 
 -- a vCPU's state, the generation when it was taken up, and all its registers
 pub record ShowsVcpu (vcpu : Vcpu) (part : VcpuPart) (regs : Regs) : Type 0 where
@@ -92,7 +97,7 @@ module _ {S : Type 0} (stands : S → Tag → List ℕ → List ℕ → Type 0) 
     pub stands_for : (gfn : ℕ) (sealed : List ℕ) → gfn < plan.pages → sealed_of (g.part.pages gfn) ≡ Some sealed →
         stands guest.sealer (tag_of g.part guest.lpid gfn (g.part.pages gfn).version) (private_page plan g gfn) sealed
     -- and each of the last stores there has 64 bits
-    pub words : (gpa : ℕ) (sealed : List ℕ) → gpa % 8 ≡ 0 → page_of plan gpa < plan.pages → sealed_of (g.part.pages (page_of plan gpa)) ≡ Some sealed → private_doubleword plan g gpa < 2 ^ 64
+    pub words : (gpa : ℕ) (sealed : List ℕ) → gpa % 8 ≡ 0 → page_of plan gpa < plan.pages → sealed_of (g.part.pages (page_of plan gpa)) ≡ Some sealed → g.content gpa < 2 ^ 64
     -- a page has the bytes that are to be what was sealed of it exactly where it is on its way out
     pub pendings : (gfn : ℕ) → gfn < plan.pages → (way_of (mover_at guest.pages gfn) ≡ Some Outward) ↔ IsSome (g.part.pages gfn).pending
 

@@ -1,14 +1,12 @@
 -- CPUs, vCPUs and guests as they begin.
-use Rattle.std.specs.Prelude.{◌≡◌, ℕ, Bool, true, false, replicate}
+use Rattle.std.specs.Prelude.{◌≡◌, ℕ, replicate}
 use Rattle.pef_model.specs.declared.config.Config.{Config}
-use Rattle.pef_model.specs.declared.state.Phase.{Phase}
-use Rattle.pef_model.specs.declared.state.Phase.TheVariants as phase
 use Rattle.pef_model.specs.declared.state.VState.{VState}
-use Rattle.pef_model.specs.declared.state.VState.TheVariants as vstate
 use Rattle.pef_model.specs.declared.state.Ctx.TheVariants as ctx
 use Rattle.pef_model.specs.declared.entry.Answer.TheVariants as answer
 use Rattle.pef_model.specs.Plan.{plan_of}
 use Rattle.pef_model.specs.Registers.{zero_registers, fresh_registers}
+use Rattle.pef_model.specs.GuestPart.{start_phase, start_state}
 use Rattle.pef_pages.specs.Pages.{invalid_pages}
 use Rattle.pef_guest.specs.declared.cpu.Cpu.{Cpu}
 use Rattle.pef_guest.specs.declared.vcpu.Vcpu.{Vcpu}
@@ -27,16 +25,6 @@ pub record IsStartCpu (number size : ℕ) (cpu : Cpu) : Type 0 where
 -- a vCPU in this state that was never taken up
 abbrev pub start_vcpu : VState → Vcpu
 start_vcpu state = record { state = state; generation = 0; regs = fresh_registers }
-
--- the phase of a guest at the start, by whether it is born secure
-abbrev pub start_phase : Bool → Phase
-start_phase true = phase.Secure
-start_phase false = phase.Absent
-
--- the state of its vCPUs
-abbrev pub start_state : Bool → VState
-start_state true = vstate.Fresh
-start_state false = vstate.Idle
 
 -- a guest of a configuration as it begins, with this sealer
 pub record IsStartGuest {S : Type 0} (config : Config) (lpid : ℕ) (sealer : S) (guest : Guest S) : Type 0 where

@@ -1,6 +1,6 @@
 //! A CPU goes into a guest and comes back, and shows the hypervisor no more than the guest's exit says.
 
-ghost use Rattle.std.specs.Prelude.{◌≡◌, ◌+◌, ◌^◌, length, replicate, slice_set, IfOk};
+ghost use Rattle.std.specs.Prelude.{◌≡◌, ℕ, ◌+◌, ◌^◌, List, length, replicate, slice_set, IfOk};
 ghost use Rattle.pef_model.specs.Registers.{zero_registers, with_code};
 ghost use Rattle.pef_model.specs.Cpu.{left_registers};
 
@@ -128,7 +128,7 @@ impl Cpu {
     /// now on.
     pub fn leave(&mut self, run: Run, exit: Exit) -> Answer
         ensures answer { result ≡ Answer.Exit exit }
-        ensures cpu { self.new ≡ record self.old { ctx = Ctx.Hv; gpr = left_registers exit; lpid = run.lpid; vid = run.vid; last = Answer.Exit exit } }
+        ensures cpu { (shown : List ℕ) → self.new ≡ record self.old { ctx = Ctx.Hv; gpr = left_registers exit shown; lpid = run.lpid; vid = run.vid; last = Answer.Exit exit } }
     {
         self.ctx = Ctx::Hv;
         self.gpr = [0; 32];

@@ -3,7 +3,8 @@
 ghost use Rattle.std.specs.Prelude.{◌≡◌, ◌^◌, ◌<◌, ◌≤◌, ℕ, length, replicate, IfOk, IsTrue, ◌↔◌};
 ghost use Rattle.pef_model.specs.Plan.{IsInRange, IsWithin, plan_of};
 ghost use Rattle.pef_model.specs.Deed.{may_return_in};
-ghost use Rattle.pef_guest.specs.Start.{start_vcpu, start_state, IsStartGuest};
+ghost use Rattle.pef_model.specs.GuestPart.{start_state};
+ghost use Rattle.pef_guest.specs.Start.{start_vcpu, IsStartGuest};
 ghost use Rattle.pef_guest.specs.Whole.{IsWhole};
 
 use crate::vcpu::Vcpu;

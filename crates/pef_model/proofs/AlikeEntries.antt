@@ -3,16 +3,19 @@ use Rattle.std.proofs.Common.{◌≡◌, ℕ, Bool, true, false, if◌then◌els
 use Rattle.pef_model.specs.declared.state.Ctx.{Ctx}
 use Rattle.pef_model.specs.declared.state.Ctx.TheVariants as ctx
 use Rattle.pef_model.specs.declared.command.Cmd.{Cmd}
-use Rattle.pef_model.specs.Plan.{Plan}
+use Rattle.pef_model.specs.Doubleword.{doubleword}
+use Rattle.pef_model.specs.Guest.{Guest}
+use Rattle.pef_model.specs.Plan.{Plan, with_entropy}
 use Rattle.pef_model.specs.Event.{Event, mark_of}
-use Rattle.pef_model.specs.Target.{Ask, Target, Alone, AtGuest, AtFrame, target_in, uses_hand}
+use Rattle.pef_model.specs.Target.{Ask, Target, Alone, AtGuest, AtFrame, target_in, uses_hand, is_sealing}
 use Rattle.pef_model.specs.Cpu.{CpuPart}
 use Rattle.pef_model.specs.Deed.{Deed, answer_alone, answer_frame, deed_guest, deed_frame, deed_frame_in, deed_copy}
-use Rattle.pef_model.specs.History.{cpu_after, guest_after, pool_after, frame_after, ask_of, entry_of, deed_after, next_entry, next_entry_by}
-use Rattle.pef_model.specs.SecretLaw.{open_cmd, open_answer, open_entry, is_sealing, AgreeButValue}
+use Rattle.pef_model.specs.History.{cpu_after, guest_after, pool_after, frame_after, ask_of, entry_of, deed_after, next_entry, next_entry_by, found_after}
+use Rattle.pef_model.specs.SecretLaw.{open_cmd, open_answer, open_entry, AgreeButValue}
 use Rattle.pef_model.specs.View.{view}
 use Rattle.pef_model.specs.Alike.{AreAlikeOpen, begins_sealing}
 use Rattle.pef_model.proofs.Opened.{target_open, uses_hand_open, alone_open, frame_answer_open, sealing_agrees}
+use Rattle.pef_model.proofs.Unworded.{unworded_frame, unworded}
 use Rattle.pef_model.proofs.Deeds.{no_secret_in_deeds, same_deed, IsShut, bytes_shut}
 
 -- an entry without its stamp
@@ -28,12 +31,12 @@ abbrev pub IsNext : Plan → List Event → Event → Type 0
 IsNext plan past e = e ≡ next_entry plan past (mark_of e) e.trace.cmd
 
 -- what two runs have in common so far
-pub record Same (plan : Plan) (past history : List Event) : Type 0 where
-  pub cpu : (n : ℕ) → cpu_after plan n past ≡ cpu_after plan n history
-  pub part : (lpid : ℕ) → (guest_after plan lpid past).part ≡ (guest_after plan lpid history).part
-  pub pool : pool_after plan past ≡ pool_after plan history
-  pub frame : (n : ℕ) → frame_after plan n past ≡ frame_after plan n history
-  pub seen : view plan past ≡ view plan history
+pub record Same (plan : Plan) (words : ℕ → List ℕ) (past history : List Event) : Type 0 where
+  pub cpu : (n : ℕ) → cpu_after plan n past ≡ cpu_after (with_entropy plan words) n history
+  pub part : (lpid : ℕ) → (guest_after plan lpid past).part ≡ (guest_after (with_entropy plan words) lpid history).part
+  pub pool : pool_after plan past ≡ pool_after (with_entropy plan words) history
+  pub frame : (n : ℕ) → frame_after plan n past ≡ frame_after (with_entropy plan words) n history
+  pub seen : view plan past ≡ view (with_entropy plan words) history
 
 -- deeds at a normal frame
 frames_agree : (plan : Plan) (n : ℕ) (bytes : List ℕ) (ask : Ask) (cmd other : Cmd) (c : Ctx) → open_cmd cmd ≡ open_cmd other →
@@ -41,7 +44,6 @@ frames_agree : (plan : Plan) (n : ℕ) (bytes : List ℕ) (ask : Ask) (cmd other
 frames_agree plan n bytes ask cmd other ctx.Hv cmds = record {
   answer = frame_answer_open plan bytes cmd ∙ ap (answer_frame plan bytes) cmds ∙ sym (frame_answer_open plan bytes other);
   after = refl;
-  shown = refl;
   pool = refl;
   frame = refl;
   bytes = λ unsealed. refl;
@@ -50,33 +52,42 @@ frames_agree plan n bytes ask cmd other (ctx.Uv work) cmds = same_deed (ctx.Uv w
 frames_agree plan n bytes ask cmd other (ctx.Guest run) cmds = same_deed (ctx.Guest run) cmd (deed_frame_in (ctx.Guest run) plan n bytes ask cmd)
 
 -- deeds at one target, after histories that have this in common
-deeds_agree : (plan : Plan) (past history : List Event) (ask : Ask) (cmd other : Cmd) (t : Target) → Same plan past history → open_cmd cmd ≡ open_cmd other →
-    AgreeButValue ask.before cmd (deed_after plan past ask cmd t) (deed_after plan history ask other t)
-deeds_agree plan past history ask cmd other Alone same cmds =
-    let answer : answer_alone ask.before cmd ≡ answer_alone ask.before other =
-    alone_open ask.before cmd ∙ ap (answer_alone ask.before) cmds ∙ sym (alone_open ask.before other) in
-    record { answer = ap (open_answer ask.before) answer; after = refl; shown = refl; pool = refl; frame = refl; bytes = λ unsealed. refl }
-deeds_agree plan past history ask cmd other (AtFrame n) same cmds =
-    subst (λ (bytes : List ℕ). AgreeButValue ask.before cmd (deed_frame plan n (frame_after plan n past) ask cmd) (deed_frame plan n bytes ask other))
-    (same.frame n) (frames_agree plan n (frame_after plan n past) ask cmd other ask.before cmds)
-deeds_agree plan past history ask cmd other (AtGuest lpid) same cmds =
-    subst (λ (free : ℕ). AgreeButValue ask.before cmd (deed_guest plan (guest_after plan lpid past) (nat_lt 0 (pool_after plan past)) ask cmd)
-    (deed_guest plan (guest_after plan lpid history) (nat_lt 0 free) ask other))
-    same.pool
-    (no_secret_in_deeds plan (guest_after plan lpid past) (guest_after plan lpid history) (nat_lt 0 (pool_after plan past)) ask cmd other (same.part lpid) cmds)
+deeds_agree : (plan : Plan) (words : ℕ → List ℕ) (past history : List Event) (ask : Ask) (cmd other : Cmd) (t : Target) → Same plan words past history → open_cmd cmd ≡ open_cmd other →
+    (deed_after plan past ask cmd t).shown ≡ (deed_after (with_entropy plan words) history ask other t).shown → AgreeButValue ask.before cmd (deed_after plan past ask cmd t) (deed_after (with_entropy plan words) history ask other t)
+deeds_agree plan words past history ask cmd other Alone same cmds out =
+    let answer : answer_alone plan ask.before cmd ≡ answer_alone plan ask.before other =
+    alone_open plan ask.before cmd ∙ ap (answer_alone plan ask.before) cmds ∙ sym (alone_open plan ask.before other) in
+    record { answer = ap (open_answer ask.before) answer; after = refl; pool = refl; frame = refl; bytes = λ unsealed. refl }
+deeds_agree plan words past history ask cmd other (AtFrame n) same cmds out =
+    subst (λ (d : Deed). AgreeButValue ask.before cmd (deed_frame plan n (frame_after plan n past) ask cmd) d)
+    (ap (λ (bytes : List ℕ). deed_frame plan n bytes ask other) (same.frame n) ∙ sym (unworded_frame plan words n (frame_after (with_entropy plan words) n history) ask other ask.before))
+    (frames_agree plan n (frame_after plan n past) ask cmd other ask.before cmds)
+deeds_agree plan words past history ask cmd other (AtGuest lpid) same cmds out =
+    let g : Guest = guest_after plan lpid past in
+    let h : Guest = guest_after (with_entropy plan words) lpid history in
+    let is : deed_guest (with_entropy plan words) h (found_after (with_entropy plan words) history) (nat_lt 0 (pool_after (with_entropy plan words) history)) ask other ≡ deed_guest plan h (found_after plan past) (nat_lt 0 (pool_after plan past)) ask other =
+    unworded plan words h (found_after (with_entropy plan words) history) (nat_lt 0 (pool_after (with_entropy plan words) history)) ask other
+    ∙ (λ i. deed_guest plan h (λ n offset. doubleword (sym (same.frame n) i) offset) (nat_lt 0 (sym same.pool i)) ask other) in
+    subst (λ (d : Deed). AgreeButValue ask.before cmd (deed_guest plan g (found_after plan past) (nat_lt 0 (pool_after plan past)) ask cmd) d) (sym is)
+    (no_secret_in_deeds plan g h (found_after plan past) (nat_lt 0 (pool_after plan past)) ask cmd other (same.part lpid) cmds (out ∙ ap (λ (d : Deed). d.shown) is)).deeds
 
 -- their bytes, where sealed pages tell nothing
-deeds_shut : (plan : Plan) (past history : List Event) (ask : Ask) (cmd other : Cmd) (t : Target) → Same plan past history → open_cmd cmd ≡ open_cmd other → IsShut plan →
-    (deed_after plan past ask cmd t).bytes ≡ (deed_after plan history ask other t).bytes
-deeds_shut plan past history ask cmd other Alone same cmds shut = refl
-deeds_shut plan past history ask cmd other (AtFrame n) same cmds shut = by_ctx ask.before where
-  by_ctx : (c : Ctx) → (deed_frame_in c plan n (frame_after plan n past) ask cmd).bytes ≡ (deed_frame_in c plan n (frame_after plan n history) ask other).bytes
+deeds_shut : (plan : Plan) (words : ℕ → List ℕ) (past history : List Event) (ask : Ask) (cmd other : Cmd) (t : Target) → Same plan words past history → open_cmd cmd ≡ open_cmd other → IsShut plan →
+    (deed_after plan past ask cmd t).bytes ≡ (deed_after (with_entropy plan words) history ask other t).bytes
+deeds_shut plan words past history ask cmd other Alone same cmds shut = refl
+deeds_shut plan words past history ask cmd other (AtFrame n) same cmds shut = by_ctx ask.before where
+  by_ctx : (c : Ctx) → (deed_frame_in c plan n (frame_after plan n past) ask cmd).bytes ≡ (deed_frame_in c (with_entropy plan words) n (frame_after (with_entropy plan words) n history) ask other).bytes
   by_ctx ctx.Hv = refl
   by_ctx (ctx.Uv work) = ap (λ (bytes : List ℕ). (deed_copy work n bytes ask).bytes) (same.frame n)
   by_ctx (ctx.Guest run) = refl
-deeds_shut plan past history ask cmd other (AtGuest lpid) same cmds shut =
-    ap (λ (free : ℕ). (deed_guest plan (guest_after plan lpid past) (nat_lt 0 free) ask cmd).bytes) same.pool
-    ∙ bytes_shut plan shut (guest_after plan lpid past) (guest_after plan lpid history) (nat_lt 0 (pool_after plan history)) ask cmd other (same.part lpid) cmds
+deeds_shut plan words past history ask cmd other (AtGuest lpid) same cmds shut =
+    let g : Guest = guest_after plan lpid past in
+    let h : Guest = guest_after (with_entropy plan words) lpid history in
+    let is : deed_guest plan g (found_after plan past) (nat_lt 0 (pool_after plan past)) ask cmd ≡ deed_guest plan g (found_after (with_entropy plan words) history) (nat_lt 0 (pool_after (with_entropy plan words) history)) ask cmd =
+    (λ i. deed_guest plan g (λ n offset. doubleword (same.frame n i) offset) (nat_lt 0 (same.pool i)) ask cmd) in
+    ap (λ (d : Deed). d.bytes) is
+    ∙ bytes_shut plan shut g h (found_after (with_entropy plan words) history) (nat_lt 0 (pool_after (with_entropy plan words) history)) ask cmd other (same.part lpid) cmds
+    ∙ sym (ap (λ (d : Deed). d.bytes) (unworded plan words h (found_after (with_entropy plan words) history) (nat_lt 0 (pool_after (with_entropy plan words) history)) ask other))
 
 -- what a CPU's steps learn of it is the same for two such commands
 asks_agree : (cpu other : CpuPart) (cmd with_ : Cmd) → cpu ≡ other → open_cmd cmd ≡ open_cmd with_ → ask_of cpu cmd ≡ ask_of other with_
@@ -85,9 +96,9 @@ asks_agree cpu other cmd with_ cpus cmds =
     (λ i. record { before = cpu.ctx; lpid = cpu.lpid; vid = cpu.vid; last = cpu.last; hand = if uses i then cpu.hand else [] })
     ∙ ap (λ (x : CpuPart). ask_of x with_) cpus
 
-module _ (plan : Plan) (past history : List Event) (e f : Event) (same : Same plan past history) (p : IsNext plan past e) (q : IsNext plan history f) (alike : AreAlikeOpen e f) where
+module _ (plan : Plan) (words : ℕ → List ℕ) (past history : List Event) (e f : Event) (same : Same plan words past history) (p : IsNext plan past e) (q : IsNext (with_entropy plan words) history f) (alike : AreAlikeOpen e f) where
   abbrev ask : Ask
-  ask = ask_of (cpu_after plan f.trace.cpu history) f.trace.cmd
+  ask = ask_of (cpu_after (with_entropy plan words) f.trace.cpu history) f.trace.cmd
 
   abbrev t : Target
   t = target_in plan ask.before ask.lpid f.trace.cmd
@@ -96,20 +107,20 @@ module _ (plan : Plan) (past history : List Event) (e f : Event) (same : Same pl
   deed = deed_after plan past ask e.trace.cmd t
 
   abbrev other_deed : Deed
-  other_deed = deed_after plan history ask f.trace.cmd t
+  other_deed = deed_after (with_entropy plan words) history ask f.trace.cmd t
 
   is : e ≡ entry_of ask (mark_of e) e.trace.cmd deed
   is =
       let asks : ask_of (cpu_after plan e.trace.cpu past) e.trace.cmd ≡ ask =
-      asks_agree (cpu_after plan e.trace.cpu past) (cpu_after plan f.trace.cpu history) e.trace.cmd f.trace.cmd
-      (same.cpu e.trace.cpu ∙ ap (λ (n : ℕ). cpu_after plan n history) alike.cpu) alike.cmd in
+      asks_agree (cpu_after plan e.trace.cpu past) (cpu_after (with_entropy plan words) f.trace.cpu history) e.trace.cmd f.trace.cmd
+      (same.cpu e.trace.cpu ∙ ap (λ (n : ℕ). cpu_after (with_entropy plan words) n history) alike.cpu) alike.cmd in
       let targets : target_in plan ask.before ask.lpid e.trace.cmd ≡ t =
       target_open plan ask.before ask.lpid e.trace.cmd ∙ ap (target_in plan ask.before ask.lpid) alike.cmd ∙ sym (target_open plan ask.before ask.lpid f.trace.cmd) in
       p ∙ ap (λ (a : Ask). next_entry_by plan past a (mark_of e) e.trace.cmd) asks
       ∙ ap (λ (x : Target). entry_of ask (mark_of e) e.trace.cmd (deed_after plan past ask e.trace.cmd x)) targets
 
   agree : AgreeButValue ask.before e.trace.cmd deed other_deed
-  agree = deeds_agree plan past history ask e.trace.cmd f.trace.cmd t same alike.cmd
+  agree = deeds_agree plan words past history ask e.trace.cmd f.trace.cmd t same alike.cmd (sym (ap (λ (x : Event). x.saw.shown) is) ∙ alike.shown ∙ ap (λ (x : Event). x.saw.shown) q)
 
   -- both begin a page-out, or neither does
   pub sealings_agree : begins_sealing e ≡ begins_sealing f
@@ -119,7 +130,7 @@ module _ (plan : Plan) (past history : List Event) (e f : Event) (same : Same pl
   -- where sealed pages tell nothing their bytes agree
   pub entries_shut : IsShut plan → e.bytes ≡ f.bytes
   entries_shut shut =
-      ap (λ (x : Event). x.bytes) is ∙ deeds_shut plan past history ask e.trace.cmd f.trace.cmd t same alike.cmd shut ∙ sym (ap (λ (x : Event). x.bytes) q)
+      ap (λ (x : Event). x.bytes) is ∙ deeds_shut plan words past history ask e.trace.cmd f.trace.cmd t same alike.cmd shut ∙ sym (ap (λ (x : Event). x.bytes) q)
 
   -- else they agree where those of a page-out that begins do
   bytes_agree : (begins_sealing e ≡ true → e.bytes ≡ f.bytes) → deed.bytes ≡ other_deed.bytes
@@ -130,10 +141,11 @@ module _ (plan : Plan) (past history : List Event) (e f : Event) (same : Same pl
 
   pub entries_agree : (begins_sealing e ≡ true → e.bytes ≡ f.bytes) → opened e ≡ opened f
   entries_agree sealed =
+      let shown : deed.shown ≡ other_deed.shown = sym (ap (λ (x : Event). x.saw.shown) is) ∙ alike.shown ∙ ap (λ (x : Event). x.saw.shown) q in
       ap opened is
       ∙ (λ i. record {
         trace = record { line = alike.line i; cpu = alike.cpu i; place = alike.place i; stamp = 0; cmd = alike.cmd i; answer = agree.answer i };
-        saw = record { before = ask.before; after = agree.after i; lpid = ask.lpid; vid = ask.vid; last = ask.last; pool = agree.pool i; frame = agree.frame i; shown = agree.shown i };
+        saw = record { before = ask.before; after = agree.after i; lpid = ask.lpid; vid = ask.vid; last = ask.last; pool = agree.pool i; frame = agree.frame i; shown = shown i };
         bytes = bytes_agree sealed i;
       })
       ∙ sym (ap opened q)

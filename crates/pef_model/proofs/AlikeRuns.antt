@@ -10,7 +10,7 @@ use Rattle.pef_model.specs.declared.command.Directive.{Directive}
 use Rattle.pef_model.specs.declared.command.Directive.TheVariants.{Once, GoAll}
 use Rattle.pef_model.specs.declared.command.Cmd.{Cmd}
 use Rattle.pef_model.specs.declared.command.Cmd.TheVariants.{Go}
-use Rattle.pef_model.specs.Plan.{Plan, plan_of}
+use Rattle.pef_model.specs.Plan.{Plan, plan_of, with_entropy}
 use Rattle.pef_model.specs.Event.{Event}
 use Rattle.pef_model.specs.Target.{touches_cpu}
 use Rattle.pef_model.specs.Cpu.{CpuPart}
@@ -80,19 +80,19 @@ known_before plan out sealed block past known = record {
   by_images (inr shut) = inr shut
 
 -- two runs so far that are alike
-record AreTwins (plan : Plan) (past history : List Event) : Type 0 where
-  same : Same plan past history
+record AreTwins (plan : Plan) (words : ℕ → List ℕ) (past history : List Event) : Type 0 where
+  same : Same plan words past history
   alike : AllAlikeOpen past history
   agree : SealedBytesAgree past history
   count : length (all_sealed past) ≡ length (all_sealed history)
 
-module _ (plan : Plan) (out sealed : List (List ℕ)) (past history : List Event) (line other : Line) (cmd with_ : Cmd) (number : line.number ≡ other.number) (cpu : line.cpu ≡ other.cpu)
-    (cmds : open_cmd cmd ≡ open_cmd with_) (twins : AreTwins plan past history) where
+module _ (plan : Plan) (words : ℕ → List ℕ) (out sealed : List (List ℕ)) (past history : List Event) (line other : Line) (cmd with_ : Cmd) (number : line.number ≡ other.number) (cpu : line.cpu ≡ other.cpu)
+    (cmds : open_cmd cmd ≡ open_cmd with_) (twins : AreTwins plan words past history) where
   abbrev e : Event
   e = entry_after plan past line cmd
 
   abbrev f : Event
-  f = entry_after plan history other with_
+  f = entry_after (with_entropy plan words) history other with_
 
   shown_same : IsEnd (e.saw.shown ∷ all_let_out past) out → IsEnd (f.saw.shown ∷ all_let_out history) out → e.saw.shown ≡ f.saw.shown
   shown_same one two =
@@ -127,49 +127,49 @@ module _ (plan : Plan) (out sealed : List (List ℕ)) (past history : List Event
 
   -- a page-out that begins seals the same in both
   bytes_same : AreAlikeOpen e f → IsEnd (all_sealed (e ∷ past)) sealed ⊎ IsShut plan → IsEnd (all_sealed (f ∷ history)) sealed ⊎ IsShut plan → begins_sealing e ≡ true → e.bytes ≡ f.bytes
-  bytes_same alike (inl one) (inl two) begins = bytes_by (begins_sealing e) (begins_sealing f) (sealings_agree plan past history e f twins.same refl refl alike) one two begins
-  bytes_same alike (inl one) (inr shut) begins = entries_shut plan past history e f twins.same refl refl alike shut
-  bytes_same alike (inr shut) two begins = entries_shut plan past history e f twins.same refl refl alike shut
+  bytes_same alike (inl one) (inl two) begins = bytes_by (begins_sealing e) (begins_sealing f) (sealings_agree plan words past history e f twins.same refl refl alike) one two begins
+  bytes_same alike (inl one) (inr shut) begins = entries_shut plan words past history e f twins.same refl refl alike shut
+  bytes_same alike (inr shut) two begins = entries_shut plan words past history e f twins.same refl refl alike shut
 
   -- a step more
-  twins_more : IsKnown plan out sealed (e ∷ past) → IsKnown plan out sealed (f ∷ history) → AreTwins plan (e ∷ past) (f ∷ history)
+  twins_more : IsKnown plan out sealed (e ∷ past) → IsKnown plan out sealed (f ∷ history) → AreTwins plan words (e ∷ past) (f ∷ history)
   twins_more one two =
       let alike : AreAlikeOpen e f = alike_more one two in
       let bytes : begins_sealing e ≡ true → e.bytes ≡ f.bytes = bytes_same alike one.images two.images in
       record {
-        same = one_more plan past history e f twins.same refl refl alike bytes;
+        same = one_more plan words past history e f twins.same refl refl alike bytes;
         alike = (alike, twins.alike);
         agree = (bytes, twins.agree);
-        count = count_by (begins_sealing e) (begins_sealing f) (sealings_agree plan past history e f twins.same refl refl alike);
+        count = count_by (begins_sealing e) (begins_sealing f) (sealings_agree plan words past history e f twins.same refl refl alike);
       }
 
 -- so many `go` more
-gos_twins : (plan : Plan) (out sealed : List (List ℕ)) (n : ℕ) (past history : List Event) (line other : Line) → line.number ≡ other.number → line.cpu ≡ other.cpu → AreTwins plan past history →
-    IsKnown plan out sealed (gos plan n past line) → IsKnown plan out sealed (gos plan n history other) → AreTwins plan (gos plan n past line) (gos plan n history other)
-gos_twins plan out sealed zero past history line other number cpu twins one two = twins
-gos_twins plan out sealed (suc n) past history line other number cpu twins one two =
-    let before : AreTwins plan (gos plan n past line) (gos plan n history other) =
-    gos_twins plan out sealed n past history line other number cpu twins (known_before plan out sealed (entry_after plan (gos plan n past line) line Go ∷ []) (gos plan n past line) one)
-    (known_before plan out sealed (entry_after plan (gos plan n history other) other Go ∷ []) (gos plan n history other) two) in
-    twins_more plan out sealed (gos plan n past line) (gos plan n history other) line other Go Go number cpu refl before one two
+gos_twins : (plan : Plan) (words : ℕ → List ℕ) (out sealed : List (List ℕ)) (n : ℕ) (past history : List Event) (line other : Line) → line.number ≡ other.number → line.cpu ≡ other.cpu → AreTwins plan words past history →
+    IsKnown plan out sealed (gos plan n past line) → IsKnown plan out sealed (gos (with_entropy plan words) n history other) → AreTwins plan words (gos plan n past line) (gos (with_entropy plan words) n history other)
+gos_twins plan words out sealed zero past history line other number cpu twins one two = twins
+gos_twins plan words out sealed (suc n) past history line other number cpu twins one two =
+    let before : AreTwins plan words (gos plan n past line) (gos (with_entropy plan words) n history other) =
+    gos_twins plan words out sealed n past history line other number cpu twins (known_before plan out sealed (entry_after plan (gos plan n past line) line Go ∷ []) (gos plan n past line) one)
+    (known_before plan out sealed (entry_after (with_entropy plan words) (gos (with_entropy plan words) n history other) other Go ∷ []) (gos (with_entropy plan words) n history other) two) in
+    twins_more plan words out sealed (gos plan n past line) (gos (with_entropy plan words) n history other) line other Go Go number cpu refl before one two
 
 -- the entries of a directive more: go* gives as many in both
-directives_twins : (plan : Plan) (out sealed : List (List ℕ)) (past history : List Event) (line other : Line) (directive with_ : Directive) → line.number ≡ other.number → line.cpu ≡ other.cpu →
-    open_directive directive ≡ open_directive with_ → AreTwins plan past history → IsKnown plan out sealed (with_directive plan past line directive) →
-    IsKnown plan out sealed (with_directive plan history other with_) → AreTwins plan (with_directive plan past line directive) (with_directive plan history other with_)
-directives_twins plan out sealed past history line other (Once cmd) (Once with_) number cpu same twins one two =
-    twins_more plan out sealed past history line other cmd with_ number cpu (let cmds : open_cmd cmd ≡ open_cmd with_ = cc in cmds) twins one two
-directives_twins plan out sealed past history line other (Once cmd) GoAll number cpu same twins one two = absurd (cc)
-directives_twins plan out sealed past history line other GoAll (Once cmd) number cpu same twins one two = absurd (cc)
-directives_twins plan out sealed past history line other GoAll GoAll number cpu same twins one two =
+directives_twins : (plan : Plan) (words : ℕ → List ℕ) (out sealed : List (List ℕ)) (past history : List Event) (line other : Line) (directive with_ : Directive) → line.number ≡ other.number → line.cpu ≡ other.cpu →
+    open_directive directive ≡ open_directive with_ → AreTwins plan words past history → IsKnown plan out sealed (with_directive plan past line directive) →
+    IsKnown plan out sealed (with_directive (with_entropy plan words) history other with_) → AreTwins plan words (with_directive plan past line directive) (with_directive (with_entropy plan words) history other with_)
+directives_twins plan words out sealed past history line other (Once cmd) (Once with_) number cpu same twins one two =
+    twins_more plan words out sealed past history line other cmd with_ number cpu (let cmds : open_cmd cmd ≡ open_cmd with_ = cc in cmds) twins one two
+directives_twins plan words out sealed past history line other (Once cmd) GoAll number cpu same twins one two = absurd (cc)
+directives_twins plan words out sealed past history line other GoAll (Once cmd) number cpu same twins one two = absurd (cc)
+directives_twins plan words out sealed past history line other GoAll GoAll number cpu same twins one two =
     let n : ℕ = gos_left (ctx_at plan past line) in
-    let as_many : n ≡ gos_left (ctx_at plan history other) =
-    ap (λ (x : CpuPart). gos_left x.ctx) (twins.same.cpu line.cpu) ∙ ap (λ (m : ℕ). gos_left (cpu_after plan m history).ctx) cpu in
+    let as_many : n ≡ gos_left (ctx_at (with_entropy plan words) history other) =
+    ap (λ (x : CpuPart). gos_left x.ctx) (twins.same.cpu line.cpu) ∙ ap (λ (m : ℕ). gos_left (cpu_after (with_entropy plan words) m history).ctx) cpu in
     let is = most_gos_is plan past line in
-    let is_too : with_directive plan history other GoAll ≡ gos plan (suc n) history other = most_gos_is plan history other ∙ ap (λ (m : ℕ). gos plan (suc m) history other) (sym as_many) in
-    let both : AreTwins plan (gos plan (suc n) past line) (gos plan (suc n) history other) =
-    gos_twins plan out sealed (suc n) past history line other number cpu twins (subst (IsKnown plan out sealed) is one) (subst (IsKnown plan out sealed) is_too two) in
-    subst (λ (xs : List Event). AreTwins plan xs (with_directive plan history other GoAll)) (sym is) (subst (AreTwins plan (gos plan (suc n) past line)) (sym is_too) both)
+    let is_too : with_directive (with_entropy plan words) history other GoAll ≡ gos (with_entropy plan words) (suc n) history other = most_gos_is (with_entropy plan words) history other ∙ ap (λ (m : ℕ). gos (with_entropy plan words) (suc m) history other) (sym as_many) in
+    let both : AreTwins plan words (gos plan (suc n) past line) (gos (with_entropy plan words) (suc n) history other) =
+    gos_twins plan words out sealed (suc n) past history line other number cpu twins (subst (IsKnown plan out sealed) is one) (subst (IsKnown plan out sealed) is_too two) in
+    subst (λ (xs : List Event). AreTwins plan words xs (with_directive (with_entropy plan words) history other GoAll)) (sym is) (subst (AreTwins plan words (gos plan (suc n) past line)) (sym is_too) both)
 
 known_before_line : (plan : Plan) (out sealed : List (List ℕ)) (past : List Event) (line : Line) → IsKnown plan out sealed (with_directive plan past line line.directive) → IsKnown plan out sealed past
 known_before_line plan out sealed past line known =
@@ -177,22 +177,25 @@ known_before_line plan out sealed past line known =
     known_before plan out sealed is.block past (subst (IsKnown plan out sealed) is.is known)
 
 -- the runs of lines that differ in secrets alone
-lines_twins : (plan : Plan) (out sealed : List (List ℕ)) (xs ys : List Line) → map open_line xs ≡ map open_line ys → IsKnown plan out sealed (run_after plan xs) →
-    IsKnown plan out sealed (run_after plan ys) → AreTwins plan (run_after plan xs) (run_after plan ys)
-lines_twins plan out sealed [] [] same one two = record {
+lines_twins : (plan : Plan) (words : ℕ → List ℕ) (out sealed : List (List ℕ)) (xs ys : List Line) → map open_line xs ≡ map open_line ys → IsKnown plan out sealed (run_after plan xs) →
+    IsKnown plan out sealed (run_after (with_entropy plan words) ys) → AreTwins plan words (run_after plan xs) (run_after (with_entropy plan words) ys)
+lines_twins plan words out sealed [] [] same one two = record {
   same = record { cpu = λ n. refl; part = λ lpid. refl; pool = refl; frame = λ n. refl; seen = refl };
   alike = tt;
   agree = tt;
   count = refl;
 }
-lines_twins plan out sealed [] (y ∷ ys) same one two = absurd (cc)
-lines_twins plan out sealed (x ∷ xs) [] same one two = absurd (cc)
-lines_twins plan out sealed (x ∷ xs) (y ∷ ys) same one two =
+lines_twins plan words out sealed [] (y ∷ ys) same one two = absurd (cc)
+lines_twins plan words out sealed (x ∷ xs) [] same one two = absurd (cc)
+lines_twins plan words out sealed (x ∷ xs) (y ∷ ys) same one two =
+    let two_known : IsKnown (with_entropy plan words) out sealed (run_after (with_entropy plan words) (y ∷ ys)) = record { shown = two.shown; images = two.images } in
+    let one_before = known_before_line plan out sealed (run_after plan xs) x one in
+    let two_before = known_before_line (with_entropy plan words) out sealed (run_after (with_entropy plan words) ys) y two_known in
     let head : open_line x ≡ open_line y = cc in
     let tail : map open_line xs ≡ map open_line ys = cc in
-    let before : AreTwins plan (run_after plan xs) (run_after plan ys) =
-    lines_twins plan out sealed xs ys tail (known_before_line plan out sealed (run_after plan xs) x one) (known_before_line plan out sealed (run_after plan ys) y two) in
-    directives_twins plan out sealed (run_after plan xs) (run_after plan ys) x y x.directive y.directive (ap (λ (l : Line). l.number) head) (ap (λ (l : Line). l.cpu) head)
+    let before : AreTwins plan words (run_after plan xs) (run_after (with_entropy plan words) ys) =
+    lines_twins plan words out sealed xs ys tail one_before (record { shown = two_before.shown; images = two_before.images }) in
+    directives_twins plan words out sealed (run_after plan xs) (run_after (with_entropy plan words) ys) x y x.directive y.directive (ap (λ (l : Line). l.number) head) (ap (λ (l : Line). l.cpu) head)
     (ap (λ (l : Line). l.directive) head) before one two
 
 map_reverse_onto : (xs ys : List Line) → map open_line (reverse_aux xs ys) ≡ reverse_aux (map open_line xs) (map open_line ys)
@@ -202,12 +205,13 @@ map_reverse_onto (x ∷ xs) ys = map_reverse_onto xs (x ∷ ys)
 pub secrets_give_alike_runs : SecretsGiveAlikeRuns
 secrets_give_alike_runs one other differ out images =
     let plan : Plan = plan_of one.config in
-    let history : List Event = run_after plan (reverse other.lines) in
+    let words : ℕ → List ℕ = (plan_of other.config).entropy in
+    let history : List Event = run_after (with_entropy plan words) (reverse other.lines) in
     let is : run_of other ≡ history = ap (λ (p : Plan). run_after p (reverse other.lines)) (sym (one_plan one.config other.config differ.configs)) in
     let lines : map open_line (reverse one.lines) ≡ map open_line (reverse other.lines) =
     map_reverse_onto one.lines [] ∙ ap reverse differ.lines ∙ sym (map_reverse_onto other.lines []) in
     let known : IsKnown plan (all_let_out (run_of one)) (all_sealed (run_of one)) (run_of one) = record { shown = record { before = []; is = refl }; images = inl (record { before = []; is = refl }) } in
-    let twins : AreTwins plan (run_of one) history = lines_twins plan (all_let_out (run_of one)) (all_sealed (run_of one)) (reverse one.lines) (reverse other.lines) lines known
+    let twins : AreTwins plan words (run_of one) history = lines_twins plan words (all_let_out (run_of one)) (all_sealed (run_of one)) (reverse one.lines) (reverse other.lines) lines known
     (record { shown = record { before = []; is = out ∙ ap all_let_out is }; images = by_images is images }) in
     subst (IsAlike one.config (run_of one) other.config) (sym is) (record { open_ = record { configs = differ.configs; entries = twins.alike }; sealed = twins.agree }) where
       by_images : {history : List Event} → run_of other ≡ history → (all_sealed (run_of one) ≡ all_sealed (run_of other)) ⊎ IsTrue one.config.vault →

@@ -7,6 +7,7 @@ use Rattle.std.proofs.Math.ListN.{length-set}
 use Rattle.std.proofs.lemmas.Grind.{common_steps}
 use Rattle.std.proofs.lemmas.Bool.Decides.{nat_tests}
 use Rattle.pef_model.specs.declared.state.Regs.{Regs}
+use Rattle.pef_model.specs.declared.state.Work.TheVariants.{Inward, Outward}
 use Rattle.pef_model.specs.declared.state.Ctx.{Ctx}
 use Rattle.pef_model.specs.declared.state.Ctx.TheVariants as ctx
 use Rattle.pef_model.specs.declared.command.TheConstants.{UV_PAGE_IN, UV_PAGE_OUT, UV_RETURN}
@@ -18,7 +19,7 @@ use Rattle.pef_model.specs.Plan.{Plan}
 use Rattle.pef_model.specs.Event.{Event, newest}
 use Rattle.pef_model.specs.Registers.{number_of, load_return}
 use Rattle.pef_model.specs.Target.{touches_guest}
-use Rattle.pef_model.specs.Guest.{Guest, start_guest, next_guest, registers_after_command, registers_after_return, registers_after_in}
+use Rattle.pef_model.specs.Guest.{Guest, start_guest, entered_at, registers_after_command, registers_of_hypervisor, registers_in, next_guest}
 use Rattle.pef_model.specs.History.{guest_after, reg}
 use Rattle.pef_model.specs.SearchLaw.{decides_register, loaded_value, assigned_by_command, assigned_in, IsCommand, RegIsNewest}
 use Rattle.pef_model.proofs.Folds.{test_same, counts, skips}
@@ -119,53 +120,57 @@ set_value gpr rd value r h k = by_test (r == rd) refl where
   by_test false t = let other : rd ≢ r = grind (arith, nat_tests) in grind (arith, common_steps)
 
 -- each register after a command of its vCPU
-command_value : (regs : Regs) (cmd : Cmd) (a : Answer) (r : ℕ) → IsCommand cmd → length regs.gpr ≡ 32 → r < 32 →
-    get_or (registers_after_command regs cmd a).gpr r 0 ≡ unwrap_or (assigned_by_command cmd a r) (get_or regs.gpr r 0)
-command_value regs (UPagein lpid src gpa flags order) (Ret code) r k h small = called_value regs.gpr UV_PAGE_IN lpid src gpa flags order (number_of code) r h
-command_value regs (UPageout lpid dest gpa flags order) (Ret code) r k h small = called_value regs.gpr UV_PAGE_OUT lpid dest gpa flags order (number_of code) r h
-command_value regs (UReturn r0 r2 outs) (Ret code) r k h small = returned_value regs.gpr outs r0 r2 (number_of code) r h k small
-command_value regs (GLi rd value) Done r k h small = set_value regs.gpr rd value r h k
-command_value regs (GLd rd gpa) (Val value) r k h small = set_value regs.gpr rd value r h k
-command_value regs (GSt rs gpa) Done r k h small = refl
-command_value regs cmd a r k h small = refl
+command_value : (g : Guest) (regs : Regs) (cmd : Cmd) (a : Answer) (r : ℕ) → IsCommand cmd → length regs.gpr ≡ 32 → r < 32 →
+    get_or (registers_after_command regs cmd a).gpr r 0 ≡ unwrap_or (assigned_by_command g cmd a r) (get_or regs.gpr r 0)
+command_value g regs (UPagein lpid src gpa flags order) (Ret code) r k h small = called_value regs.gpr UV_PAGE_IN lpid src gpa flags order (number_of code) r h
+command_value g regs (UPageout lpid dest gpa flags order) (Ret code) r k h small = called_value regs.gpr UV_PAGE_OUT lpid dest gpa flags order (number_of code) r h
+command_value g regs (UReturn r0 r2 outs) (Ret code) r k h small = returned_value regs.gpr outs r0 r2 (number_of code) r h k small
+command_value g regs (GLi rd value) Done r k h small = set_value regs.gpr rd value r h k
+command_value g regs (GLd rd gpa) (Val value) r k h small = set_value regs.gpr rd value r h k
+command_value g regs (GSt rs gpa) Done r k h small = refl
+command_value g regs cmd a r k h small = refl
 
 -- UV_RETURN of the hypervisor moves no register of R0 to R31
-gpr_after_return : (regs : Regs) (cmd : Cmd) (a : Answer) → (registers_after_return regs cmd a).gpr ≡ regs.gpr
-gpr_after_return regs (UReturn r0 r2 outs) Enter = by_test (r2 == 0) where
+entered_gpr : (regs : Regs) (r2 : ℕ) → (entered_at regs r2).gpr ≡ regs.gpr
+entered_gpr regs r2 = by_test (r2 == 0) where
   by_test : (b : Bool) → (if b then regs else record regs { nip = r2; srr0 = regs.nip }).gpr ≡ regs.gpr
   by_test true = refl
   by_test false = refl
-gpr_after_return regs cmd a = refl
 
 -- each vCPU has 32 registers
 abbrev AreFull : (ℕ → Regs) → Type 0
 AreFull registers = (vid : ℕ) → length (registers vid).gpr ≡ 32
 
-pub gpr_in_hypervisor : (registers : ℕ → Regs) (selected : ℕ) (cmd : Cmd) (a : Answer) (vid : ℕ) → (registers_after_in ctx.Hv registers selected cmd a vid).gpr ≡ (registers vid).gpr
-gpr_in_hypervisor registers selected cmd a vid = by_test (vid == selected) refl where
-  by_test : (b : Bool) → (vid == selected) ≡ b → (if b then registers_after_return (registers selected) cmd a else registers vid).gpr ≡ (registers vid).gpr
-  by_test true t = gpr_after_return (registers selected) cmd a ∙ ap (λ (v : ℕ). (registers v).gpr) (sym (test_same vid selected t))
+-- no step of the hypervisor does
+pub gpr_in_hypervisor : (g : Guest) (selected : ℕ) (a : Answer) (cmd : Cmd) (vid : ℕ) → (registers_of_hypervisor g selected a cmd vid).gpr ≡ (g.registers vid).gpr
+gpr_in_hypervisor g selected Enter (UReturn r0 r2 outs) vid = by_test (vid == selected) refl where
+  by_test : (b : Bool) → (vid == selected) ≡ b → (if b then entered_at (g.registers selected) r2 else g.registers vid).gpr ≡ (g.registers vid).gpr
+  by_test true t = entered_gpr (g.registers selected) r2 ∙ ap (λ (v : ℕ). (g.registers v).gpr) (sym (test_same vid selected t))
   by_test false t = refl
+gpr_in_hypervisor g selected Enter cmd vid = refl
+gpr_in_hypervisor g selected a cmd vid = refl
 
-full_after : (c : Ctx) (registers : ℕ → Regs) (selected : ℕ) (cmd : Cmd) (a : Answer) → IsCommand cmd → AreFull registers → AreFull (registers_after_in c registers selected cmd a)
-full_after ctx.Hv registers selected cmd a k full vid = ap length (gpr_in_hypervisor registers selected cmd a vid) ∙ full vid
-full_after (ctx.Uv work) registers selected cmd a k full vid = full vid
-full_after (ctx.Guest run) registers selected cmd a k full vid = by_test (vid == run.vid) where
-  by_test : (b : Bool) → length (if b then registers_after_command (registers run.vid) cmd a else registers vid).gpr ≡ 32
-  by_test true = length_command (registers run.vid) cmd a k (full run.vid)
+full_after : (c : Ctx) (g : Guest) (selected : ℕ) (cmd : Cmd) (a : Answer) → IsCommand cmd → AreFull g.registers → AreFull (registers_in c g selected cmd a)
+full_after ctx.Hv g selected cmd a k full vid = ap length (gpr_in_hypervisor g selected a cmd vid) ∙ full vid
+full_after (ctx.Uv (Inward move)) g selected cmd a k full vid = full vid
+full_after (ctx.Uv (Outward move)) g selected cmd a k full vid = full vid
+full_after (ctx.Guest run) g selected cmd a k full vid = by_test (vid == run.vid) where
+  by_test : (b : Bool) → length (if b then registers_after_command (g.registers run.vid) cmd a else g.registers vid).gpr ≡ 32
+  by_test true = length_command (g.registers run.vid) cmd a k (full run.vid)
   by_test false = full vid
 
-value_after_step : (c : Ctx) (registers : ℕ → Regs) (selected : ℕ) (cmd : Cmd) (a : Answer) (vid r : ℕ) → IsCommand cmd → AreFull registers → r < 32 →
-    get_or (registers_after_in c registers selected cmd a vid).gpr r 0 ≡ unwrap_or (assigned_in c vid cmd a r) (get_or (registers vid).gpr r 0)
-value_after_step ctx.Hv registers selected cmd a vid r k full small = ap (λ (gpr : List ℕ). get_or gpr r 0) (gpr_in_hypervisor registers selected cmd a vid)
-value_after_step (ctx.Uv work) registers selected cmd a vid r k full small = refl
-value_after_step (ctx.Guest run) registers selected cmd a vid r k full small = by_test (vid == run.vid) refl where
+value_after_step : (c : Ctx) (g : Guest) (selected : ℕ) (cmd : Cmd) (a : Answer) (vid r : ℕ) → IsCommand cmd → AreFull g.registers → r < 32 →
+    get_or (registers_in c g selected cmd a vid).gpr r 0 ≡ unwrap_or (assigned_in c g vid cmd a r) (get_or (g.registers vid).gpr r 0)
+value_after_step ctx.Hv g selected cmd a vid r k full small = ap (λ (gpr : List ℕ). get_or gpr r 0) (gpr_in_hypervisor g selected a cmd vid)
+value_after_step (ctx.Uv (Inward move)) g selected cmd a vid r k full small = refl
+value_after_step (ctx.Uv (Outward move)) g selected cmd a vid r k full small = refl
+value_after_step (ctx.Guest run) g selected cmd a vid r k full small = by_test (vid == run.vid) refl where
   by_test : (b : Bool) → (vid == run.vid) ≡ b →
-      get_or (if b then registers_after_command (registers run.vid) cmd a else registers vid).gpr r 0
-      ≡ unwrap_or (if b then assigned_by_command cmd a r else None) (get_or (registers vid).gpr r 0)
+      get_or (if b then registers_after_command (g.registers run.vid) cmd a else g.registers vid).gpr r 0
+      ≡ unwrap_or (if b then assigned_by_command g cmd a r else None) (get_or (g.registers vid).gpr r 0)
   by_test true t =
-      command_value (registers run.vid) cmd a r k (full run.vid) small
-      ∙ ap (λ (v : ℕ). unwrap_or (assigned_by_command cmd a r) (get_or (registers v).gpr r 0)) (sym (test_same vid run.vid t))
+      command_value g (g.registers run.vid) cmd a r k (full run.vid) small
+      ∙ ap (λ (v : ℕ). unwrap_or (assigned_by_command g cmd a r) (get_or (g.registers v).gpr r 0)) (sym (test_same vid run.vid t))
   by_test false t = refl
 
 full_registers : (plan : Plan) (past : List Event) (lpid : ℕ) → AllByRecursion (λ (e : Event). IsCommand e.trace.cmd) past → AreFull (guest_after plan lpid past).registers
@@ -174,14 +179,14 @@ full_registers plan (e ∷ past) lpid commands = by_test (full_registers plan pa
   by_test : AreFull (guest_after plan lpid past).registers → (b : Bool) → touches_guest plan lpid e ≡ b → AreFull (guest_after plan lpid (e ∷ past)).registers
   by_test ih true t =
       subst (λ (g : Guest). AreFull g.registers) (sym (counts (touches_guest plan lpid) (next_guest plan) (start_guest plan lpid) e past t))
-      (full_after e.saw.before (guest_after plan lpid past).registers e.saw.vid e.trace.cmd e.trace.answer commands.0 ih)
+      (full_after e.saw.before (guest_after plan lpid past) e.saw.vid e.trace.cmd e.trace.answer commands.0 ih)
   by_test ih false t = subst (λ (g : Guest). AreFull g.registers) (sym (skips (touches_guest plan lpid) (next_guest plan) (start_guest plan lpid) e past t)) ih
 
 pub reg_is_newest : RegIsNewest
 reg_is_newest plan [] lpid vid r small commands = get_or-replicate 32 r 0 0 small
 reg_is_newest plan (e ∷ past) lpid vid r small commands = by_test (reg_is_newest plan past lpid vid r small commands.1) (touches_guest plan lpid e) refl where
   decision : Bool → Option ℕ
-  decision b = if b then assigned_in e.saw.before vid e.trace.cmd e.trace.answer r else None
+  decision b = if b then assigned_in e.saw.before (guest_after plan lpid past) vid e.trace.cmd e.trace.answer r else None
 
   value : Guest → ℕ
   value g = get_or (g.registers vid).gpr r 0
@@ -190,7 +195,7 @@ reg_is_newest plan (e ∷ past) lpid vid r small commands = by_test (reg_is_newe
       reg plan (e ∷ past) lpid vid r ≡ newest (decides_register plan lpid vid r) 0 (e ∷ past)
   by_test ih true t =
       ap value (counts (touches_guest plan lpid) (next_guest plan) (start_guest plan lpid) e past t)
-      ∙ value_after_step e.saw.before (guest_after plan lpid past).registers e.saw.vid e.trace.cmd e.trace.answer vid r commands.0 (full_registers plan past lpid commands.1) small
+      ∙ value_after_step e.saw.before (guest_after plan lpid past) e.saw.vid e.trace.cmd e.trace.answer vid r commands.0 (full_registers plan past lpid commands.1) small
       ∙ ap (unwrap_or (decision true)) ih
       ∙ ap (λ (b : Bool). unwrap_or (decision b) (newest (decides_register plan lpid vid r) 0 past)) (sym t)
   by_test ih false t =

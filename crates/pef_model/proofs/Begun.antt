@@ -1,7 +1,7 @@
 -- A page's version counts the page-outs of it that began, and the newest of them is what is pending or was last sealed.
-use Rattle.std.proofs.Common.{◌≡◌, ℕ, ◌+◌, List, [], ◌∷◌, Bool, true, false, refl, ap, sym, subst, ◌∙◌, ◌==◌, ◌&&◌, cond, if◌then◌else◌, inl, inr, Option, Some, None, arith}
+use Rattle.std.proofs.Common.{◌≡◌, ℕ, ◌+◌, List, [], ◌∷◌, Bool, true, false, refl, ap, sym, subst, ◌∙◌, ◌==◌, ◌&&◌, cond, if◌then◌else◌, inl, inr, Option, Some, None, arith, ◌++◌}
 use Rattle.std.specs.List.{count_by}
-use Rattle.std.proofs.lemmas.List.Sums.{sum_by-cons}
+use Rattle.std.proofs.lemmas.List.Sums.{sum_by-cons, sum_by-append}
 use Rattle.pef_model.specs.declared.state.Kind.TheVariants.{Secure, Out}
 use Rattle.pef_model.specs.declared.state.Way.{Way}
 use Rattle.pef_model.specs.declared.state.Way.TheVariants as way
@@ -18,7 +18,7 @@ use Rattle.pef_model.specs.Plan.{Plan}
 use Rattle.pef_model.specs.Event.{Event}
 use Rattle.pef_model.specs.Target.{touches_cpu}
 use Rattle.pef_model.specs.Cpu.{CpuPart, start_cpu, next_cpu}
-use Rattle.pef_model.specs.GuestPart.{Page, GuestPart, start_part_of, secured, begun_out, ended_out, begun_in, refused_in}
+use Rattle.pef_model.specs.GuestPart.{Page, GuestPart, invalid_page, secured, begun_out, ended_out, begun_in, refused_in}
 use Rattle.pef_model.specs.PageOut.{sealed_page}
 use Rattle.pef_model.specs.History.{cpu_after, guest_after, Extends, IsLegal}
 use Rattle.pef_model.specs.MoveLaw.{begins_out, begins_out_in, last_begun, LastSealedIsBegun, VersionsCountPageOuts}
@@ -130,7 +130,7 @@ module _ (plan : Plan) (past : List Event) (e : Event) (extends : Extends plan p
   -- and so is the one after it
   after_is : (after : Ctx) (hand : List ℕ) (l : ℕ) → LeavesCpu cpu e after hand l → e.saw.after ≡ after
   after_is after hand l left =
-      sym (ctx_after plan past e extends)
+      sym (ctx_after plan past e)
       ∙ ap (λ (x : CpuPart). x.ctx) (counts (touches_cpu e.trace.cpu) next_cpu (start_cpu plan) e past (same_test e.trace.cpu))
       ∙ left.ctx_is
 
@@ -215,13 +215,12 @@ module _ (plan : Plan) (past : List Event) (e : Event) (extends : Extends plan p
       (λ elsewhere. none)
 
 -- at the start no page-out has begun
-start_counted : (b : Bool) (gfn : ℕ) → IsCounted ((start_part_of b).pages gfn) 0 None
-start_counted true gfn = record { version = refl; sealed = λ out. cc; pending = λ n moves. refl }
-start_counted false gfn = record { version = refl; sealed = λ out. cc; pending = λ n moves. refl }
+start_counted : IsCounted invalid_page 0 None
+start_counted = record { version = refl; sealed = λ out. cc; pending = λ n moves. refl }
 
 -- by induction over the history
 counted : (plan : Plan) (past : List Event) (lpid gfn : ℕ) → IsLegal plan past → IsCounted (pages plan past lpid gfn) (count_by (begins_out plan lpid gfn) past) (last_begun plan lpid gfn past)
-counted plan [] lpid gfn legal = start_counted (plan.is_born lpid) gfn
+counted plan [] lpid gfn legal = start_counted
 counted plan (e ∷ past) lpid gfn legal =
     let begins : Bool = begins_out plan lpid gfn e in
     let last : Option (List ℕ) = last_begun plan lpid gfn (e ∷ past) in
@@ -234,5 +233,16 @@ pub last_sealed_is_begun : LastSealedIsBegun
 last_sealed_is_begun plan past lpid gfn legal out = let is = counted plan past lpid gfn legal in is.sealed out
 
 -- and the version the number of begins
+pub version_counts : (plan : Plan) (past : List Event) (lpid gfn : ℕ) → IsLegal plan past → (pages plan past lpid gfn).version ≡ count_by (begins_out plan lpid gfn) past
+version_counts plan past lpid gfn legal = let is = counted plan past lpid gfn legal in is.version
+
+pub legal_before : (plan : Plan) (past since : List Event) → IsLegal plan (since ++ past) → IsLegal plan past
+legal_before plan past [] legal = legal
+legal_before plan past (e ∷ since) legal = legal_before plan past since legal.1
+
 pub versions_count_page_outs : VersionsCountPageOuts
-versions_count_page_outs plan past lpid gfn legal = let is = counted plan past lpid gfn legal in is.version
+versions_count_page_outs plan past since lpid gfn legal same =
+    let old = version_counts plan past lpid gfn (legal_before plan past since legal) in
+    let new = version_counts plan (since ++ past) lpid gfn legal in
+    let both = sum_by-append (λ (e : Event). cond (begins_out plan lpid gfn e) 1 0) since past in
+    omega (arith, old, new, both)

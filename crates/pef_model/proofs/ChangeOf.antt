@@ -31,11 +31,11 @@ change_in plan past cpu mark ctx.Hv h (GSt rs gpa) = refused plan past cpu mark 
 change_in plan past cpu mark ctx.Hv h GIrq = refused plan past cpu mark ctx.Hv h GIrq (record { ctx_is = refl; hand_is = refl; lpid_is = refl }) refl
 change_in plan past cpu mark ctx.Hv h Go = refused plan past cpu mark ctx.Hv h Go (record { ctx_is = refl; hand_is = refl; lpid_is = refl }) refl
 change_in plan past cpu mark (ctx.Uv (Outward move)) h Go = go plan past cpu mark move h move.copied refl
-change_in plan past cpu mark (ctx.Uv (Outward move)) h cmd = refused plan past cpu mark (ctx.Uv (Outward move)) h cmd (record { ctx_is = h; hand_is = refl; lpid_is = refl }) refl
+change_in plan past cpu mark (ctx.Uv (Outward move)) h cmd = refused plan past cpu mark (ctx.Uv (Outward move)) h cmd (record { ctx_is = refl; hand_is = refl; lpid_is = refl }) refl
 change_in plan past cpu mark (ctx.Uv (Inward move)) h Go = go_in plan past cpu mark move h move.copied refl
-change_in plan past cpu mark (ctx.Uv (Inward move)) h cmd = refused plan past cpu mark (ctx.Uv (Inward move)) h cmd (record { ctx_is = h; hand_is = refl; lpid_is = refl }) refl
-change_in plan past cpu mark (ctx.Guest run) h (HLd ra) = refused plan past cpu mark (ctx.Guest run) h (HLd ra) (record { ctx_is = h; hand_is = refl; lpid_is = refl }) refl
-change_in plan past cpu mark (ctx.Guest run) h (HSt ra value) = refused plan past cpu mark (ctx.Guest run) h (HSt ra value) (record { ctx_is = h; hand_is = refl; lpid_is = refl }) refl
+change_in plan past cpu mark (ctx.Uv (Inward move)) h cmd = refused plan past cpu mark (ctx.Uv (Inward move)) h cmd (record { ctx_is = refl; hand_is = refl; lpid_is = refl }) refl
+change_in plan past cpu mark (ctx.Guest run) h (HLd ra) = refused plan past cpu mark (ctx.Guest run) h (HLd ra) (record { ctx_is = refl; hand_is = refl; lpid_is = refl }) refl
+change_in plan past cpu mark (ctx.Guest run) h (HSt ra value) = refused plan past cpu mark (ctx.Guest run) h (HSt ra value) (record { ctx_is = refl; hand_is = refl; lpid_is = refl }) refl
 change_in plan past cpu mark (ctx.Guest run) h (UPagein lpid src gpa flags order) = at_own plan past cpu mark run h (UPagein lpid src gpa flags order) refl
 change_in plan past cpu mark (ctx.Guest run) h (UPageout lpid dest gpa flags order) = at_own plan past cpu mark run h (UPageout lpid dest gpa flags order) refl
 change_in plan past cpu mark (ctx.Guest run) h (UReturn r0 r2 outs) = at_own plan past cpu mark run h (UReturn r0 r2 outs) refl
@@ -43,7 +43,7 @@ change_in plan past cpu mark (ctx.Guest run) h (GLi rd value) = at_own plan past
 change_in plan past cpu mark (ctx.Guest run) h (GLd rd gpa) = at_own plan past cpu mark run h (GLd rd gpa) refl
 change_in plan past cpu mark (ctx.Guest run) h (GSt rs gpa) = at_own plan past cpu mark run h (GSt rs gpa) refl
 change_in plan past cpu mark (ctx.Guest run) h GIrq = at_own plan past cpu mark run h GIrq refl
-change_in plan past cpu mark (ctx.Guest run) h Go = refused plan past cpu mark (ctx.Guest run) h Go (record { ctx_is = h; hand_is = refl; lpid_is = refl }) refl
+change_in plan past cpu mark (ctx.Guest run) h Go = refused plan past cpu mark (ctx.Guest run) h Go (record { ctx_is = refl; hand_is = refl; lpid_is = refl }) refl
 
 -- an entry that extends a history makes one of the changes
 pub change : (plan : Plan) (past : List Event) (e : Event) → Extends plan past e → Change plan past (cpu_after plan e.trace.cpu past) e

@@ -9,7 +9,7 @@ use Rattle.pef_model.specs.declared.state.Work.TheVariants.{Inward, Outward}
 use Rattle.pef_model.specs.declared.state.Ctx.{Ctx}
 use Rattle.pef_model.specs.declared.state.Ctx.TheVariants as ctx
 use Rattle.pef_model.specs.declared.command.Cmd.{Cmd}
-use Rattle.pef_model.specs.Plan.{Plan}
+use Rattle.pef_model.specs.Plan.{Plan, IsWithin}
 use Rattle.pef_model.specs.Event.{Event, Mark}
 use Rattle.pef_model.specs.Target.{Ask, Target, Alone, AtGuest, target_in, target_of, is_guest}
 use Rattle.pef_model.specs.Cpu.{CpuPart, next_cpu}
@@ -91,6 +91,7 @@ pub record ComesIn (plan : Plan) (past : List Event) (cpu : CpuPart) (e : Event)
   pub kind_is : ((part_after plan past move.lpid).pages move.gfn).kind ≡ Out
   pub at_rest : ((part_after plan past move.lpid).pages move.gfn).mover ≡ None
   pub placed : move.gfn < plan.pages
+  pub number : IsWithin 1 plan.guests move.lpid
   pub cpu_is : LeavesCpu cpu e (ctx.Uv (Inward move)) cpu.hand cpu.lpid
   pub parts : PutsPart plan past e move.lpid (with_page_coming (part_after plan past move.lpid) move.gfn e.trace.cpu)
   pub pool : pool_after plan (e ∷ past) + 1 ≡ pool_after plan past

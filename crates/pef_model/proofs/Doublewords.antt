@@ -1,11 +1,12 @@
 -- The doubleword that is read is the one last put there, and all others stay.
-use Rattle.std.proofs.Common.{◌≡◌, ℕ, zero, suc, ◌+◌, ◌^◌, ◌<◌, ◌≤◌, List, ◌++◌, length, take, drop, replicate, arith, refl, ap, sym, ◌∙◌, get_or, ◌⊎◌, inl, inr, length-take, length-append, length-drop, append_assoc}
-use Rattle.std.proofs.Math.Seq.{drop-append_seam}
+use Rattle.std.proofs.Common.{◌≡◌, ℕ, zero, suc, ◌+◌, ◌^◌, ◌<◌, ◌≤◌, List, ◌++◌, length, take, drop, replicate, arith, refl, ap, sym, ◌∙◌, get_or, ◌⊎◌, inl, inr, length-take, length-append, length-drop, append_assoc, ◌-◌}
+use Rattle.std.proofs.Math.Seq.{drop-append-add, drop-append_seam}
 use Rattle.std.proofs.lemmas.List.{drop-append-le, take-append-drop, drop-drop, drop-replicate}
 use Rattle.std.proofs.lemmas.Slice.{drop-append-drop}
 use Rattle.byteorder.specs.Endian.{big_number, big_bytes}
 use Rattle.byteorder.specs.Numbers.{big_from-append, big_number-reads_back}
 use Rattle.pef_model.specs.Doubleword.{doubleword, with_doubleword}
+use Rattle.pef_model.specs.Memory.{overwritten}
 
 -- what lies past a first part is the second
 seam : (xs ys : List ℕ) (n : ℕ) → length xs ≡ n → drop n (xs ++ ys) ≡ ys
@@ -47,6 +48,35 @@ doubleword-other bytes offset other value room (inl before) =
     ∙ sym (before_seam (take offset bytes) (drop offset bytes) other (omega (arith, length-take offset bytes)))
     ∙ ap (λ (xs : List ℕ). big_number 8 (drop other xs)) (take-append-drop offset bytes)
 doubleword-other bytes offset other value room (inr after) = ap (big_number 8) (past_seam bytes offset other value room after)
+
+-- bytes that lie within the old ones take the room of what they overwrite
+pub length-overwritten : (old bytes : List ℕ) (offset : ℕ) → offset + length bytes ≤ length old → length (overwritten old offset bytes) ≡ length old
+length-overwritten old bytes offset room = simp (length-append, length-drop) (omega (arith, length-take offset old))
+
+-- a doubleword that is overwritten is that of the new bytes
+pub overwritten_inside : (old bytes : List ℕ) (offset other : ℕ) → offset + length bytes ≤ length old → offset ≤ other → other + 8 ≤ offset + length bytes →
+    doubleword (overwritten old offset bytes) other ≡ doubleword bytes (other - offset)
+unfolding doubleword
+overwritten_inside old bytes offset other room after before =
+    let front : length (take offset old) ≡ offset = length_front old offset (omega arith) in
+    let past : other ≡ length (take offset old) + (other - offset) = omega arith in
+    let rest : List ℕ = drop (offset + length bytes) old in
+    ap (λ (n : ℕ). big_number 8 (drop n (take offset old ++ (bytes ++ rest)))) past
+    ∙ ap (big_number 8) (drop-append-add (take offset old) (bytes ++ rest) (other - offset))
+    ∙ before_seam bytes rest (other - offset) (omega arith)
+
+-- one before or after them stays
+pub overwritten_outside : (old bytes : List ℕ) (offset other : ℕ) → offset + length bytes ≤ length old → (other + 8 ≤ offset) ⊎ (offset + length bytes ≤ other) →
+    doubleword (overwritten old offset bytes) other ≡ doubleword old other
+unfolding doubleword
+overwritten_outside old bytes offset other room (inl before) =
+    before_seam (take offset old) (bytes ++ drop (offset + length bytes) old) other (omega (arith, length-take offset old))
+    ∙ sym (before_seam (take offset old) (drop offset old) other (omega (arith, length-take offset old)))
+    ∙ ap (λ (xs : List ℕ). big_number 8 (drop other xs)) (take-append-drop offset old)
+overwritten_outside old bytes offset other room (inr after) =
+    ap (big_number 8)
+    (ap (drop other) (sym (append_assoc (take offset old) bytes (drop (offset + length bytes) old)))
+    ∙ drop-append-drop (offset + length bytes) old (take offset old ++ bytes) other after (simp length-append (omega (arith, length-take offset old))))
 
 -- each element of zeros is zero
 zero_at : (n i : ℕ) → get_or (replicate {A = ℕ} n 0) i 0 ≡ 0

@@ -14,7 +14,7 @@ use Rattle.pef_model.specs.Plan.{Plan}
 use Rattle.pef_model.specs.Event.{Event}
 use Rattle.pef_model.specs.Target.{Ask, AtGuest, AtFrame, uses_hand, target_in, is_guest, touches_guest}
 use Rattle.pef_model.specs.Cpu.{CpuPart}
-use Rattle.pef_model.specs.GuestPart.{Page, GuestPart, secured, refused_in, part_after_in, part_after_work}
+use Rattle.pef_model.specs.GuestPart.{Page, GuestPart, secured, refused_in, part_in, part_of_work}
 use Rattle.pef_model.specs.Guest.{Guest, start_guest, next_guest}
 use Rattle.pef_model.specs.PageIn.{is_last_sealed}
 use Rattle.pef_model.specs.Deed.{Deed, coming_back, deed_page_in_test}
@@ -23,9 +23,9 @@ use Rattle.pef_model.specs.MoveLaw.{last_begun}
 use Rattle.pef_model.specs.FreshLaw.{EndsPageIn, Freshness}
 use Rattle.pef_model.proofs.Folds.{same_test, counts}
 use Rattle.pef_model.proofs.Puts.{put-here}
-use Rattle.pef_model.proofs.Paging.{pages, each_cpu_moves_its_page_in}
+use Rattle.pef_model.proofs.Paging.{pages}
 use Rattle.pef_model.proofs.Begun.{last_sealed_is_begun}
-use Rattle.pef_model.proofs.KeptStores.{moves_keep_last_store}
+use Rattle.pef_model.proofs.KeptStores.{stores_stay}
 
 -- the same bytes are accepted
 last_sealed_same : (sealed : Option (List ℕ)) (bytes : List ℕ) → is_last_sealed sealed bytes ≡ true → sealed ≡ Some bytes
@@ -104,19 +104,18 @@ module _ (plan : Plan) (past : List Event) (move : Move) (e : Event) (extends : 
       ∙ ap (λ (b : Bool). is_guest move.lpid (if b then AtGuest move.lpid else AtFrame move.frame)) ends.copied ∙ same_test move.lpid
 
   -- which is then what the answer makes of it
-  pub part_is : (a : Answer) → e.trace.answer ≡ a → (guest_after plan move.lpid (e ∷ past)).part ≡ part_after_work g.part (Inward move) a
+  pub part_is : (a : Answer) → e.trace.answer ≡ a → (guest_after plan move.lpid (e ∷ past)).part ≡ part_of_work g.part e.bytes a (Inward move)
   part_is a is =
       ap (λ (x : Guest). x.part) (counts (touches_guest plan move.lpid) (next_guest plan) (start_guest plan move.lpid) e past aims)
-      ∙ ap (λ (c : Ctx). part_after_in c plan g.part e) ends.before ∙ ap (part_after_work g.part (Inward move)) is
+      ∙ ap (λ (c : Ctx). part_in plan g.part c e.trace.answer e.trace.cmd e.saw.pool e.saw.vid e.trace.cpu e.bytes) ends.before
+      ∙ ap (λ (x : Answer). part_of_work g.part e.bytes x (Inward move)) is
 
 -- what comes in is accepted exactly where it is what was last paged out
 pub freshness : Freshness
 freshness plan past move e legal ends =
     let extends = legal.0 in
-    let before : (cpu_after plan e.trace.cpu past).ctx ≡ ctx.Uv (Inward move) = ap (λ (x : Event). x.saw.before) (sym extends.is) ∙ ends.before in
-    let moving = each_cpu_moves_its_page_in plan past e.trace.cpu move legal.1 before ends.generation in
     let old : Page = pages plan past move.lpid move.gfn in
-    let begun : old.sealed ≡ last_begun plan move.lpid move.gfn past = last_sealed_is_begun plan past move.lpid move.gfn legal.1 moving.kind in
+    let begun : old.sealed ≡ last_begun plan move.lpid move.gfn past = last_sealed_is_begun plan past move.lpid move.gfn legal.1 ends.out in
     let accepted = accepted_is plan past move e legal.0 ends in
     record {
       accepted = ((λ k. sym begun ∙ accepted.0 k), (λ k. accepted.1 (begun ∙ k)));
@@ -129,5 +128,5 @@ freshness plan past move e legal ends =
             answer = refused;
             page = ap (λ (g : GuestPart). g.pages move.gfn) (part_is plan past move e legal.0 ends (Ret UP2) refused) ∙ put-here (pages plan past move.lpid) move.gfn (refused_in old);
           };
-      stores = λ gpa. moves_keep_last_store plan past e move.lpid gpa legal (λ run is. let call = ends.before in cc);
+      stores = λ gpa. stores_stay plan past e move.lpid gpa (λ run is. let call = ends.before in cc);
     }

@@ -18,10 +18,9 @@ use Rattle.pef_model.specs.PageIn.{is_last_sealed}
 use Rattle.pef_model.specs.Deed.{Deed, giving, coming_back, deed_page_in_test, deed_page_in_end, deed_page_out_end}
 use Rattle.pef_model.specs.History.{cpu_after, guest_after, deed_after, ask_of}
 use Rattle.pef_model.specs.Script.{Line}
-use Rattle.pef_model.specs.Run.{is_in_progress, is_again, ends_go, GoesOn, mark_after, entry_after, with_gos, most_gos}
+use Rattle.pef_model.specs.Run.{is_in_progress, is_again, ends_go, GoesOn, entry_after, with_gos, most_gos}
 use Rattle.pef_model.specs.RunLaw.{EachGoAllEnds}
-use Rattle.pef_model.proofs.Steps.{ctx_after_next}
-use Rattle.pef_model.proofs.LineEntries.{AreMade}
+use Rattle.pef_model.proofs.Steps.{ctx_after}
 
 -- whether a call in progress has copied its page
 abbrev is_copied : Work → Bool
@@ -105,7 +104,7 @@ line_goes plan past line =
 
 -- `go` leaves its CPU in the context that it says
 pub go_leaves : (plan : Plan) (past : List Event) (line : Line) → ctx_at plan (entry_after plan past line Go ∷ past) line ≡ (entry_after plan past line Go).saw.after
-go_leaves plan past line = ctx_after_next plan past (mark_after past line) Go
+go_leaves plan past line = ctx_after plan past (entry_after plan past line Go)
 
 -- a history with so many entries of `go` of a line
 abbrev pub gos : Plan → ℕ → List Event → Line → List Event
@@ -169,12 +168,8 @@ first_goes plan (suc k) past line = by_test (ends_go (entry_after plan past line
   by_test true later = ([], refl)
   by_test false later = (later.0 ++ (next ∷ []), later.1 ∙ sym (append_assoc later.0 (next ∷ []) more))
 
-pub gos_made : (plan : Plan) (n : ℕ) (past : List Event) (line : Line) → AreMade plan line past (gos_block plan n past line)
-gos_made plan zero past line = tt
-gos_made plan (suc n) past line = (ap (λ (xs : List Event). entry_after plan xs line Go) (gos_is plan n past line), gos_made plan n past line)
-
 -- a `go` while some are left: go* goes on with it, and one fewer is left
-further : (plan : Plan) (past : List Event) (line : Line) (n : ℕ) → gos_left (ctx_at plan past line) ≡ suc n →
+pub further : (plan : Plan) (past : List Event) (line : Line) (n : ℕ) → gos_left (ctx_at plan past line) ≡ suc n →
     GoesOn (entry_after plan past line Go) × (gos_left (ctx_at plan (entry_after plan past line Go ∷ past) line) ≡ n)
 further plan past line n left = by_deed (line_goes plan past line) where
   by_deed : GoesFurther (ctx_at plan past line) (go_deed plan past line) ⊎ GoesNoFurther (ctx_at plan past line) (go_deed plan past line) →
@@ -185,14 +180,14 @@ further plan past line n left = by_deed (line_goes plan past line) where
   by_deed (inr goes) = absurd (omega (arith, goes.none, left))
 
 -- a `go` while none is left: go* ends with it
-last : (plan : Plan) (past : List Event) (line : Line) → gos_left (ctx_at plan past line) ≡ 0 → ends_go (entry_after plan past line Go) ≡ true
+pub last : (plan : Plan) (past : List Event) (line : Line) → gos_left (ctx_at plan past line) ≡ 0 → ends_go (entry_after plan past line Go) ≡ true
 last plan past line left = by_deed (line_goes plan past line) where
   by_deed : GoesFurther (ctx_at plan past line) (go_deed plan past line) ⊎ GoesNoFurther (ctx_at plan past line) (go_deed plan past line) → ends_go (entry_after plan past line Go) ≡ true
   by_deed (inl goes) = absurd (omega (arith, goes.fewer, left))
   by_deed (inr goes) = goes.ends
 
 -- go* goes on with those that are left
-gos_go_on : (plan : Plan) (n m : ℕ) (past : List Event) (line : Line) → gos_left (ctx_at plan past line) ≡ n + m →
+pub gos_go_on : (plan : Plan) (n m : ℕ) (past : List Event) (line : Line) → gos_left (ctx_at plan past line) ≡ n + m →
     AllByRecursion GoesOn (gos_block plan n past line) × (gos_left (ctx_at plan (gos plan n past line) line) ≡ m)
 gos_go_on plan zero m past line left = (tt, omega (arith, left))
 gos_go_on plan (suc n) m past line left =
@@ -209,37 +204,18 @@ few_left (ctx.Uv work) = by_test (is_copied work) where
   by_test false = omega arith
 few_left (ctx.Guest run) = omega arith
 
--- a history with the entries of go*: the last ends it, and it goes on with those before
-pub record IsGone (plan : Plan) (past : List Event) (line : Line) : Type 0 where
-  pub earlier : List Event
-  pub e : Event
-  pub is : with_gos plan (most_gos plan) past line ≡ e ∷ (earlier ++ past)
-  pub cmd : e.trace.cmd ≡ Go
-  pub ends : ends_go e ≡ true
-  pub goes_on : AllByRecursion GoesOn earlier
-  pub made : AreMade plan line past (e ∷ earlier)
-  pub few : length earlier < most_gos plan
-
 pub most_gos_is : (plan : Plan) (past : List Event) (line : Line) → with_gos plan (most_gos plan) past line ≡ gos plan (suc (gos_left (ctx_at plan past line))) past line
 most_gos_is plan past line = with_gos_is plan (most_gos plan) (gos_left (ctx_at plan past line)) past line refl (let few = few_left (ctx_at plan past line) in omega (arith, few))
 
-pub gone : (plan : Plan) (past : List Event) (line : Line) → IsGone plan past line
-gone plan past line =
-    let n : ℕ = gos_left (ctx_at plan past line) in
-    let on = gos_go_on plan n 0 past line (omega arith) in
-    let most = few_left (ctx_at plan past line) in
-    record {
-      earlier = gos_block plan n past line;
-      e = entry_after plan (gos plan n past line) line Go;
-      is = most_gos_is plan past line ∙ gos_is plan (suc n) past line;
-      cmd = refl;
-      ends = last plan (gos plan n past line) line on.1;
-      goes_on = on.0;
-      made = gos_made plan (suc n) past line;
-      few = rw (length-gos_block plan n past line) (omega arith);
-    }
-
 pub each_go_all_ends : EachGoAllEnds
 each_go_all_ends plan past line legal =
-    let is = gone plan past line in
-    (is.earlier, is.e, is.is, is.ends, is.goes_on, is.few)
+    let n : ℕ = gos_left (ctx_at plan past line) in
+    let on = gos_go_on plan n 0 past line (omega arith) in
+    let few = few_left (ctx_at plan past line) in (
+      gos_block plan n past line,
+      entry_after plan (gos plan n past line) line Go,
+      most_gos_is plan past line ∙ gos_is plan (suc n) past line,
+      last plan (gos plan n past line) line on.1,
+      on.0,
+      rw (length-gos_block plan n past line) (omega (arith, few)),
+    )

@@ -1,12 +1,12 @@
 -- A guest's Secure pages keep their order, and one that becomes Secure stands behind them.
-use Rattle.std.proofs.Common.{◌≡◌, ℕ, ◌<◌, List, [], ◌∷◌, ◌++◌, length, take, Bool, true, false, not, refl, ap, sym, ◌∙◌, ◌==◌, arith, inl, inr}
+use Rattle.std.proofs.Common.{◌≡◌, ℕ, ◌<◌, List, [], ◌∷◌, ◌++◌, length, take, true, not, refl, ap, sym, ◌∙◌, ◌==◌, arith, inl, inr}
 use Rattle.std.specs.List.{filter}
 use Rattle.std.proofs.lemmas.Bool.{cases_eq}
 use Rattle.std.proofs.Math.Seq.{take-append_seam, take-length}
 use Rattle.std.proofs.lemmas.Bool.{ne_eqb}
 use Rattle.pef_model.specs.Plan.{Plan}
 use Rattle.pef_model.specs.Event.{Event}
-use Rattle.pef_model.specs.GuestPart.{Page, GuestPart, start_part_of, put, secured, begun_out, begun_in, refused_in, ended_out, is_secure, with_secure_page, with_running_vcpu, with_parked_vcpu, with_page_leaving, with_page_out, with_page_coming, with_page_refused}
+use Rattle.pef_model.specs.GuestPart.{Page, GuestPart, put, secured, begun_out, begun_in, refused_in, ended_out, is_secure, with_secure_page, with_running_vcpu, with_parked_vcpu, with_page_leaving, with_page_out, with_page_coming, with_page_refused}
 use Rattle.pef_model.specs.CountLaw.{part_after, OrderGrows}
 use Rattle.pef_model.proofs.Folds.{same_test}
 use Rattle.pef_model.proofs.Times.{times, times_passed, times_stopped, same_filter, filter_all}
@@ -52,10 +52,7 @@ listed_kept g h = record {
 
 -- so they are after each history
 all_listed : (plan : Plan) (past : List Event) (lpid : ℕ) → IsListed (part_after plan past lpid)
-all_listed plan [] lpid = by_birth (plan.is_born lpid) where
-  by_birth : (b : Bool) → IsListed (start_part_of b)
-  by_birth true gfn some = absurd (omega arith)
-  by_birth false gfn some = absurd (omega arith)
+all_listed plan [] lpid = λ gfn some. absurd (omega arith)
 all_listed plan (e ∷ past) lpid = holds_after IsListed plan past e lpid (listed_kept (part_after plan past lpid) (all_listed plan past lpid))
 
 -- the new order begins with the old one's pages that are still Secure

@@ -1,7 +1,10 @@
 -- Which change a step of a guest makes.
-use Rattle.std.proofs.Common.{◌≡◌, ℕ, ◌<◌, nat_lt, List, Bool, true, false, refl, ap, ◌∙◌, ◌==◌, if◌then◌else◌, Option, Some, None, is_some, arith}
+use Rattle.std.proofs.Common.{◌≡◌, ℕ, ◌%◌, ◌<◌, nat_lt, List, [], Bool, true, false, refl, ap, ◌==◌, if◌then◌else◌, Option, Some, None, is_some, arith, sym, ◌+◌, slice_index, ◌∷◌}
 use Rattle.std.proofs.lemmas.Bool.{and_parts}
 use Rattle.std.proofs.lemmas.Bool.Decides.{nat_tests}
+use Rattle.pef_model.specs.declared.entry.PoolSaw.{PoolSaw}
+use Rattle.pef_model.specs.declared.state.Phase.{Phase}
+use Rattle.pef_model.specs.declared.state.Phase.TheVariants as phase
 use Rattle.pef_model.specs.declared.state.Kind.{Kind}
 use Rattle.pef_model.specs.declared.state.Kind.TheVariants as kind
 use Rattle.pef_model.specs.declared.state.Mover.{Mover}
@@ -11,71 +14,55 @@ use Rattle.pef_model.specs.declared.command.Cmd.{Cmd}
 use Rattle.pef_model.specs.declared.command.Cmd.TheVariants.{HLd, HSt, UPagein, UPageout, UReturn, GLi, GLd, GSt, GIrq, Go}
 use Rattle.pef_model.specs.declared.entry.Answer.{Answer}
 use Rattle.pef_model.specs.declared.entry.Answer.TheVariants as answer
+use Rattle.pef_model.specs.Memory.{offset_of}
 use Rattle.pef_model.specs.Plan.{Plan}
 use Rattle.pef_model.specs.Event.{Event, Mark}
-use Rattle.pef_model.specs.Target.{Ask, AtGuest, target_in}
-use Rattle.pef_model.specs.Cpu.{CpuPart, cpu_after_guest}
-use Rattle.pef_model.specs.GuestPart.{Page, GuestPart, page_of, has_place, is_invalid, with_secure_page, with_page_backed, part_after_guest, part_after_access}
-use Rattle.pef_model.specs.Guest.{Guest, private_doubleword}
-use Rattle.pef_model.specs.Deed.{Deed, Reach, NoPage, InFrame, Backs, NoFrame, Moves, reach, reach_of, reach_kind, reach_invalid, deed_access, deed_running, deed_gone}
-use Rattle.pef_model.specs.History.{guest_after, pool_after, deed_after}
+use Rattle.pef_model.specs.Target.{Ask, AtGuest, target_in, frame_of}
+use Rattle.pef_model.specs.Cpu.{CpuPart, cpu_of_guest}
+use Rattle.pef_model.specs.GuestPart.{Page, GuestPart, Meeting, NoPlace, Moves, Private, Unbacked, meets, meets_in, meets_page, meets_kind, part_in, part_of_access, page_of, has_place, is_invalid, with_secure_page, Normal}
+use Rattle.pef_model.specs.Guest.{Guest}
+use Rattle.pef_model.specs.Deed.{Deed, deed_access, deed_running, deed_gone}
+use Rattle.pef_model.specs.History.{guest_after, pool_after, deed_after, found_after}
 use Rattle.pef_model.proofs.Changes as change
 use Rattle.pef_model.proofs.Changes.{Change, asked, entry, at_guest, at_guest_same, at_one}
 
--- a page that an access backs
-record IsBacked (page : Page) (any place : Bool) : Type 0 where
-  placed : place ≡ true
-  invalid : is_invalid page ≡ true
-  at_rest : page.mover ≡ None
-  some : any ≡ true
+-- a page of a place that is Invalid at rest
+record IsUnbacked (plan : Plan) (g : GuestPart) (gpa : ℕ) : Type 0 where
+  placed : has_place plan gpa ≡ true
+  invalid : is_invalid (g.pages (page_of plan gpa)) ≡ true
+  at_rest : (g.pages (page_of plan gpa)).mover ≡ None
 
--- what an access finds of the page: Invalid at rest where it backs it, and not Invalid where it lies in a frame
-abbrev Finds : Page → Bool → Bool → Reach → Type 0
-Finds page any place NoPage = Unit {0}
-Finds page any place InFrame = is_invalid page ≡ false
-Finds page any place Backs = IsBacked page any place
-Finds page any place NoFrame = Unit {0}
-Finds page any place Moves = Unit {0}
+-- by its kind
+unbacked_kind : (k : Kind) → meets_kind k ≡ Unbacked → k ≡ kind.Invalid
+unbacked_kind kind.Invalid h = refl
+unbacked_kind kind.Secure h = cc
+unbacked_kind kind.Out h = cc
+unbacked_kind (kind.Shared None fresh) h = cc
+unbacked_kind (kind.Shared (Some n) fresh) h = cc
 
--- by whether the page moves, and by its kind
-finds_page : (page : Page) (any place : Bool) → place ≡ true → Finds page any place (reach_of page any)
-finds_page page any place here = by_mover page.mover refl where
-  with_kind : Kind → Page
-  with_kind k = record page { kind = k }
+unbacked_page : (page : Page) → meets_page page ≡ Unbacked → (page.kind ≡ kind.Invalid) × (page.mover ≡ None)
+unbacked_page page = by_mover page.mover refl where
+  by_mover : (mover : Option Mover) → page.mover ≡ mover → (if is_some mover then Moves else meets_kind page.kind) ≡ Unbacked → (page.kind ≡ kind.Invalid) × (page.mover ≡ None)
+  by_mover None rests h = (unbacked_kind page.kind h, rests)
+  by_mover (Some mover) rests h = cc
 
-  by_any : (k : Kind) → k ≡ kind.Invalid → page.mover ≡ None → (b : Bool) → any ≡ b → Finds (with_kind k) any place (reach_invalid b)
-  by_any k invalid rests true t = record { placed = here; invalid = ap (λ (x : Kind). is_invalid (with_kind x)) invalid; at_rest = rests; some = t }
-  by_any k invalid rests false t = tt
+unbacked_place : (plan : Plan) (g : GuestPart) (gpa : ℕ) (b : Bool) → has_place plan gpa ≡ b → (if b then meets_page (g.pages (page_of plan gpa)) else NoPlace) ≡ Unbacked → IsUnbacked plan g gpa
+unbacked_place plan g gpa true t h =
+    let found = unbacked_page (g.pages (page_of plan gpa)) h in
+    record { placed = t; invalid = ap (λ (k : Kind). is_invalid (record (g.pages (page_of plan gpa)) { kind = k })) found.0; at_rest = found.1 }
+unbacked_place plan g gpa false t h = cc
 
-  by_kind : (k : Kind) → page.mover ≡ None → Finds (with_kind k) any place (reach_kind k any)
-  by_kind kind.Invalid rests = by_any kind.Invalid refl rests any refl
-  by_kind kind.Secure rests = refl
-  by_kind kind.Out rests = tt
-  by_kind (kind.Shared frame fresh) rests = tt
+-- an access meets no other page so
+unbacked : (plan : Plan) (g : GuestPart) (gpa : ℕ) → meets plan g gpa ≡ Unbacked → IsUnbacked plan g gpa
+unbacked plan g gpa h = by_phase g.phase h where
+  by_entry : (b c : Bool) → (if b then (if c then Normal (frame_of plan g.entry.base + page_of plan gpa) else NoPlace) else NoPlace) ≡ Unbacked → IsUnbacked plan g gpa
+  by_entry true true k = cc
+  by_entry true false k = cc
+  by_entry false c k = cc
 
-  by_mover : (mover : Option Mover) → page.mover ≡ mover → Finds page any place (if is_some mover then Moves else reach_kind page.kind any)
-  by_mover None rests = by_kind page.kind rests
-  by_mover (Some mover) rests = tt
-
--- the page of the address, if it has one
-finds : (plan : Plan) (g : GuestPart) (any : Bool) (gpa : ℕ) → Finds (g.pages (page_of plan gpa)) any (has_place plan gpa) (reach plan g any gpa)
-finds plan g any gpa = by_place (has_place plan gpa) refl where
-  by_place : (b : Bool) → has_place plan gpa ≡ b → Finds (g.pages (page_of plan gpa)) any (has_place plan gpa) (if b then reach_of (g.pages (page_of plan gpa)) any else NoPage)
-  by_place true t = finds_page (g.pages (page_of plan gpa)) any (has_place plan gpa) t
-  by_place false t = tt
-
--- a guest that has ended stays as it is
-gone_keeps : (plan : Plan) (g : GuestPart) (vid : ℕ) (cmd : Cmd) → part_after_guest plan g vid cmd answer.Gone ≡ g
-gone_keeps plan g vid (HLd ra) = refl
-gone_keeps plan g vid (HSt ra value) = refl
-gone_keeps plan g vid (UPagein lpid src gpa flags order) = refl
-gone_keeps plan g vid (UPageout lpid dest gpa flags order) = refl
-gone_keeps plan g vid (UReturn r0 r2 outs) = refl
-gone_keeps plan g vid (GLi rd value) = refl
-gone_keeps plan g vid (GLd rd gpa) = refl
-gone_keeps plan g vid (GSt rs gpa) = refl
-gone_keeps plan g vid GIrq = refl
-gone_keeps plan g vid Go = refl
+  by_phase : (phase : Phase) → meets_in phase plan g gpa ≡ Unbacked → IsUnbacked plan g gpa
+  by_phase phase.Normal k = by_entry (gpa % 8 == 0) (nat_lt (page_of plan gpa) g.entry.length_) k
+  by_phase phase k = unbacked_place plan g gpa (has_place plan gpa) refl k
 
 module _ (plan : Plan) (past : List Event) (cpu : CpuPart) (mark : Mark) (run : Run) (h : cpu.ctx ≡ ctx.Guest run) where
   abbrev g : Guest
@@ -91,18 +78,12 @@ module _ (plan : Plan) (past : List Event) (cpu : CpuPart) (mark : Mark) (run : 
   entry_of cmd deed = entry cpu (ctx.Guest run) mark cmd deed
 
   -- an access with this answer where it is done
-  access : (cmd : Cmd) (success : Answer) (gpa : ℕ) → target_in plan (ctx.Guest run) cpu.lpid cmd ≡ AtGuest run.lpid →
-      ((a : Answer) → part_after_guest plan g.part run.vid cmd a ≡ part_after_access g.part (page_of plan gpa) a) →
-      part_after_access g.part (page_of plan gpa) success ≡ with_page_backed g.part (page_of plan gpa) → cpu_after_guest cpu run success ≡ cpu →
-      (r : Reach) → Finds (g.part.pages (page_of plan gpa)) any (has_place plan gpa) r → Change plan past cpu (entry_of cmd (deed_access (ask_of cmd) success r))
-  access cmd success gpa target part backs stays NoPage found =
-      at_one plan past cpu _ run.lpid (record { ctx_is = refl; hand_is = refl; lpid_is = refl }) target (part answer.Hole) refl
-  access cmd success gpa target part backs stays InFrame found =
-      at_one plan past cpu _ run.lpid
-      (record { ctx_is = ap (λ (x : CpuPart). x.ctx) stays; hand_is = ap (λ (x : CpuPart). x.hand) stays; lpid_is = ap (λ (x : CpuPart). x.lpid) stays })
-      target (part success ∙ backs ∙ ap (λ (b : Bool). if b then with_secure_page g.part (page_of plan gpa) else g.part) found) refl
-  access cmd success gpa target part backs stays Backs found =
-      let some : 0 < pool_after plan past = let t = found.some in grind (arith, nat_tests) in
+  access : (cmd : Cmd) (success : Answer) (through : ℕ → Answer) (out : List ℕ) (gpa : ℕ) → target_in plan (ctx.Guest run) cpu.lpid cmd ≡ AtGuest run.lpid →
+      ((pool : Option PoolSaw) → part_in plan g.part (ctx.Guest run) success cmd pool cpu.vid mark.cpu [] ≡ part_of_access g.part (page_of plan gpa) pool) → ((shown : List ℕ) → cpu_of_guest cpu run success shown ≡ cpu) →
+      (b : Bool) → any ≡ b → (m : Meeting) → meets plan g.part gpa ≡ m → Change plan past cpu (entry_of cmd (deed_access (ask_of cmd) success through out b m))
+  access cmd success through out gpa target does stays true some Unbacked met =
+      let found = unbacked plan g.part gpa met in
+      let free : 0 < pool_after plan past = grind (arith, nat_tests) in
       let below : nat_lt (page_of plan gpa) plan.pages ≡ true = let place = and_parts _ (nat_lt (page_of plan gpa) plan.pages) found.placed in place.1 in
       change.Backs (record {
         run = run;
@@ -111,32 +92,34 @@ module _ (plan : Plan) (past : List Event) (cpu : CpuPart) (mark : Mark) (run : 
         invalid = found.invalid;
         at_rest = found.at_rest;
         placed = grind (arith, nat_tests);
-        cpu_is = record { ctx_is = ap (λ (x : CpuPart). x.ctx) stays; hand_is = ap (λ (x : CpuPart). x.hand) stays; lpid_is = ap (λ (x : CpuPart). x.lpid) stays };
-        parts = at_guest plan past (entry_of cmd (deed_access (ask_of cmd) success Backs)) run.lpid (with_secure_page g.part (page_of plan gpa)) target
-            (part success ∙ backs ∙ ap (λ (b : Bool). if b then with_secure_page g.part (page_of plan gpa) else g.part) found.invalid);
+        cpu_is = record { ctx_is = sym h; hand_is = refl; lpid_is = ap (λ (x : CpuPart). x.lpid) (stays []) };
+        parts = at_guest plan past (entry_of cmd (deed_access (ask_of cmd) success through out true Unbacked)) run.lpid (with_secure_page g.part (page_of plan gpa)) target (does (Some (record { any = true; taken = 1; given = 0 })));
         pool = omega arith;
       })
-  access cmd success gpa target part backs stays NoFrame found =
-      at_one plan past cpu _ run.lpid (record { ctx_is = refl; hand_is = refl; lpid_is = refl }) target (part answer.Hole) (omega arith)
-  access cmd success gpa target part backs stays Moves found =
-      at_one plan past cpu _ run.lpid (record { ctx_is = refl; hand_is = refl; lpid_is = refl }) target (part answer.Again) refl
+  access cmd success through out gpa target does stays false none Unbacked met =
+      at_one plan past cpu _ run.lpid (record { ctx_is = sym h; hand_is = refl; lpid_is = refl }) target refl (omega arith)
+  access cmd success through out gpa target does stays b free Private met =
+      at_one plan past cpu _ run.lpid
+      (record { ctx_is = sym h; hand_is = refl; lpid_is = ap (λ (x : CpuPart). x.lpid) (stays []) })
+      target (does None) refl
+  access cmd success through out gpa target does stays b free m met = at_one plan past cpu _ run.lpid (record { ctx_is = sym h; hand_is = refl; lpid_is = refl }) target refl refl
 
   -- a command of a guest that lives
-  running : (cmd : Cmd) → target_in plan (ctx.Guest run) cpu.lpid cmd ≡ AtGuest run.lpid → Change plan past cpu (entry_of cmd (deed_running plan g any (ask_of cmd) cmd))
+  running : (cmd : Cmd) → target_in plan (ctx.Guest run) cpu.lpid cmd ≡ AtGuest run.lpid → Change plan past cpu (entry_of cmd (deed_running plan run g (found_after plan past) any (ask_of cmd) cmd))
   running (HLd ra) target = cc
   running (HSt ra value) target = cc
-  running (UPagein lpid src gpa flags order) target = at_one plan past cpu _ run.lpid (record { ctx_is = refl; hand_is = refl; lpid_is = refl }) target refl refl
-  running (UPageout lpid dest gpa flags order) target = at_one plan past cpu _ run.lpid (record { ctx_is = refl; hand_is = refl; lpid_is = refl }) target refl refl
-  running (UReturn r0 r2 outs) target = at_one plan past cpu _ run.lpid (record { ctx_is = refl; hand_is = refl; lpid_is = refl }) target refl refl
-  running (GLi rd value) target = at_one plan past cpu _ run.lpid (record { ctx_is = refl; hand_is = refl; lpid_is = refl }) target refl refl
+  running (UPagein lpid src gpa flags order) target = at_one plan past cpu _ run.lpid (record { ctx_is = sym h; hand_is = refl; lpid_is = refl }) target refl refl
+  running (UPageout lpid dest gpa flags order) target = at_one plan past cpu _ run.lpid (record { ctx_is = sym h; hand_is = refl; lpid_is = refl }) target refl refl
+  running (UReturn r0 r2 outs) target = at_one plan past cpu _ run.lpid (record { ctx_is = sym h; hand_is = refl; lpid_is = refl }) target refl refl
+  running (GLi rd value) target = at_one plan past cpu _ run.lpid (record { ctx_is = sym h; hand_is = refl; lpid_is = refl }) target refl refl
   running (GLd rd gpa) target =
-      access (GLd rd gpa) (answer.Val (private_doubleword plan g gpa)) gpa target (λ a. refl) refl refl (reach plan g.part any gpa) (finds plan g.part any gpa)
-  running (GSt rs gpa) target = access (GSt rs gpa) answer.Done gpa target (λ a. refl) refl refl (reach plan g.part any gpa) (finds plan g.part any gpa)
+      access (GLd rd gpa) (answer.Val (g.content gpa)) (λ n. answer.Val (found_after plan past n (offset_of plan gpa))) [] gpa target (λ pool. refl) (λ shown. refl) any refl (meets plan g.part gpa) refl
+  running (GSt rs gpa) target = access (GSt rs gpa) answer.Done (λ n. answer.Done) (slice_index (g.registers run.vid).gpr rs ∷ []) gpa target (λ pool. refl) (λ shown. refl) any refl (meets plan g.part gpa) refl
   running GIrq target = change.Parked (record {
     run = run;
     before = h;
     cpu_is = record { ctx_is = refl; hand_is = refl; lpid_is = refl };
-    parts = at_guest plan past (entry_of GIrq (deed_running plan g any (ask_of GIrq) GIrq)) run.lpid _ target refl;
+    parts = at_guest plan past (entry_of GIrq (deed_running plan run g (found_after plan past) any (ask_of GIrq) GIrq)) run.lpid _ target refl;
     pool = refl;
   })
   running Go target = cc
@@ -146,7 +129,7 @@ module _ (plan : Plan) (past : List Event) (cpu : CpuPart) (mark : Mark) (run : 
       Change plan past cpu (entry_of cmd (deed_after plan past (ask_of cmd) cmd (AtGuest run.lpid)))
   at_own cmd target = by_life (run.generation == g.part.generation) where
     deed : Bool → Deed
-    deed b = if b then deed_running plan g any (ask_of cmd) cmd else deed_gone (ask_of cmd)
+    deed b = if b then deed_running plan run g (found_after plan past) any (ask_of cmd) cmd else deed_gone (ask_of cmd)
 
     by_life : (b : Bool) → Change plan past cpu (entry_of cmd (deed b))
     by_life true = running cmd target
@@ -154,6 +137,6 @@ module _ (plan : Plan) (past : List Event) (cpu : CpuPart) (mark : Mark) (run : 
       run = run;
       before = h;
       cpu_is = record { ctx_is = refl; hand_is = refl; lpid_is = refl };
-      parts = at_guest_same plan past (entry_of cmd (deed false)) run.lpid target (gone_keeps plan g.part run.vid cmd);
+      parts = at_guest_same plan past (entry_of cmd (deed false)) run.lpid target refl;
       pool = refl;
     })

@@ -2,6 +2,8 @@
 use Rattle.std.proofs.Common.{◌≡◌, ℕ, nat_lt, List, Bool, true, false, not, refl, ap, sym, ◌==◌, ◌&&◌, ◌||◌, if◌then◌else◌, Option, Some, None, is_some, arith}
 use Rattle.std.proofs.lemmas.Bool.{and_parts, not-false, or_parts}
 use Rattle.std.proofs.lemmas.Bool.Decides.{nat_tests}
+use Rattle.pef_model.specs.declared.state.Phase.{Phase}
+use Rattle.pef_model.specs.declared.state.Phase.TheVariants as phase
 use Rattle.pef_model.specs.declared.state.Kind.{Kind}
 use Rattle.pef_model.specs.declared.state.Kind.TheVariants as kind
 use Rattle.pef_model.specs.declared.state.Move.{Move}
@@ -19,9 +21,9 @@ use Rattle.pef_model.specs.Plan.{Plan}
 use Rattle.pef_model.specs.Event.{Event, Mark}
 use Rattle.pef_model.specs.Target.{Ask, Alone, AtGuest, AtFrame, frame_of, target_of_work, target_in, is_guest}
 use Rattle.pef_model.specs.Cpu.{CpuPart}
-use Rattle.pef_model.specs.GuestPart.{Page, GuestPart, page_of, with_running_vcpu, with_page_leaving, with_page_out, part_after_work}
+use Rattle.pef_model.specs.GuestPart.{Page, GuestPart, page_of, with_running_vcpu, with_page_leaving, with_page_out}
 use Rattle.pef_model.specs.Guest.{Guest}
-use Rattle.pef_model.specs.PageOut.{may_page_out_in, has_frame, has_page, can_go_out, is_shared, is_starting, page_out_code, sealed_page}
+use Rattle.pef_model.specs.PageOut.{may_page_out_in, has_frame, has_page, can_go_out, is_shared, is_starting, page_out_code, bytes_out}
 use Rattle.pef_model.specs.Deed.{Deed, answering, giving, coming_back, returning, may_return_in, is_waiting, deed_page_out_begin, deed_return}
 use Rattle.pef_model.specs.History.{guest_after, deed_after}
 use Rattle.pef_model.specs.CountLaw.{part_after}
@@ -47,9 +49,17 @@ pub no_mover : (mover : Option Mover) → is_some mover ≡ false → mover ≡ 
 no_mover None h = refl
 no_mover (Some mover) h = cc
 
--- UV_PAGE_OUT begins to move only a Secure page at rest
+-- a phase of UV_PAGE_OUT in which a guest isn't on its way to become secure
+secure_phase : (p : Phase) → may_page_out_in p ≡ true → is_starting p ≡ false → p ≡ phase.Secure
+secure_phase phase.Absent may there = cc
+secure_phase phase.Normal may there = cc
+secure_phase phase.Starting may there = cc
+secure_phase phase.Secure may there = refl
+secure_phase phase.Aborting may there = cc
+
+-- UV_PAGE_OUT begins to move only a Secure page at rest, of a Secure guest
 page_begins : (plan : Plan) (g : GuestPart) (dest gpa flags order : ℕ) → page_out_code plan g dest gpa flags order ≡ None →
-    ((g.pages (page_of plan gpa)).kind ≡ kind.Secure) × ((g.pages (page_of plan gpa)).mover ≡ None)
+    ((g.pages (page_of plan gpa)).kind ≡ kind.Secure) × ((g.pages (page_of plan gpa)).mover ≡ None) × (g.phase ≡ phase.Secure)
 page_begins plan g dest gpa flags order h =
     let page : Page = g.pages (page_of plan gpa) in
     let phases = passes (not (may_page_out_in g.phase)) UParameter _ h in
@@ -62,17 +72,12 @@ page_begins plan g dest gpa flags order h =
     let busy = passes (is_starting g.phase || is_some page.mover) UBusy _ shared.1 in
     let goes = and_parts (has_page plan gpa) (can_go_out page.kind) (not-false (has_page plan gpa && can_go_out page.kind) pages.0) in
     let rests = or_parts (is_starting g.phase) (is_some page.mover) busy.0 in
-    (secure_kind page.kind goes.1 shared.0, no_mover page.mover rests.1)
+    (secure_kind page.kind goes.1 shared.0, no_mover page.mover rests.1, secure_phase g.phase (not-false (may_page_out_in g.phase) phases.0) rests.0)
 
 -- the next step of a call in progress aims as its move says
 pub work_aims : (work : Work) (b : Bool) → (move_of work).copied ≡ b → target_of_work work Go ≡ (if b then AtGuest (move_of work).lpid else AtFrame (move_of work).frame)
 work_aims (Inward move) b t = ap (λ (c : Bool). if c then AtGuest move.lpid else AtFrame move.frame) t
 work_aims (Outward move) b t = ap (λ (c : Bool). if c then AtGuest move.lpid else AtFrame move.frame) t
-
--- a call that comes back with U_PARAMETER leaves the guest's public part
-gone_keeps : (g : GuestPart) (work : Work) → part_after_work g work (answer.Ret UParameter) ≡ g
-gone_keeps g (Inward move) = refl
-gone_keeps g (Outward move) = refl
 
 module _ (plan : Plan) (past : List Event) (cpu : CpuPart) (mark : Mark) where
   -- the hypervisor's loads and stores
@@ -134,10 +139,10 @@ module _ (plan : Plan) (past : List Event) (cpu : CpuPart) (mark : Mark) where
           generation = refl;
           kind_is = begins.0;
           at_rest = begins.1;
-          sealed = refl;
+          sealed = ap (λ (p : Phase). bytes_out p plan g lpid (page_of plan gpa)) begins.2;
           begins = λ named gfn. refl;
           cpu_is = record { ctx_is = refl; hand_is = refl; lpid_is = refl };
-          parts = at_guest plan past (entry cpu ctx.Hv mark (UPageout lpid dest gpa flags order) (deed None)) lpid (with_page_leaving g.part (page_of plan gpa) mark.cpu (sealed_page plan g lpid (page_of plan gpa))) target refl;
+          parts = at_guest plan past (entry cpu ctx.Hv mark (UPageout lpid dest gpa flags order) (deed None)) lpid (with_page_leaving g.part (page_of plan gpa) mark.cpu (bytes_out g.part.phase plan g lpid (page_of plan gpa))) target refl;
           pool = refl;
         })
     by_code (Some code) t = at_one plan past cpu _ lpid (record { ctx_is = sym h; hand_is = refl; lpid_is = refl }) target refl refl
@@ -157,6 +162,11 @@ module _ (plan : Plan) (past : List Event) (cpu : CpuPart) (mark : Mark) where
       at_none plan past (entry cpu (ctx.Uv work) mark Go (deed_after plan past (asked cpu (ctx.Uv work) Go) Go (AtFrame (move_of work).frame)))
       (λ lpid. ap (is_guest lpid) (work_aims work false t))
 
+  -- a call that comes back leaves its CPU to the hypervisor
+  comes_back : (work : Work) → LeavesCpu cpu (entry cpu (ctx.Uv work) mark Go (coming_back (asked cpu (ctx.Uv work) Go) UParameter)) ctx.Hv cpu.hand cpu.lpid
+  comes_back (Inward move) = record { ctx_is = refl; hand_is = refl; lpid_is = refl }
+  comes_back (Outward move) = record { ctx_is = refl; hand_is = refl; lpid_is = refl }
+
   -- a call whose guest has ended comes back once its page is copied
   pub gone : (work : Work) → cpu.ctx ≡ ctx.Uv work → (move_of work).copied ≡ true → ((move_of work).generation == (part_after plan past (move_of work).lpid).generation) ≡ false →
       Change plan past cpu (entry cpu (ctx.Uv work) mark Go (coming_back (asked cpu (ctx.Uv work) Go) UParameter))
@@ -164,9 +174,9 @@ module _ (plan : Plan) (past : List Event) (cpu : CpuPart) (mark : Mark) where
     work = work;
     before = h;
     generation = grind (arith, nat_tests);
-    cpu_is = record { ctx_is = refl; hand_is = refl; lpid_is = refl };
+    cpu_is = comes_back work;
     parts = at_guest_same plan past (entry cpu (ctx.Uv work) mark Go (coming_back (asked cpu (ctx.Uv work) Go) UParameter)) (move_of work).lpid (work_aims work true t)
-        (gone_keeps (part_after plan past (move_of work).lpid) work);
+        refl;
     pool = refl;
   })
 

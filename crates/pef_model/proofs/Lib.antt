@@ -1,17 +1,14 @@
 pub mod Folds
 pub mod Lists
-pub mod LineEntries
-pub mod LineFilters
+pub mod NextSteps
 pub mod GoAll
-pub mod OnlyGone
+pub mod OneNext
 pub mod Runs
 pub mod NextValues
 pub mod Opened
 pub mod Secrets
 pub mod Deeds
 pub mod Stores
-pub mod Backed
-pub mod Held
 pub mod Loads
 pub mod Called
 pub mod Assigned
@@ -39,7 +36,7 @@ pub mod Parts
 pub mod Times
 pub mod Orders
 pub mod Grown
-pub mod First
+mod Ranges
 pub mod Frames
 pub mod KeptStores
 pub mod Fresh
@@ -50,7 +47,6 @@ pub mod WrittenLines
 pub mod WrittenScript
 pub mod ReadCommands
 pub mod Grammar
-pub mod Rows
 pub mod Doublewords
 pub mod Places
 pub mod PageBytes
@@ -63,6 +59,7 @@ pub mod Placed
 pub mod Hands
 pub mod Normal
 pub mod Written
+pub mod FrameOpen
 pub mod AlikeEntries
 pub mod Views
 pub mod AlikeRuns
@@ -74,3 +71,13 @@ pub mod ThroughHand
 pub mod NormalLoads
 pub mod BegunCalls
 pub mod SoundReports
+pub mod DeedOf
+pub mod ContextAnswers
+pub mod AccessAnswers
+pub mod InvalidPages
+pub mod TagBytes
+pub mod ToldEntries
+pub mod GuestsKeep
+pub mod BusyAnswers
+mod Unworded
+mod Taken

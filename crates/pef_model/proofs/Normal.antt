@@ -1,11 +1,10 @@
 -- Normal memory holds what was last stored there.
-use Rattle.std.proofs.Common.{◌≡◌, ◌≢◌, ℕ, ◌+◌, ◌^◌, ◌<◌, ◌≤◌, List, [], ◌∷◌, length, Bool, true, false, refl, ap, sym, subst, ◌∙◌, ◌==◌, if◌then◌else◌, Option, Some, None, arith}
+use Rattle.std.proofs.Common.{◌≡◌, ◌≢◌, ℕ, ◌+◌, ◌^◌, ◌<◌, ◌≤◌, List, [], ◌∷◌, length, Bool, true, false, refl, ap, sym, subst, ◌∙◌, ◌==◌, if◌then◌else◌, Option, Some, None, arith, ◌%◌, ◌-◌, nat_le, nat_lt, ◌&&◌, inr, inl}
 use Rattle.std.specs.Prelude.{unwrap_or}
 use Rattle.std.specs.List.{AllByRecursion}
 use Rattle.std.proofs.lemmas.Bool.Decides.{nat_tests}
 use Rattle.std.proofs.lemmas.List.{length-replicate}
 use Rattle.pef_model.specs.declared.config.Config.{Config}
-use Rattle.pef_model.specs.declared.state.Move.{Move}
 use Rattle.pef_model.specs.declared.state.Work.TheVariants.{Inward, Outward}
 use Rattle.pef_model.specs.declared.state.Ctx.{Ctx}
 use Rattle.pef_model.specs.declared.state.Ctx.TheVariants as ctx
@@ -17,27 +16,28 @@ use Rattle.pef_model.specs.Plan.{Plan, plan_of, IsInRange}
 use Rattle.pef_model.specs.Event.{Event}
 use Rattle.pef_model.specs.Doubleword.{doubleword, with_doubleword}
 use Rattle.pef_model.specs.Target.{frame_of, has_real_place, target_in, is_guest, is_number, touches_guest, touches_frame}
-use Rattle.pef_model.specs.Memory.{offset_of, written_in, next_frame, start_frame}
+use Rattle.pef_model.specs.Memory.{offset_of, write_in, writes_in, after_writes, overwritten, next_frame, start_frame, Write, either_of, writes_of, covers, written_at}
 use Rattle.pef_model.specs.Guest.{start_guest, next_guest}
-use Rattle.pef_model.specs.History.{frame_after, norm_by, last_norm, IsLegal}
-use Rattle.pef_model.specs.SearchLaw.{IsCommand}
-use Rattle.pef_model.specs.NormalLaw.{FramesHoldLastNorm, GuestLeavesFrames, StoreLeavesGuests}
-use Rattle.pef_model.proofs.Folds.{test_same, counts, skips}
-use Rattle.pef_model.proofs.Puts.{apart_by}
+use Rattle.pef_model.specs.History.{frame_after, last_norm, IsLegal}
+use Rattle.pef_model.specs.NormalLaw.{FramesHoldLastNorm, GuestLeavesFrames, StoreLeavesGuests, StoreIsLastNorm}
+use Rattle.byteorder.specs.Endian.{big_bytes}
+use Rattle.pef_model.proofs.Written.{doubleword_overwrites, frame_written}
+use Rattle.pef_model.proofs.Folds.{test_same, same_test, skips}
 use Rattle.pef_model.proofs.Aims.{address_is_no_guest}
-use Rattle.pef_model.proofs.Doublewords.{length-with_doubleword, doubleword-put, doubleword-other, doubleword-zeros}
-use Rattle.pef_model.proofs.Places.{room_at, apart_at}
+use Rattle.pef_model.proofs.Doublewords.{doubleword-put, doubleword-zeros, overwritten_inside, overwritten_outside, length-overwritten}
+use Rattle.pef_model.proofs.Places.{room_at, offset_aligned, doublewords_of}
 use Rattle.pef_model.proofs.Placed.{store_is_placed, copy_is_placed, aligned}
 use Rattle.pef_model.proofs.Hands.{all_fill}
 
--- a step of a guest writes no frame
+-- a step changes no normal frame but the one that it tells
 pub guest_leaves_frames : GuestLeavesFrames
-guest_leaves_frames plan past e run n before = by_test (touches_frame n e) refl where
-  by_test : (b : Bool) → touches_frame n e ≡ b → frame_after plan n (e ∷ past) ≡ frame_after plan n past
-  by_test true t =
-      counts (touches_frame n) (next_frame plan) (start_frame plan) e past t
-      ∙ ap (λ (c : Ctx). written_in c plan (frame_after plan n past) e.trace.cmd e.trace.answer e.bytes) before
-  by_test false t = skips (touches_frame n) (next_frame plan) (start_frame plan) e past t
+guest_leaves_frames plan past e run n before other = skips (touches_frame n) (next_frame plan n) (start_frame plan) e past (untold e.saw.frame other) where
+  untold : (frame : Option ℕ) → frame ≢ Some n → is_number n frame ≡ false
+  untold None other = refl
+  untold (Some m) other = by_test (m == n) refl where
+    by_test : (b : Bool) → (m == n) ≡ b → b ≡ false
+    by_test true t = absurd (other (ap Some (test_same m n t)))
+    by_test false t = refl
 
 -- the hypervisor's store aims at no guest, in whatever context
 store_aims_at_none : (plan : Plan) (c : Ctx) (l ra value lpid : ℕ) → is_guest lpid (target_in plan c l (HSt ra value)) ≡ false
@@ -57,103 +57,119 @@ pub record Holds (plan : Plan) (bytes : List ℕ) (ra value : ℕ) : Type 0 wher
   pub size : length bytes ≡ 2 ^ plan.shift
   pub value_is : doubleword bytes (offset_of plan ra) ≡ value
 
--- a store of the hypervisor that lies in the frame of an address, and a copy into it
-record WritesInFrame (plan : Plan) (ra : ℕ) (c : Ctx) (cmd : Cmd) (a : Answer) (hand : List ℕ) : Type 0 where
-  stores : (at value : ℕ) → c ≡ ctx.Hv → cmd ≡ HSt at value → a ≡ Done → (has_real_place plan at ≡ true) × (frame_of plan at ≡ frame_of plan ra)
-  copies : (move : Move) → c ≡ ctx.Uv (Outward move) → cmd ≡ Go → a ≡ Step → ((move.frame == frame_of plan ra) ≡ true) × (length hand ≡ 2 ^ plan.shift)
+-- a write lies within a frame, and is made of doublewords
+pub record IsWhole (plan : Plan) (write : Write) : Type 0 where
+  pub offset : write.offset % 8 ≡ 0
+  pub size : length write.bytes % 8 ≡ 0
+  pub room : write.offset + length write.bytes ≤ 2 ^ plan.shift
 
--- a store puts its doubleword, and leaves the others
-stored_holds : (plan : Plan) (bytes : List ℕ) (ra at value old : ℕ) → 8 ≤ plan.shift → has_real_place plan ra ≡ true → has_real_place plan at ≡ true →
-    frame_of plan at ≡ frame_of plan ra → value < 2 ^ 64 → Holds plan bytes ra old →
-    Holds plan (with_doubleword bytes (offset_of plan at) value) ra (unwrap_or (if at == ra then Some value else None) old)
-stored_holds plan bytes ra at value old least here there frame small holds = record {
-  size = length-with_doubleword bytes (offset_of plan at) value room ∙ holds.size;
-  value_is = by_test (at == ra) refl;
-} where
-  room : offset_of plan at + 8 ≤ length bytes
-  room = let fits = room_at plan.shift at least (aligned plan at there) in let size = holds.size in omega arith
+-- what one write leaves at an address of its frame
+write_holds : (plan : Plan) (bytes : List ℕ) (ra old : ℕ) (write : Write) → 8 ≤ plan.shift → has_real_place plan ra ≡ true → IsWhole plan write → Holds plan bytes ra old →
+    Holds plan (if write.frame == frame_of plan ra then overwritten bytes write.offset write.bytes else bytes) ra
+    (unwrap_or (if covers plan write ra then Some (doubleword write.bytes (offset_of plan ra - write.offset)) else None) old)
+write_holds plan bytes ra old write least here whole holds = by_frame (write.frame == frame_of plan ra) where
+  off : ℕ
+  off = offset_of plan ra
 
-  by_test : (b : Bool) → (at == ra) ≡ b → doubleword (with_doubleword bytes (offset_of plan at) value) (offset_of plan ra) ≡ unwrap_or (if b then Some value else None) old
-  by_test true t =
-      ap (λ (x : ℕ). doubleword (with_doubleword bytes (offset_of plan at) value) (offset_of plan x)) (sym (test_same at ra t))
-      ∙ doubleword-put bytes (offset_of plan at) value room small
-  by_test false t =
-      let other : at ≢ ra = grind (arith, nat_tests) in
-      doubleword-other bytes (offset_of plan at) (offset_of plan ra) value room
-      (apart_at plan.shift at ra least (aligned plan at there) (aligned plan ra here) frame other)
-      ∙ holds.value_is
+  at_eight : off % 8 ≡ 0
+  at_eight = offset_aligned plan.shift ra least (aligned plan ra here)
 
--- a copy makes the frame the hand
-copied_holds : (plan : Plan) (ra old : ℕ) (hand : List ℕ) (b : Bool) → b ≡ true → length hand ≡ 2 ^ plan.shift →
-    Holds plan hand ra (unwrap_or (if b then Some (doubleword hand (offset_of plan ra)) else None) old)
-copied_holds plan ra old hand true here size = record { size = size; value_is = refl }
-copied_holds plan ra old hand false here size = cc
+  fits : write.offset + length write.bytes ≤ length bytes
+  fits = let size = holds.size in let room = whole.room in omega arith
 
--- a frame after an entry that touches it
-step_holds : (plan : Plan) (bytes : List ℕ) (c : Ctx) (cmd : Cmd) (a : Answer) (hand : List ℕ) (ra old : ℕ) → 8 ≤ plan.shift → has_real_place plan ra ≡ true → IsCommand cmd →
-    Holds plan bytes ra old → WritesInFrame plan ra c cmd a hand → Holds plan (written_in c plan bytes cmd a hand) ra (unwrap_or (norm_by plan ra c cmd a hand) old)
-step_holds plan bytes (ctx.Guest run) cmd a hand ra old least here k holds writes = holds
-step_holds plan bytes (ctx.Uv (Outward move)) Go Step hand ra old least here k holds writes =
-    let copy = writes.copies move refl refl refl in
-    copied_holds plan ra old hand (move.frame == frame_of plan ra) copy.0 copy.1
-step_holds plan bytes (ctx.Uv (Outward move)) cmd a hand ra old least here k holds writes = holds
-step_holds plan bytes (ctx.Uv (Inward move)) cmd a hand ra old least here k holds writes = holds
-step_holds plan bytes ctx.Hv (HSt at value) Done hand ra old least here k holds writes =
-    let store = writes.stores at value refl refl refl in
-    stored_holds plan bytes ra at value old least here store.0 store.1 k holds
-step_holds plan bytes ctx.Hv cmd a hand ra old least here k holds writes = holds
+  new : List ℕ
+  new = overwritten bytes write.offset write.bytes
 
--- an entry that doesn't touch the frame of an address decides nothing there
-decides_nothing : (plan : Plan) (ra : ℕ) (c : Ctx) (cmd : Cmd) (a : Answer) (hand : List ℕ) → ((at value : ℕ) → c ≡ ctx.Hv → cmd ≡ HSt at value → a ≡ Done → (at == ra) ≡ false) →
-    ((move : Move) → c ≡ ctx.Uv (Outward move) → cmd ≡ Go → a ≡ Step → (move.frame == frame_of plan ra) ≡ false) → norm_by plan ra c cmd a hand ≡ None
-decides_nothing plan ra (ctx.Guest run) cmd a hand stores copies = refl
-decides_nothing plan ra (ctx.Uv (Outward move)) Go Step hand stores copies = ap (λ (b : Bool). if b then Some (doubleword hand (offset_of plan ra)) else None) (copies move refl refl refl)
-decides_nothing plan ra (ctx.Uv (Outward move)) cmd a hand stores copies = refl
-decides_nothing plan ra (ctx.Uv (Inward move)) cmd a hand stores copies = refl
-decides_nothing plan ra ctx.Hv (HSt at value) Done hand stores copies = ap (λ (b : Bool). if b then Some value else None) (stores at value refl refl refl)
-decides_nothing plan ra ctx.Hv cmd a hand stores copies = refl
+  value : Bool → Option ℕ
+  value b = if b then Some (doubleword write.bytes (off - write.offset)) else None
 
--- so it is after a legal history
-pub frame_holds : (config : Config) (past : List Event) (ra : ℕ) → IsInRange config → IsLegal (plan_of config) past → AllByRecursion (λ (e : Event). IsCommand e.trace.cmd) past →
-    has_real_place (plan_of config) ra ≡ true → Holds (plan_of config) (frame_after (plan_of config) (frame_of (plan_of config) ra) past) ra (last_norm (plan_of config) past ra)
-frame_holds config [] ra range legal commands here = record {
+  by_place : (b c : Bool) → nat_le write.offset off ≡ b → nat_lt off (write.offset + length write.bytes) ≡ c → doubleword new off ≡ unwrap_or (value (b && c)) old
+  by_place true true s t =
+      let low : write.offset ≤ off = grind (arith, nat_tests) in
+      let high : off < write.offset + length write.bytes = grind (arith, nat_tests) in
+      let x = whole.offset in
+      let y = whole.size in
+      overwritten_inside bytes write.bytes write.offset off fits low (omega (arith, at_eight))
+  by_place true false s t =
+      let high : write.offset + length write.bytes ≤ off = grind (arith, nat_tests) in
+      overwritten_outside bytes write.bytes write.offset off fits (inr high) ∙ holds.value_is
+  by_place false c s t =
+      let low : off < write.offset = grind (arith, nat_tests) in
+      let x = whole.offset in
+      overwritten_outside bytes write.bytes write.offset off fits (inl (omega (arith, at_eight))) ∙ holds.value_is
+
+  by_frame : (b : Bool) → Holds plan (if b then new else bytes) ra (unwrap_or (value (b && nat_le write.offset off && nat_lt off (write.offset + length write.bytes))) old)
+  by_frame true = record { size = length-overwritten bytes write.bytes write.offset fits ∙ holds.size; value_is = by_place (nat_le write.offset off) (nat_lt off (write.offset + length write.bytes)) refl refl }
+  by_frame false = holds
+
+either_or : (x y : Option ℕ) (old : ℕ) → unwrap_or (either_of x y) old ≡ unwrap_or x (unwrap_or y old)
+either_or (Some v) y old = refl
+either_or None y old = refl
+
+-- what writes leave there, one after another
+writes_hold : (plan : Plan) (ra : ℕ) (writes : List Write) (bytes : List ℕ) (old : ℕ) → 8 ≤ plan.shift → has_real_place plan ra ≡ true → AllByRecursion (IsWhole plan) writes → Holds plan bytes ra old →
+    Holds plan (after_writes (frame_of plan ra) bytes writes) ra (unwrap_or (written_at plan ra writes) old)
+writes_hold plan ra [] bytes old least here whole holds = holds
+writes_hold plan ra (write ∷ more) bytes old least here whole holds =
+    let value : Option ℕ = if covers plan write ra then Some (doubleword write.bytes (offset_of plan ra - write.offset)) else None in
+    subst (λ (v : ℕ). Holds plan (after_writes (frame_of plan ra) bytes (write ∷ more)) ra v) (sym (either_or (written_at plan ra more) value old))
+    (writes_hold plan ra more (if write.frame == frame_of plan ra then overwritten bytes write.offset write.bytes else bytes) (unwrap_or value old) least here whole.1 (write_holds plan bytes ra old write least here whole.0 holds))
+
+-- a page is some number of doublewords
+page_is_whole : (shift : ℕ) → 8 ≤ shift → 2 ^ shift % 8 ≡ 0
+page_is_whole shift least = let size = doublewords_of shift least in omega arith
+
+-- each write of an entry that extends a history is so
+module _ (config : Config) (past : List Event) (e : Event) (range : IsInRange config) (legal : IsLegal (plan_of config) (e ∷ past)) where
+  abbrev plan : Plan
+  plan = plan_of config
+
+  write_whole : (c : Ctx) (cmd : Cmd) (a : Answer) (n : ℕ) → e.saw.before ≡ c → e.trace.cmd ≡ cmd → e.trace.answer ≡ a → AllByRecursion (IsWhole plan) (write_in plan c cmd a e.bytes n)
+  write_whole ctx.Hv (HSt at value) Done n before cmd_is answer_is =
+      let placed = store_is_placed plan past e at value legal.0 before cmd_is answer_is in
+      let eight = aligned plan at placed.place in
+      (record { offset = offset_aligned plan.shift at range.shift.0 eight; size = refl; room = room_at plan.shift at range.shift.0 eight }, tt)
+  write_whole (ctx.Uv (Outward move)) Go Step n before cmd_is answer_is =
+      let copied = copy_is_placed plan past e move legal.0 before cmd_is answer_is in
+      let fill = all_fill config past range legal.1 in
+      let long : length e.bytes ≡ 2 ^ plan.shift = ap length copied.bytes ∙ fill.hands e.trace.cpu in
+      (record { offset = refl; size = ap (λ (m : ℕ). m % 8) long ∙ page_is_whole plan.shift range.shift.0; room = omega (arith, long) }, tt)
+  write_whole c cmd a n before cmd_is answer_is = tt
+
+  pub all_whole : AllByRecursion (IsWhole plan) (writes_of plan e)
+  all_whole = by_frame e.saw.frame where
+    by_frame : (frame : Option ℕ) → AllByRecursion (IsWhole plan) (writes_in plan e.saw.before e.trace.cmd e.trace.answer e.bytes frame)
+    by_frame None = tt
+    by_frame (Some n) = write_whole e.saw.before e.trace.cmd e.trace.answer n refl refl refl
+
+-- so the frames hold what was last written
+pub frame_holds : (config : Config) (past : List Event) (ra : ℕ) → IsInRange config → IsLegal (plan_of config) past → has_real_place (plan_of config) ra ≡ true →
+    Holds (plan_of config) (frame_after (plan_of config) (frame_of (plan_of config) ra) past) ra (last_norm (plan_of config) past ra)
+frame_holds config [] ra range legal here = record {
   size = length-replicate (2 ^ config.shift) 0;
   value_is = doubleword-zeros (2 ^ config.shift) (offset_of (plan_of config) ra);
 }
-frame_holds config (e ∷ past) ra range legal commands here = by_test (frame_holds config past ra range legal.1 commands.1 here) (touches_frame n e) refl where
-  plan : Plan
-  plan = plan_of config
-
-  n : ℕ
-  n = frame_of plan ra
-
-  by_test : Holds plan (frame_after plan n past) ra (last_norm plan past ra) → (b : Bool) → touches_frame n e ≡ b → Holds plan (frame_after plan n (e ∷ past)) ra (last_norm plan (e ∷ past) ra)
-  by_test ih true t =
-      subst (λ (bytes : List ℕ). Holds plan bytes ra (last_norm plan (e ∷ past) ra)) (sym (counts (touches_frame n) (next_frame plan) (start_frame plan) e past t))
-      (step_holds plan (frame_after plan n past) e.saw.before e.trace.cmd e.trace.answer e.bytes ra (last_norm plan past ra) range.shift.0 here commands.0 ih (record {
-        stores = λ at value before cmd done_is.
-            let placed = store_is_placed plan past e at value legal.0 before cmd done_is in
-            (placed.place, test_same (frame_of plan at) n (ap (is_number n) (sym placed.frame) ∙ t));
-        copies = λ move before cmd step_is.
-            let copied = copy_is_placed plan past e move legal.0 before cmd step_is in
-            (ap (is_number n) (sym copied.frame) ∙ t, let fill = all_fill config past range legal.1 in ap length copied.bytes ∙ fill.hands e.trace.cpu);
-      }))
-  by_test ih false t =
-      let nothing : norm_by plan ra e.saw.before e.trace.cmd e.trace.answer e.bytes ≡ None =
-      decides_nothing plan ra e.saw.before e.trace.cmd e.trace.answer e.bytes
-      (λ at value before cmd done_is.
-      let placed = store_is_placed plan past e at value legal.0 before cmd done_is in
-      let elsewhere : (frame_of plan at == n) ≡ false = ap (is_number n) (sym placed.frame) ∙ t in
-      apart_by (frame_of plan) at ra elsewhere)
-      (λ move before cmd step_is.
-      let copied = copy_is_placed plan past e move legal.0 before cmd step_is in
-      ap (is_number n) (sym copied.frame) ∙ t) in
-      record {
-        size = ap length (skips (touches_frame n) (next_frame plan) (start_frame plan) e past t) ∙ ih.size;
-        value_is = ap (λ (bytes : List ℕ). doubleword bytes (offset_of plan ra)) (skips (touches_frame n) (next_frame plan) (start_frame plan) e past t) ∙ ih.value_is
-            ∙ ap (λ (o : Option ℕ). unwrap_or o (last_norm plan past ra)) (sym nothing);
-      }
+frame_holds config (e ∷ past) ra range legal here =
+    let plan : Plan = plan_of config in
+    let n : ℕ = frame_of plan ra in
+    subst (λ (bytes : List ℕ). Holds plan bytes ra (last_norm plan (e ∷ past) ra)) (sym (frame_written plan e past n))
+    (writes_hold plan ra (writes_of plan e) (frame_after plan n past) (last_norm plan past ra) range.shift.0 here (all_whole config past e range legal) (frame_holds config past ra range legal.1 here))
 
 -- the doubleword at an address is the one last written there
 pub frames_hold_last_norm : FramesHoldLastNorm
-frames_hold_last_norm config past ra range legal commands placed = let holds = frame_holds config past ra range legal commands placed in holds.value_is
+frames_hold_last_norm config past ra range legal placed = let holds = frame_holds config past ra range legal placed in holds.value_is
+
+-- after a store it is the value that was stored
+pub store_is_last_norm : StoreIsLastNorm
+store_is_last_norm config past e ra value range legal before cmd_is answer_is small =
+    let plan : Plan = plan_of config in
+    let n : ℕ = frame_of plan ra in
+    let off : ℕ = offset_of plan ra in
+    let old : List ℕ = frame_after plan n past in
+    let placed = store_is_placed plan past e ra value legal.0 before cmd_is answer_is in
+    let now = frame_holds config past ra range legal.1 placed.place in
+    let fits : off + 8 ≤ length old = let room = room_at plan.shift ra range.shift.0 (aligned plan ra placed.place) in let size = now.size in omega arith in
+    let writes : writes_of plan e ≡ write_in plan ctx.Hv (HSt ra value) Done e.bytes n = (λ i. writes_in plan (before i) (cmd_is i) (answer_is i) e.bytes (placed.frame i)) in
+    let written : frame_after plan n (e ∷ past) ≡ with_doubleword old off value =
+    frame_written plan e past n ∙ ap (after_writes n old) writes ∙ ap (λ (b : Bool). if b then overwritten old off (big_bytes 8 value) else old) (same_test n) ∙ doubleword_overwrites old off value in
+    sym (frames_hold_last_norm config (e ∷ past) ra range legal placed.place) ∙ ap (λ (bytes : List ℕ). doubleword bytes off) written ∙ doubleword-put old off value fits small

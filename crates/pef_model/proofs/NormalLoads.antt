@@ -1,6 +1,5 @@
 -- What the hypervisor loads is what was last written there.
 use Rattle.std.proofs.Common.{◌≡◌, ℕ, List, ◌∷◌, Bool, true, false, refl, ap, sym, ◌∙◌, if◌then◌else◌, []}
-use Rattle.std.specs.List.{AllByRecursion}
 use Rattle.pef_model.specs.declared.config.Config.{Config}
 use Rattle.pef_model.specs.declared.state.Ctx.{Ctx}
 use Rattle.pef_model.specs.declared.state.Ctx.TheVariants as ctx
@@ -10,7 +9,6 @@ use Rattle.pef_model.specs.declared.entry.Answer.{Answer}
 use Rattle.pef_model.specs.declared.entry.Answer.TheVariants.{Val}
 use Rattle.pef_model.specs.Plan.{Plan, IsInRange, plan_of}
 use Rattle.pef_model.specs.Event.{Event}
-use Rattle.pef_model.specs.SearchLaw.{IsCommand}
 use Rattle.pef_model.specs.Target.{Ask, Alone, AtFrame, frame_of, has_real_place, uses_hand, target_in}
 use Rattle.pef_model.specs.Cpu.{CpuPart}
 use Rattle.pef_model.specs.History.{cpu_after, deed_after, ask_of, last_norm, IsLegal}
@@ -23,8 +21,7 @@ value_in : Answer → ℕ
 value_in (Val value) = value
 value_in a = 0
 
-module _ (config : Config) (past : List Event) (e : Event) (ra value : ℕ) (range : IsInRange config) (legal : IsLegal (plan_of config) (e ∷ past))
-    (commands : AllByRecursion (λ (f : Event). IsCommand f.trace.cmd) past) (before : e.saw.before ≡ ctx.Hv) (cmd_is : e.trace.cmd ≡ HLd ra) (answer_is : e.trace.answer ≡ Val value) where
+module _ (config : Config) (past : List Event) (e : Event) (ra value : ℕ) (range : IsInRange config) (legal : IsLegal (plan_of config) (e ∷ past)) (before : e.saw.before ≡ ctx.Hv) (cmd_is : e.trace.cmd ≡ HLd ra) (answer_is : e.trace.answer ≡ Val value) where
   abbrev plan : Plan
   plan = plan_of config
 
@@ -47,7 +44,7 @@ module _ (config : Config) (past : List Event) (e : Event) (ra value : ℕ) (ran
   -- which has a value only where the address has its frame
   by : (b : Bool) → has_real_place plan ra ≡ b → deed_answer b ≡ Val value → value ≡ last_norm plan past ra
   unfolding value_in doubleword
-  by true there k = sym (ap value_in k) ∙ frames_hold_last_norm config past ra range legal.1 commands there
+  by true there k = sym (ap value_in k) ∙ frames_hold_last_norm config past ra range legal.1 there
   by false none k = cc
 
   given : value ≡ last_norm plan past ra
@@ -55,4 +52,4 @@ module _ (config : Config) (past : List Event) (e : Event) (ra value : ℕ) (ran
 
 -- so each load gives it
 pub load_gives_last_norm : LoadGivesLastNorm
-load_gives_last_norm config past e ra value range legal commands before cmd_is answer_is = given config past e ra value range legal commands before cmd_is answer_is
+load_gives_last_norm config past e ra value range legal before cmd_is answer_is = given config past e ra value range legal before cmd_is answer_is

@@ -7,11 +7,10 @@ use Rattle.pef_model.specs.declared.command.Cmd.{Cmd}
 use Rattle.pef_model.specs.declared.command.Cmd.TheVariants.{GLi}
 use Rattle.pef_model.specs.declared.entry.Answer.{Answer}
 use Rattle.pef_model.specs.Plan.{Plan}
-use Rattle.pef_model.specs.Target.{target_in, uses_hand}
+use Rattle.pef_model.specs.Target.{target_in, uses_hand, is_sealing}
 use Rattle.pef_model.specs.Deed.{answer_alone, answer_frame}
 use Rattle.pef_model.specs.Report.{command_name}
-use Rattle.pef_model.specs.SecretLaw.{open_cmd, open_answer, is_sealing}
-use Rattle.pef_model.specs.View.{writes_of}
+use Rattle.pef_model.specs.SecretLaw.{open_cmd, open_answer}
 
 -- a command aims at the same
 pub target_open : (plan : Plan) (c : Ctx) (lpid : ℕ) (cmd : Cmd) → target_in plan c lpid cmd ≡ target_in plan c lpid (open_cmd cmd)
@@ -32,11 +31,11 @@ uses_hand_open (ctx.Uv work) cmd = refl
 uses_hand_open (ctx.Guest run) cmd = refl
 
 -- one that aims at nothing is answered alike
-pub alone_open : (c : Ctx) (cmd : Cmd) → answer_alone c cmd ≡ answer_alone c (open_cmd cmd)
-alone_open ctx.Hv (GLi rd value) = refl
-alone_open ctx.Hv cmd = refl
-alone_open (ctx.Uv work) cmd = refl
-alone_open (ctx.Guest run) cmd = refl
+pub alone_open : (plan : Plan) (c : Ctx) (cmd : Cmd) → answer_alone plan c cmd ≡ answer_alone plan c (open_cmd cmd)
+alone_open plan ctx.Hv (GLi rd value) = refl
+alone_open plan ctx.Hv cmd = refl
+alone_open plan (ctx.Uv work) cmd = refl
+alone_open plan (ctx.Guest run) cmd = refl
 
 -- so is one at a normal frame
 pub frame_answer_open : (plan : Plan) (bytes : List ℕ) (cmd : Cmd) → answer_frame plan bytes cmd ≡ answer_frame plan bytes (open_cmd cmd)
@@ -47,15 +46,6 @@ frame_answer_open plan bytes cmd = refl
 pub name_open : (cmd : Cmd) → command_name cmd ≡ command_name (open_cmd cmd)
 name_open (GLi rd value) = refl
 name_open cmd = refl
-
--- it writes the same
-pub writes_open : (plan : Plan) (c : Ctx) (cmd : Cmd) (a : Answer) (bytes : List ℕ) → writes_of plan c cmd a bytes ≡ writes_of plan c (open_cmd cmd) (open_answer c a) bytes
-writes_open plan ctx.Hv (GLi rd value) a bytes = refl
-writes_open plan ctx.Hv cmd a bytes = refl
-writes_open plan (ctx.Uv (Inward move)) cmd a bytes = refl
-writes_open plan (ctx.Uv (Outward move)) (GLi rd value) a bytes = refl
-writes_open plan (ctx.Uv (Outward move)) cmd a bytes = refl
-writes_open plan (ctx.Guest run) cmd a bytes = refl
 
 -- it begins a page-out or doesn't
 sealing_open : (c : Ctx) (cmd : Cmd) (a : Answer) → is_sealing c cmd a ≡ is_sealing c (open_cmd cmd) (open_answer c a)

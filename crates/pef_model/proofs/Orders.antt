@@ -8,7 +8,7 @@ use Rattle.pef_model.specs.declared.state.Kind.TheVariants as kind
 use Rattle.pef_model.specs.declared.state.Work.TheVariants.{Inward}
 use Rattle.pef_model.specs.Plan.{Plan}
 use Rattle.pef_model.specs.Event.{Event}
-use Rattle.pef_model.specs.GuestPart.{Page, GuestPart, start_part_of, put, secured, begun_out, begun_in, refused_in, ended_out, is_invalid, is_secure, with_secure_page, with_page_out}
+use Rattle.pef_model.specs.GuestPart.{Page, GuestPart, put, secured, begun_out, begun_in, refused_in, ended_out, is_invalid, is_secure, with_secure_page, with_page_out}
 use Rattle.pef_model.specs.History.{cpu_after, IsLegal}
 use Rattle.pef_model.specs.CountLaw.{part_after}
 use Rattle.pef_model.proofs.Folds.{same_test}
@@ -108,9 +108,6 @@ counts_by plan past e all h (Backs x) =
 
 -- so an order has each Secure page once after a legal history
 pub order_has_secure_pages : (plan : Plan) (past : List Event) (lpid gfn : ℕ) → IsLegal plan past → CountsPage gfn (part_after plan past lpid)
-order_has_secure_pages plan [] lpid gfn legal = by_birth (plan.is_born lpid) where
-  by_birth : (b : Bool) → CountsPage gfn (start_part_of b)
-  by_birth true = refl
-  by_birth false = refl
+order_has_secure_pages plan [] lpid gfn legal = refl
 order_has_secure_pages plan (e ∷ past) lpid gfn legal =
     counts_by plan past e (all_moved plan past legal.1) (λ l n. order_has_secure_pages plan past l n legal.1) (change plan past e legal.0) lpid gfn

@@ -1,5 +1,5 @@
 -- What each step's answer tells of the rest of its entry.
-use Rattle.std.proofs.Common.{◌≡◌, ℕ, List, [], ◌∷◌, Bool, true, false, refl, sym, subst, ◌==◌, ◌&&◌, if◌then◌else◌, nat_le, nat_lt, Option, Some, None}
+use Rattle.std.proofs.Common.{◌≡◌, ℕ, List, [], ◌∷◌, Bool, true, false, refl, sym, subst, ◌==◌, ◌&&◌, if◌then◌else◌, nat_le, nat_lt, Option, Some, None, slice_index}
 use Rattle.pef_model.specs.declared.state.Run.{Run}
 use Rattle.pef_model.specs.declared.state.Move.{Move}
 use Rattle.pef_model.specs.declared.state.Work.{Work}
@@ -13,15 +13,16 @@ use Rattle.pef_model.specs.declared.command.Cmd.TheVariants.{HLd, HSt, UPagein, 
 use Rattle.pef_model.specs.declared.entry.Exit.TheVariants as exit
 use Rattle.pef_model.specs.declared.entry.Answer.{Answer}
 use Rattle.pef_model.specs.declared.entry.Answer.TheVariants.{Done, Val, Ret, Step, Enter, Exit, Again, Gone, Hole, Context}
+use Rattle.pef_model.specs.Memory.{offset_of}
 use Rattle.pef_model.specs.Plan.{Plan}
 use Rattle.pef_model.specs.Event.{Event, Mark, mark_of}
 use Rattle.pef_model.specs.Target.{Ask, Alone, AtGuest, AtFrame, frame_of, has_real_place, target_in}
-use Rattle.pef_model.specs.GuestPart.{GuestPart}
-use Rattle.pef_model.specs.Guest.{Guest, private_doubleword}
+use Rattle.pef_model.specs.GuestPart.{GuestPart, Meeting, Moves, Private, Unbacked, meets}
+use Rattle.pef_model.specs.Guest.{Guest}
 use Rattle.pef_model.specs.PageOut.{page_out_code}
 use Rattle.pef_model.specs.PageIn.{page_in_operands, is_last_sealed}
-use Rattle.pef_model.specs.Deed.{Deed, Reach, NoPage, InFrame, Backs, NoFrame, Moves, answering, giving, coming_back, returning, may_return_in, is_waiting, deed_page_out_begin, deed_page_in_with, deed_page_in_test, deed_return, reach, deed_access, deed_running, deed_gone}
-use Rattle.pef_model.specs.History.{cpu_after, guest_after, pool_after, deed_after, ask_of, next_entry, Extends}
+use Rattle.pef_model.specs.Deed.{Deed, answering, giving, coming_back, returning, may_return_in, is_waiting, deed_page_out_begin, deed_page_in_with, deed_page_in_test, deed_return, deed_access, deed_running, deed_gone}
+use Rattle.pef_model.specs.History.{cpu_after, guest_after, pool_after, deed_after, ask_of, next_entry, Extends, found_after}
 use Rattle.pef_model.proofs.Works.{with_copy}
 
 -- a context in which a page of this guest has begun to move outward
@@ -82,26 +83,20 @@ Outcome (ctx.Guest run) cmd a after shown = ⊥
 abbrev Comes : Ctx → Cmd → Deed → Type 0
 Comes c cmd deed = Outcome c cmd deed.answer deed.after deed.shown
 
-load_comes : (run : Run) (ask : Ask) (rd gpa value : ℕ) (r : Reach) → ask.before ≡ ctx.Guest run → Comes (ctx.Guest run) (GLd rd gpa) (deed_access ask (Val value) r)
-load_comes run ask rd gpa value NoPage h = (h, refl)
-load_comes run ask rd gpa value InFrame h = (h, refl)
-load_comes run ask rd gpa value Backs h = (h, refl)
-load_comes run ask rd gpa value NoFrame h = (h, refl)
-load_comes run ask rd gpa value Moves h = (h, refl)
+access_comes : (run : Run) (ask : Ask) (cmd : Cmd) (success : Answer) (through : ℕ → Answer) (out : List ℕ) (any : Bool) (m : Meeting) → ask.before ≡ ctx.Guest run → Comes (ctx.Guest run) cmd (answering ask success) →
+    Comes (ctx.Guest run) cmd (answering ask Hole) → Comes (ctx.Guest run) cmd (answering ask Again) → Comes (ctx.Guest run) cmd (deed_access ask success through out any m)
+access_comes run ask cmd success through out true Unbacked h done hole again = done
+access_comes run ask cmd success through out false Unbacked h done hole again = hole
+access_comes run ask cmd success through out any Private h done hole again = done
+access_comes run ask cmd success through out any Moves h done hole again = again
+access_comes run ask cmd success through out any m h done hole again = hole
 
-store_comes : (run : Run) (ask : Ask) (rs gpa : ℕ) (r : Reach) → ask.before ≡ ctx.Guest run → Comes (ctx.Guest run) (GSt rs gpa) (deed_access ask Done r)
-store_comes run ask rs gpa NoPage h = (h, refl)
-store_comes run ask rs gpa InFrame h = (h, refl)
-store_comes run ask rs gpa Backs h = (h, refl)
-store_comes run ask rs gpa NoFrame h = (h, refl)
-store_comes run ask rs gpa Moves h = (h, refl)
-
-running_comes : (plan : Plan) (g : Guest) (any : Bool) (run : Run) (ask : Ask) (cmd : Cmd) → ask.before ≡ ctx.Guest run →
-    Comes (ctx.Guest run) cmd (deed_running plan g any ask cmd)
-running_comes plan g any run ask (GLd rd gpa) h = load_comes run ask rd gpa (private_doubleword plan g gpa) (reach plan g.part any gpa) h
-running_comes plan g any run ask (GSt rs gpa) h = store_comes run ask rs gpa (reach plan g.part any gpa) h
-running_comes plan g any run ask GIrq h = (refl, refl)
-running_comes plan g any run ask cmd h = (h, refl)
+running_comes : (plan : Plan) (g : Guest) (found : ℕ → ℕ → ℕ) (any : Bool) (run : Run) (ask : Ask) (cmd : Cmd) → ask.before ≡ ctx.Guest run →
+    Comes (ctx.Guest run) cmd (deed_running plan run g found any ask cmd)
+running_comes plan g found any run ask (GLd rd gpa) h = access_comes run ask (GLd rd gpa) (Val (g.content gpa)) (λ n. Val (found n (offset_of plan gpa))) [] any (meets plan g.part gpa) h (h, refl) (h, refl) (h, refl)
+running_comes plan g found any run ask (GSt rs gpa) h = access_comes run ask (GSt rs gpa) Done (λ n. Done) (slice_index (g.registers run.vid).gpr rs ∷ []) any (meets plan g.part gpa) h (h, refl) (h, refl) (h, refl)
+running_comes plan g found any run ask GIrq h = (refl, refl)
+running_comes plan g found any run ask cmd h = (h, refl)
 
 return_comes : (g : GuestPart) (asked : Ask) (r0 r2 : ℕ) (outs : List ℕ) → Comes ctx.Hv (UReturn r0 r2 outs) (deed_return g (record asked { before = ctx.Hv }))
 return_comes g asked r0 r2 outs = by_test (may_return_in g.phase && is_waiting (g.vcpus asked.vid).state) where
@@ -189,8 +184,8 @@ guest_comes plan past run asked cmd gone = by_test (run.generation == (guest_aft
   any : Bool
   any = nat_lt 0 (pool_after plan past)
 
-  by_test : (b : Bool) → Comes (ctx.Guest run) cmd (if b then deed_running plan g any ask cmd else deed_gone ask)
-  by_test true = running_comes plan g any run ask cmd refl
+  by_test : (b : Bool) → Comes (ctx.Guest run) cmd (if b then deed_running plan run g (found_after plan past) any ask cmd else deed_gone ask)
+  by_test true = running_comes plan g (found_after plan past) any run ask cmd refl
   by_test false = gone ask
 
 -- a load of the hypervisor, whether its address has a place in a normal frame or not

@@ -1,24 +1,24 @@
 -- The hypervisor has 32 registers on each CPU.
-use Rattle.std.proofs.Common.{◌≡◌, ℕ, List, [], ◌∷◌, length, Bool, true, false, arith, refl, ap, ◌∙◌, length-append, length-take, length-drop}
+use Rattle.std.proofs.Common.{◌≡◌, ℕ, List, [], ◌∷◌, length, Bool, true, false, arith, refl, ap, ◌∙◌, length-append, length-take, length-drop, Option, Some, None}
 use Rattle.std.specs.List.{AllByRecursion}
 use Rattle.std.proofs.Math.ListN.{length-set}
 use Rattle.pef_model.specs.declared.state.Ctx.{Ctx}
 use Rattle.pef_model.specs.declared.state.Ctx.TheVariants as ctx
 use Rattle.pef_model.specs.declared.command.TheConstants.{UV_PAGE_IN, UV_PAGE_OUT}
+use Rattle.pef_model.specs.declared.state.Run.{Run}
 use Rattle.pef_model.specs.declared.command.Cmd.{Cmd}
 use Rattle.pef_model.specs.declared.command.Cmd.TheVariants.{HLd, UPagein, UPageout, UReturn}
 use Rattle.pef_model.specs.declared.entry.Exit.TheVariants as exit
 use Rattle.pef_model.specs.declared.entry.Answer.{Answer}
-use Rattle.pef_model.specs.declared.entry.Answer.TheVariants.{Val, Ret, Step, Exit, Gone}
+use Rattle.pef_model.specs.declared.entry.Answer.TheVariants.{Val, Ret, Exit, Gone}
 use Rattle.pef_model.specs.Plan.{Plan}
 use Rattle.pef_model.specs.Event.{Event}
 use Rattle.pef_model.specs.Registers.{load_return, load_page_in, load_page_out}
-use Rattle.pef_model.specs.Target.{touches_cpu}
-use Rattle.pef_model.specs.Cpu.{CpuPart, start_cpu, next_cpu, own_after, own_after_return, own_after_load}
+use Rattle.pef_model.specs.Target.{touches_cpu, caller}
+use Rattle.pef_model.specs.Cpu.{CpuPart, start_cpu, next_cpu, own_after, own_after_call, own_after_load, cpu_in, cpu_of_guest, cpu_of_call}
 use Rattle.pef_model.specs.History.{cpu_after}
 use Rattle.pef_model.specs.SearchLaw.{IsCommand}
 use Rattle.pef_model.proofs.Folds.{counts, skips}
-use Rattle.pef_model.proofs.NextValues.{cpu_by, cpu_by_is}
 use Rattle.pef_model.proofs.Called.{length-loaded}
 
 -- what a call loads takes the room of what was there
@@ -26,7 +26,7 @@ length-load_return : (own outs : List ℕ) (r0 r2 : ℕ) → length own ≡ 32 �
 length-load_return own outs r0 r2 h k = simp (length-set, length-append, length-take, length-drop) (omega arith)
 
 -- and so does the code that comes back
-after_call : (loaded : List ℕ) (a : Answer) → length loaded ≡ 32 → length (own_after_return loaded a) ≡ 32
+after_call : (loaded : List ℕ) (a : Answer) → length loaded ≡ 32 → length (own_after_call loaded a) ≡ 32
 after_call loaded (Ret code) h = simp length-set h
 after_call loaded a h = h
 
@@ -43,15 +43,23 @@ after_command own (UPageout lpid dest gpa flags order) a k h = after_call (load_
 after_command own (UReturn r0 r2 outs) a k h = after_call (load_return own r0 r2 outs) a (length-load_return own outs r0 r2 h k)
 after_command own cmd a k h = h
 
+-- and so does a step of a vCPU
+after_guest : (cpu : CpuPart) (run : Run) (a : Answer) (shown : List ℕ) → length cpu.own ≡ 32 → length (cpu_of_guest cpu run a shown).own ≡ 32
+after_guest cpu run (Exit exit.Irq) shown h = refl
+after_guest cpu run Gone shown h = refl
+after_guest cpu run a shown h = h
+
+-- and one of a call in progress
+after_work : (cpu : CpuPart) (caller : Option Run) (a : Answer) (shown : List ℕ) → length cpu.own ≡ 32 → length (cpu_of_call cpu caller a shown).own ≡ 32
+after_work cpu (Some run) a shown h = after_guest cpu run a shown h
+after_work cpu None (Ret code) shown h = simp length-set h
+after_work cpu None a shown h = h
+
 -- a step keeps it in each context
-after_step : (cpu : CpuPart) (c after : Ctx) (cmd : Cmd) (a : Answer) (bytes : List ℕ) → IsCommand cmd → length cpu.own ≡ 32 → length (cpu_by cpu c after cmd a bytes).own ≡ 32
-after_step cpu ctx.Hv after cmd a bytes k h = after_command cpu.own cmd a k h
-after_step cpu (ctx.Uv work) after cmd Step bytes k h = h
-after_step cpu (ctx.Uv work) after cmd (Ret code) bytes k h = simp length-set h
-after_step cpu (ctx.Uv work) after cmd a bytes k h = h
-after_step cpu (ctx.Guest run) after cmd (Exit exit.Irq) bytes k h = refl
-after_step cpu (ctx.Guest run) after cmd Gone bytes k h = refl
-after_step cpu (ctx.Guest run) after cmd a bytes k h = h
+after_step : (cpu : CpuPart) (c : Ctx) (cmd : Cmd) (a : Answer) (shown : List ℕ) → IsCommand cmd → length cpu.own ≡ 32 → length (cpu_in c cpu cmd a shown).own ≡ 32
+after_step cpu ctx.Hv cmd a shown k h = after_command cpu.own cmd a k h
+after_step cpu (ctx.Uv work) cmd a shown k h = after_work cpu (caller work) a shown h
+after_step cpu (ctx.Guest run) cmd a shown k h = after_guest cpu run a shown h
 
 -- by induction over the history
 pub own_registers : (plan : Plan) (past : List Event) (n : ℕ) → AllByRecursion (λ (e : Event). IsCommand e.trace.cmd) past → length (cpu_after plan n past).own ≡ 32
@@ -65,6 +73,6 @@ own_registers plan (e ∷ past) n commands = by_test (own_registers plan past n 
 
   by_test : length cpu.own ≡ 32 → (b : Bool) → touches_cpu n e ≡ b → length (cpu_after plan n (e ∷ past)).own ≡ 32
   by_test ih true t =
-      ap own (counts (touches_cpu n) next_cpu (start_cpu plan) e past t ∙ cpu_by_is cpu e)
-      ∙ after_step cpu e.saw.before e.saw.after e.trace.cmd e.trace.answer e.bytes commands.0 ih
+      ap own (counts (touches_cpu n) next_cpu (start_cpu plan) e past t)
+      ∙ after_step cpu e.saw.before e.trace.cmd e.trace.answer e.saw.shown commands.0 ih
   by_test ih false t = ap own (skips (touches_cpu n) next_cpu (start_cpu plan) e past t) ∙ ih

@@ -1,5 +1,5 @@
 -- Which change a page-in makes: its begin, its copy and its end.
-use Rattle.std.proofs.Common.{◌≡◌, ℕ, ◌<◌, nat_lt, List, Bool, true, false, not, refl, sym, ◌==◌, ◌&&◌, if◌then◌else◌, Option, Some, None, is_some, arith}
+use Rattle.std.proofs.Common.{◌≡◌, ℕ, ◌<◌, nat_lt, List, Bool, true, false, not, refl, sym, ◌==◌, ◌&&◌, if◌then◌else◌, Option, Some, None, is_some, arith, nat_le}
 use Rattle.std.proofs.lemmas.Bool.{and_parts, not-false}
 use Rattle.std.proofs.lemmas.Bool.Decides.{nat_tests}
 use Rattle.pef_model.specs.declared.state.Kind.{Kind}
@@ -11,9 +11,9 @@ use Rattle.pef_model.specs.declared.command.TheConstants.{PAGE_IN_FLAGS}
 use Rattle.pef_model.specs.declared.command.Code.{Code}
 use Rattle.pef_model.specs.declared.command.Code.TheVariants.{UParameter, UP2, UP3, UP4, UP5, UBusy}
 use Rattle.pef_model.specs.declared.command.Cmd.TheVariants.{UPagein, Go}
-use Rattle.pef_model.specs.Plan.{Plan}
+use Rattle.pef_model.specs.Plan.{Plan, IsWithin}
 use Rattle.pef_model.specs.Event.{Event, Mark}
-use Rattle.pef_model.specs.Target.{Ask, AtGuest, AtFrame, frame_of, target_in}
+use Rattle.pef_model.specs.Target.{Ask, AtGuest, AtFrame, frame_of, target_in, Alone}
 use Rattle.pef_model.specs.Cpu.{CpuPart}
 use Rattle.pef_model.specs.GuestPart.{Page, GuestPart, page_of, with_secure_page, with_page_coming, with_page_refused}
 use Rattle.pef_model.specs.PageOut.{has_frame, has_page}
@@ -53,6 +53,11 @@ page_comes plan g src gpa flags order h =
     let below : nat_lt (page_of plan gpa) plan.pages ≡ true = place.1 in
     record { placed = grind (arith, nat_tests); kind_is = out_kind page.kind comes.1; at_rest = no_mover page.mover busy.0 }
 
+-- a call that aims at the guest that it names names one of the machine
+numbered : (plan : Plan) (lpid : ℕ) (b : Bool) → (nat_le 1 lpid && nat_le lpid plan.guests) ≡ b → (if b then AtGuest lpid else Alone) ≡ AtGuest lpid → IsWithin 1 plan.guests lpid
+numbered plan lpid true t aims = let parts = and_parts (nat_le 1 lpid) (nat_le lpid plan.guests) t in (grind (arith, nat_tests), grind (arith, nat_tests))
+numbered plan lpid false t aims = cc
+
 module _ (plan : Plan) (past : List Event) (cpu : CpuPart) (mark : Mark) where
   -- UV_PAGE_IN of a guest begins to move a page that is Out at rest, where a frame is free
   pub page_in : cpu.ctx ≡ ctx.Hv → (lpid src gpa flags order : ℕ) → target_in plan ctx.Hv cpu.lpid (UPagein lpid src gpa flags order) ≡ AtGuest lpid →
@@ -77,6 +82,7 @@ module _ (plan : Plan) (past : List Event) (cpu : CpuPart) (mark : Mark) where
           kind_is = comes.kind_is;
           at_rest = comes.at_rest;
           placed = comes.placed;
+          number = numbered plan lpid (nat_le 1 lpid && nat_le lpid plan.guests) refl target;
           cpu_is = record { ctx_is = refl; hand_is = refl; lpid_is = refl };
           parts = at_guest plan past (entry cpu ctx.Hv mark (UPagein lpid src gpa flags order) (deed None true)) lpid (with_page_coming g (page_of plan gpa) mark.cpu) target refl;
           pool = omega arith;

@@ -1,5 +1,5 @@
 -- In a legal history the calls in progress and the pages on the move are each other's.
-use Rattle.std.proofs.Common.{◌≡◌, ◌∙◌, ℕ, List, [], ◌∷◌, Bool, true, false, refl, ap, subst, Some, None, is_some}
+use Rattle.std.proofs.Common.{◌≡◌, ◌∙◌, ℕ, List, [], ◌∷◌, refl, ap, subst, None, is_some}
 use Rattle.std.specs.Prelude.{option_map}
 use Rattle.pef_model.specs.declared.state.Way.{Way}
 use Rattle.pef_model.specs.declared.state.Way.TheVariants as way
@@ -8,9 +8,11 @@ use Rattle.pef_model.specs.declared.state.Work.{Work}
 use Rattle.pef_model.specs.declared.state.Work.TheVariants.{Inward, Outward}
 use Rattle.pef_model.specs.declared.state.Ctx.{Ctx}
 use Rattle.pef_model.specs.declared.state.Ctx.TheVariants as ctx
+use Rattle.pef_model.specs.declared.state.Move.{Move}
+use Rattle.pef_model.specs.declared.state.Kind.TheVariants.{Out}
 use Rattle.pef_model.specs.Plan.{Plan}
 use Rattle.pef_model.specs.Event.{Event}
-use Rattle.pef_model.specs.GuestPart.{Page, GuestPart, put, start_part_of, secured, begun_out, ended_out, begun_in, refused_in}
+use Rattle.pef_model.specs.GuestPart.{Page, GuestPart, put, secured, begun_out, ended_out, begun_in, refused_in}
 use Rattle.pef_model.specs.History.{cpu_after, IsLegal}
 use Rattle.pef_model.specs.CountLaw.{part_after}
 use Rattle.pef_model.specs.MoveLaw.{work_by, KeepsWhatIsSealed, EachCpuMovesItsPage, EachCpuMovesItsPageIn, EachMoverHasItsCall, EachPageKeepsWhatIsSealed}
@@ -122,16 +124,9 @@ module _ (plan : Plan) (past : List Event) (e : Event) (all : AllMoved plan past
 pub all_moved : (plan : Plan) (past : List Event) → IsLegal plan past → AllMoved plan past
 all_moved plan [] legal = record {
   moves = λ n work is same. cc;
-  moved = λ lpid gfn mover is. absurd (none_moves (plan.is_born lpid) gfn mover is);
-  keeps = λ lpid gfn. none_is_sealed (plan.is_born lpid) gfn;
-} where
-  none_moves : (b : Bool) (gfn : ℕ) (mover : Mover) → ((start_part_of b).pages gfn).mover ≡ Some mover → ⊥
-  none_moves true gfn mover is = cc
-  none_moves false gfn mover is = cc
-
-  none_is_sealed : (b : Bool) (gfn : ℕ) → KeepsWhatIsSealed ((start_part_of b).pages gfn)
-  none_is_sealed true gfn = record { sealed = ((λ k. cc), (λ k. cc)); pending = ((λ k. cc), (λ k. cc)) }
-  none_is_sealed false gfn = record { sealed = ((λ k. cc), (λ k. cc)); pending = ((λ k. cc), (λ k. cc)) }
+  moved = λ lpid gfn mover is. cc;
+  keeps = λ lpid gfn. record { sealed = ((λ k. cc), (λ k. cc)); pending = ((λ k. cc), (λ k. cc)) };
+}
 all_moved plan (e ∷ past) legal = moved_by plan past e (all_moved plan past legal.1) (change plan past e legal.0)
 
 -- a page-out in progress moves the page that it names
@@ -141,12 +136,20 @@ each_cpu_moves_its_page plan past n move legal is same =
     let moving = all.moves n (Outward move) is same in
     record { kind = moving.kind_is; mover = moving.mover; pending = moving.pending }
 
--- and so does a page-in
+-- a page that moves inward is Out
+pub moving_in_is_out : (plan : Plan) (past : List Event) (n : ℕ) (move : Move) → IsLegal plan past → (cpu_after plan n past).ctx ≡ ctx.Uv (Inward move) → move.generation ≡ (part_after plan past move.lpid).generation →
+    (pages plan past move.lpid move.gfn).kind ≡ Out
+moving_in_is_out plan past n move legal is same =
+    let all = all_moved plan past legal in
+    let moving = all.moves n (Inward move) is same in
+    moving.kind_is
+
+-- so a page-in in progress moves the page that it names
 pub each_cpu_moves_its_page_in : EachCpuMovesItsPageIn
 each_cpu_moves_its_page_in plan past n move legal is same =
     let all = all_moved plan past legal in
     let moving = all.moves n (Inward move) is same in
-    record { kind = moving.kind_is; mover = moving.mover }
+    record { kind = λ secure. moving.kind_is; mover = moving.mover }
 
 -- a call in progress is that of its way and its move
 work_is : (work : Work) (way : Way) → way_of work ≡ way → work ≡ work_by way (move_of work)

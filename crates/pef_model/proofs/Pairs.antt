@@ -8,7 +8,8 @@ use Rattle.pef_model.specs.PageOut.{page_bytes}
 use Rattle.pef_model.specs.History.{last_store}
 use Rattle.pef_model.specs.Run.{run_of}
 use Rattle.pef_model.specs.RunLaw.{small_config, page_out_script}
-use Rattle.pef_model.specs.View.{Write, Sight, view}
+use Rattle.pef_model.specs.View.{Sight, view}
+use Rattle.pef_model.specs.Memory.{Write}
 use Rattle.pef_model.specs.SeenReport.{all_sealed}
 use Rattle.pef_model.specs.PairLaw.{StreamTells}
 use Rattle.pef_model.proofs.PageBytes.{page_has_each_doubleword}

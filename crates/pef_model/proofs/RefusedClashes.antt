@@ -1,5 +1,5 @@
 -- A digest collision is a page-in that is refused, of bytes with the SHA-256 of those that were paged out.
-use Rattle.std.proofs.Common.{◌≡◌, ◌≢◌, ℕ, List, [], ◌∷◌, Bool, true, false, not, refl, ap, sym, ◌∙◌, ◌==◌, ◌&&◌, Option, Some, None}
+use Rattle.std.proofs.Common.{◌≡◌, ◌≢◌, ℕ, List, [], ◌∷◌, Bool, true, false, not, refl, ap, sym, ◌∙◌, ◌==◌, ◌&&◌, Option, Some, None, if◌then◌else◌, subst, IsSome}
 use Rattle.std.specs.Str.{bytes_eq}
 use Rattle.std.proofs.lemmas.Bool.{and_parts, both_ways, not-true}
 use Rattle.std.proofs.lemmas.Slice.Eq.{bytes_eq-Decides}
@@ -9,15 +9,18 @@ use Rattle.pef_model.specs.declared.state.Ctx.{Ctx}
 use Rattle.pef_model.specs.declared.state.Ctx.TheVariants as ctx
 use Rattle.pef_model.specs.declared.command.Cmd.{Cmd}
 use Rattle.pef_model.specs.declared.command.Cmd.TheVariants.{Go}
+use Rattle.pef_model.specs.declared.state.Move.{Move}
 use Rattle.pef_model.specs.Plan.{Plan}
 use Rattle.pef_model.specs.Event.{Event}
 use Rattle.pef_model.specs.GuestPart.{GuestPart}
 use Rattle.pef_model.specs.History.{guest_after, IsLegal}
 use Rattle.pef_model.specs.MoveLaw.{last_begun}
-use Rattle.pef_model.specs.Sound.{collide, collides_with, clashes_in, is_clash, is_clean}
+use Rattle.pef_model.specs.Clash.{collide, collides_with, clashes_in}
+use Rattle.pef_model.specs.Sound.{clashes_at, is_clash, is_clean}
+use Rattle.pef_model.specs.Target.{Target, Alone, AtGuest, AtFrame, target_in, target_of}
 use Rattle.pef_model.specs.FreshLaw.{EndsPageIn, IsRefusedClash, EachClashIsRefused, EachCollisionIsClash, NoRefusalIsClean}
 use Rattle.pef_model.proofs.Folds.{same_test, test_same}
-use Rattle.pef_model.proofs.Paging.{each_cpu_moves_its_page_in}
+use Rattle.pef_model.proofs.Paging.{each_page_keeps_what_is_sealed}
 use Rattle.pef_model.proofs.Begun.{last_sealed_is_begun}
 use Rattle.pef_model.proofs.Fresh.{freshness}
 
@@ -37,31 +40,43 @@ collide_by (Some sealed) bytes h =
     let digests = bytes_eq-Decides (sha256 bytes) (sha256 sealed) in
     record { sealed = sealed; last_is = refl; other = λ e. both_ways (bytes_eq bytes sealed) (not-true (bytes_eq bytes sealed) tests.0) (equal.1 e); same = digests.0 tests.1 }
 
+-- a page on the move that aims at a guest aims at its own
+aims_at : (lpid : ℕ) (move : Move) (b : Bool) → b ≡ true → (if b then AtGuest move.lpid else AtFrame move.frame) ≡ AtGuest lpid → move.lpid ≡ lpid
+aims_at lpid move true t aims = cc
+aims_at lpid move false t aims = cc
+
 module _ (plan : Plan) (past : List Event) (e : Event) (legal : IsLegal plan (e ∷ past)) where
   abbrev guests : ℕ → GuestPart
   guests lpid = (guest_after plan lpid past).part
 
   -- the end of a page-in whose bytes collide with what was last sealed is refused
-  clash_is_refused : (c : Ctx) (cmd : Cmd) → e.saw.before ≡ c → e.trace.cmd ≡ cmd → clashes_in guests c cmd e.bytes ≡ true → IsRefusedClash plan past e
-  clash_is_refused (ctx.Uv (Inward move)) Go before cmd_is h =
+  clash_is_refused : (lpid : ℕ) (c : Ctx) (cmd : Cmd) → e.saw.before ≡ c → e.trace.cmd ≡ cmd → target_in plan c e.saw.lpid cmd ≡ AtGuest lpid → clashes_in (guests lpid) c cmd e.bytes ≡ true → IsRefusedClash plan past e
+  clash_is_refused lpid (ctx.Uv (Inward move)) Go before cmd_is aims h =
       let extends = legal.0 in
-      let last : Option (List ℕ) = ((guests move.lpid).pages move.gfn).sealed in
-      let lives : Bool = move.generation == (guests move.lpid).generation in
-      let collides = and_parts (move.copied && lives) (collides_with last e.bytes) h in
+      let lives : Bool = move.generation == (guests lpid).generation in
+      let collides = and_parts (move.copied && lives) (collides_with ((guests lpid).pages move.gfn).sealed e.bytes) h in
       let ended = and_parts move.copied lives collides.0 in
-      let generation = test_same move.generation (guests move.lpid).generation ended.1 in
-      let ends : EndsPageIn plan past move e = record { before = before; copied = ended.0; cmd_is = cmd_is; generation = generation } in
-      let hit = collide_by last e.bytes collides.1 in
-      let moving = each_cpu_moves_its_page_in plan past e.trace.cpu move legal.1 (ap (λ (x : Event). x.saw.before) (sym extends.is) ∙ before) generation in
-      let begun : last_begun plan move.lpid move.gfn past ≡ Some hit.sealed = sym (last_sealed_is_begun plan past move.lpid move.gfn legal.1 moving.kind) ∙ hit.last_is in
+      let own : move.lpid ≡ lpid = aims_at lpid move move.copied ended.0 aims in
+      let generation : move.generation ≡ (guests move.lpid).generation = test_same move.generation (guests lpid).generation ended.1 ∙ ap (λ (l : ℕ). (guests l).generation) (sym own) in
+      let hit = collide_by ((guests move.lpid).pages move.gfn).sealed e.bytes (ap (λ (l : ℕ). collides_with ((guests l).pages move.gfn).sealed e.bytes) own ∙ collides.1) in
+      let keeps = each_page_keeps_what_is_sealed plan past move.lpid move.gfn legal.1 in
+      let out = keeps.sealed.0 (subst IsSome (sym hit.last_is) refl) in
+      let ends : EndsPageIn plan past move e = record { before = before; copied = ended.0; cmd_is = cmd_is; generation = generation; out = out } in
+      let begun : last_begun plan move.lpid move.gfn past ≡ Some hit.sealed = sym (last_sealed_is_begun plan past move.lpid move.gfn legal.1 out) ∙ hit.last_is in
       let fresh = freshness plan past move e legal ends in
       let refused = fresh.refused (λ same. let equal : Some hit.sealed ≡ Some e.bytes = sym begun ∙ same in hit.other (cc)) in
       record { move = move; before = before; answer = refused.answer; sealed = hit.sealed; begun = begun; other = hit.other; same = hit.same }
-  clash_is_refused c cmd before cmd_is h = cc
+  clash_is_refused lpid c cmd before cmd_is aims h = cc
+
+  -- whatever it aims at
+  clash_at_refused : (t : Target) → target_of plan e ≡ t → clashes_at guests e t ≡ true → IsRefusedClash plan past e
+  clash_at_refused Alone is h = cc
+  clash_at_refused (AtFrame n) is h = cc
+  clash_at_refused (AtGuest lpid) is h = clash_is_refused lpid e.saw.before e.trace.cmd refl refl is h
 
 -- so is each clash
 pub each_clash_is_refused : EachClashIsRefused
-each_clash_is_refused plan past e legal h = clash_is_refused plan past e legal e.saw.before e.trace.cmd refl refl h
+each_clash_is_refused plan past e legal h = clash_at_refused plan past e legal (target_of plan e) refl h
 
 -- and there is none where nothing is refused
 pub no_refusal_is_clean : NoRefusalIsClean
@@ -84,12 +99,11 @@ same_digests bytes sealed other same =
 -- so each page-in of such bytes is a collision
 pub each_collision_is_clash : EachCollisionIsClash
 each_collision_is_clash plan past move e sealed legal ends begun other same =
-    let extends = legal.0 in
     let guests : ℕ → GuestPart = (λ lpid. (guest_after plan lpid past).part) in
-    let moving = each_cpu_moves_its_page_in plan past e.trace.cpu move legal.1 (ap (λ (x : Event). x.saw.before) (sym extends.is) ∙ ends.before) ends.generation in
-    let last : ((guests move.lpid).pages move.gfn).sealed ≡ Some sealed = last_sealed_is_begun plan past move.lpid move.gfn legal.1 moving.kind ∙ begun in
-    ap (λ (c : Ctx). clashes_in guests c e.trace.cmd e.bytes) ends.before
-    ∙ ap (λ (cmd : Cmd). clashes_in guests (ctx.Uv (Inward move)) cmd e.bytes) ends.cmd_is
+    let last : ((guests move.lpid).pages move.gfn).sealed ≡ Some sealed = last_sealed_is_begun plan past move.lpid move.gfn legal.1 ends.out ∙ begun in
+    (λ i. clashes_at guests e (target_in plan (ends.before i) e.saw.lpid (ends.cmd_is i)))
+    ∙ (λ i. clashes_at guests e (if ends.copied i then AtGuest move.lpid else AtFrame move.frame))
+    ∙ (λ i. clashes_in (guests move.lpid) (ends.before i) (ends.cmd_is i) e.bytes)
     ∙ ap (λ (b : Bool). b && (move.generation == (guests move.lpid).generation) && collides_with ((guests move.lpid).pages move.gfn).sealed e.bytes) ends.copied
     ∙ ap (λ (x : ℕ). (move.generation == x) && collides_with ((guests move.lpid).pages move.gfn).sealed e.bytes) (sym ends.generation)
     ∙ ap (λ (b : Bool). b && collides_with ((guests move.lpid).pages move.gfn).sealed e.bytes) (same_test move.generation)

@@ -1,5 +1,5 @@
 -- A vCPU runs on one CPU.
-use Rattle.std.proofs.Common.{◌≡◌, ℕ, List, [], ◌∷◌, true, false, refl, ap, sym, subst, ◌∙◌, inl, inr}
+use Rattle.std.proofs.Common.{◌≡◌, ℕ, List, [], ◌∷◌, true, false, refl, ap, sym, subst, ◌∙◌, inl, inr, arith}
 use Rattle.std.proofs.lemmas.Bool.{cases_eq}
 use Rattle.pef_model.specs.declared.state.Phase.{Phase}
 use Rattle.pef_model.specs.declared.state.Phase.TheVariants.{Secure}
@@ -14,7 +14,7 @@ use Rattle.pef_model.specs.Cpu.{CpuPart}
 use Rattle.pef_model.specs.GuestPart.{GuestPart, VcpuPart, put}
 use Rattle.pef_model.specs.Deed.{may_return_in, is_waiting}
 use Rattle.pef_model.specs.History.{cpu_after, IsLegal}
-use Rattle.pef_model.specs.CountLaw.{part_after, EachCpuRunsItsVcpu, NoVcpuRunsTwice}
+use Rattle.pef_model.specs.CountLaw.{part_after, EachCpuRunsItsVcpu, EachRunIsOfAGeneration, NoVcpuRunsTwice}
 use Rattle.pef_model.proofs.Puts.{put-here, put-other, put_in, IsElsewhere, put_in-here, put_in-elsewhere}
 use Rattle.pef_model.proofs.Parts.{secure_where_allowed}
 use Rattle.pef_model.proofs.Changes.{Change, Quiet, Begins, Copies, Ends, Drops, Comes, Reads, Accepts, Refuses, Takes, Parked, Gone, Backs, LeavesCpu, KeepsParts, PutsPart}
@@ -169,14 +169,17 @@ all_run plan (e ∷ past) legal n run is = run_by plan past e (all_run plan past
 
 -- each CPU runs the vCPU that it took up
 pub each_cpu_runs_its_vcpu : EachCpuRunsItsVcpu
-each_cpu_runs_its_vcpu plan past n run legal is =
+each_cpu_runs_its_vcpu plan past n run legal is now =
     let running = all_run plan past legal n run is in
-    record { state = running.state; taken = running.taken; generation = running.generation_is; returns = running.returns; secure = running.secure }
+    record { state = running.state; taken = running.taken; secure = λ normal. running.secure }
+
+pub each_run_is_of_a_generation : EachRunIsOfAGeneration
+each_run_is_of_a_generation plan past n run legal is = let running = all_run plan past legal n run is in omega (arith, running.generation_is)
 
 -- a vCPU's state names one CPU
 pub no_vcpu_runs_twice : NoVcpuRunsTwice
-no_vcpu_runs_twice plan past m n left right legal h k here this =
-    let first = each_cpu_runs_its_vcpu plan past m left legal h in
-    let second = each_cpu_runs_its_vcpu plan past n right legal k in
+no_vcpu_runs_twice plan past m n left right legal h k here this same =
+    let first = all_run plan past legal m left h in
+    let second = all_run plan past legal n right k in
     one_cpu ((part_after plan past left.lpid).vcpus left.vid).state m n first.state
     (ap (λ (x : ℕ). ((part_after plan past x).vcpus left.vid).state) here ∙ ap (λ (x : ℕ). ((part_after plan past right.lpid).vcpus x).state) this ∙ second.state)

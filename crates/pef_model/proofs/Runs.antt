@@ -1,162 +1,149 @@
 -- A script has exactly one run.
-use Rattle.std.proofs.Common.{◌≡◌, ℕ, ◌<◌, List, [], ◌∷◌, ◌++◌, reverse, Bool, true, false, cond, refl, ap, sym, subst, ◌∙◌}
-use Rattle.std.specs.List.{filter, flat_map, AllByRecursion}
-use Rattle.std.proofs.lemmas.List.Elements.{filter-append}
+use Rattle.std.proofs.Common.{◌≡◌, ℕ, zero, suc, ◌+◌, ◌<◌, ◌≤◌, ◌==◌, List, [], ◌∷◌, ◌++◌, reverse, Bool, true, false, cond, refl, ap, sym, subst, ◌∙◌, arith, lt-ltb}
+use Rattle.std.specs.Prelude.{Option, Some, None}
+use Rattle.std.specs.List.{AllByRecursion}
+use Rattle.pef_model.specs.declared.command.Cmd.{Cmd}
+use Rattle.pef_model.specs.declared.command.Cmd.TheVariants.{Go}
 use Rattle.pef_model.specs.declared.command.Directive.{Directive}
 use Rattle.pef_model.specs.declared.command.Directive.TheVariants.{Once, GoAll}
 use Rattle.pef_model.specs.Plan.{Plan, plan_of}
 use Rattle.pef_model.specs.Event.{Event}
 use Rattle.pef_model.specs.Target.{touches_cpu}
-use Rattle.pef_model.specs.History.{IsLegal}
-use Rattle.pef_model.specs.Script.{Line}
-use Rattle.pef_model.specs.Run.{is_line_of, entries_at, Gives, AreGivenBy, IsPlaced, IsStamped, entry_after, with_directive, run_after, run_of}
+use Rattle.pef_model.specs.Script.{Line, Script}
+use Rattle.pef_model.specs.Run.{first_command, command_after, command_at, entry_after, with_directive, run_after, run_of, next_of}
+use Rattle.pef_model.proofs.Folds.{same_test, keeps}
+use Rattle.pef_model.proofs.Lists.{all_give, both_give, all_kept}
+use Rattle.std.proofs.lemmas.Bool.{ne_eqb, le-ltb}
+use Rattle.std.proofs.lemmas.List.{reverse-reverse}
+use mathlib.Core.List.{reverse_aux}
 use Rattle.pef_model.specs.RunLaw.{OneRun}
-use Rattle.pef_model.proofs.LineEntries.{AreMade, made_numbers, made_on_cpu, made_legal, made_placed, made_stamped, are_made, legal_before, placed_before, stamped_before}
-use Rattle.pef_model.proofs.Lists.{all_give, both_give, all_kept, joins_same, all_append}
-use Rattle.pef_model.proofs.LineFilters.{AreBelow, Fall, reverse_falls, all_reverse, all_from_reverse, own_entries, earlier_entries, at_have_number, own_or_none}
-use Rattle.pef_model.proofs.GoAll.{gone}
-use Rattle.pef_model.proofs.OnlyGone.{only_gone}
+use Rattle.pef_model.proofs.GoAll.{ctx_at, gos_left, gos, gos_block, gos_is, gos_go_on, further, last, most_gos_is}
+use Rattle.pef_model.proofs.NextSteps.{AreBelow, Fall, reverse_falls, all_back, OnCpus, cpu_at, cpus_are_own, own_past, AreDone, none_is_next, next_is}
+use Rattle.pef_model.proofs.OneNext.{IsRunPart, ended_same}
 
--- each of the lines is one of the machine's CPUs
-abbrev OnCpus : Plan → List Line → Type 0
-OnCpus plan lines = AllByRecursion (λ (line : Line). line.cpu < plan.cpus) lines
-
--- a history with the entries that a directive of a line gives
+-- a history with the entries of a directive of a line begins with it
 pub record IsDone (plan : Plan) (past : List Event) (line : Line) (directive : Directive) : Type 0 where
   pub block : List Event
   pub is : with_directive plan past line directive ≡ block ++ past
-  pub made : AreMade plan line past block
-  pub gives : Gives directive block
 
 pub done : (plan : Plan) (past : List Event) (line : Line) (directive : Directive) → IsDone plan past line directive
-done plan past line (Once cmd) = record { block = entry_after plan past line cmd ∷ []; is = refl; made = (refl, tt); gives = refl }
+done plan past line (Once cmd) = record { block = entry_after plan past line cmd ∷ []; is = refl }
 done plan past line GoAll =
-    let go = gone plan past line in
-    record { block = go.e ∷ go.earlier; is = go.is; made = go.made; gives = (go.cmd, go.ends, go.goes_on) }
+    let n : ℕ = suc (gos_left (ctx_at plan past line)) in
+    record { block = gos_block plan n past line; is = most_gos_is plan past line ∙ gos_is plan n past line }
 
--- what a line makes, and what its directive gives, are those entries
-only_done : (plan : Plan) (past : List Event) (line : Line) (directive : Directive) (block : List Event) → AreMade plan line past block → Gives directive block →
-    block ++ past ≡ with_directive plan past line directive
-only_done plan past line (Once cmd) [] made gives = absurd gives
-only_done plan past line (Once cmd) (e ∷ []) made gives = ap (λ (x : Event). x ∷ past) (made.0 ∙ ap (entry_after plan past line) gives)
-only_done plan past line (Once cmd) (e ∷ f ∷ es) made gives = absurd gives
-only_done plan past line GoAll [] made gives = absurd gives
-only_done plan past line GoAll (e ∷ earlier) made gives = only_gone plan past line e earlier made gives.0 gives.1 gives.2
-
--- a history of lines, of which the last one stands first
-record IsSerialOf (plan : Plan) (lines : List Line) (past : List Event) : Type 0 where
-  legal : IsLegal plan past
-  placed : IsPlaced past
-  stamped : IsStamped past
-  given : AllByRecursion (λ (line : Line). AreGivenBy line (entries_at past line)) lines
-  whole : past ≡ flat_map (entries_at past) lines
-
--- what is told of it besides: its entries are those of the lines, and the entries of each CPU are those of its lines
-record IsRunOf (plan : Plan) (lines : List Line) (past : List Event) : Type 0 where
-  serial : IsSerialOf plan lines past
+-- a history of some lines, of which the last one stands first, or a part of it
+record IsRunOf (plan : Plan) (script : Script) (lines : List Line) (past : List Event) : Type 0 where
+  part : IsRunPart plan script past
   below : (n : ℕ) → AreBelow n lines → AllByRecursion (λ (e : Event). e.trace.line < n) past
-  each : (n : ℕ) → filter (touches_cpu n) past ≡ flat_map (entries_at past) (filter (is_line_of n) lines)
+  done : AreDone past lines
 
-none_run : (plan : Plan) → IsRunOf plan [] []
-none_run plan = record {
-  serial = record { legal = tt; placed = tt; stamped = tt; given = tt; whole = refl };
-  below = λ n lines. tt;
-  each = λ n. refl;
-}
+-- where a script has a line: behind the earlier ones, which have lower numbers
+record IsLineOf (plan : Plan) (script : Script) (line : Line) : Type 0 where
+  earlier : List Line
+  later : List Line
+  is : script.lines ≡ reverse_aux earlier (line ∷ later)
+  cpu : line.cpu < plan.cpus
+  falls : AreBelow line.number earlier
 
--- the entries of a line more
-more_run : (plan : Plan) (line : Line) (earlier : List Line) (block past : List Event) → line.cpu < plan.cpus → AreBelow line.number earlier → AreMade plan line past block →
-    Gives line.directive block → IsRunOf plan earlier past → IsRunOf plan (line ∷ earlier) (block ++ past)
-more_run plan line earlier block past cpu fall made gives run =
-    let numbers = made_numbers plan line past block made in
-    let cpus = made_on_cpu plan line past block made in
-    let own : entries_at (block ++ past) line ≡ block = own_entries line block past numbers (run.below line.number fall) in
-    let others = earlier_entries line.number earlier block past numbers fall in
+-- a history of the earlier lines and entries of a line, which gives this command next
+record IsAt {plan : Plan} {script : Script} {line : Line} (of : IsLineOf plan script line) (past : List Event) (given : Option Cmd) : Type 0 where
+  part : IsRunPart plan script past
+  upto : AllByRecursion (λ (e : Event). e.trace.line ≤ line.number) past
+  done : AreDone past of.earlier
+  gives : command_at (own_past line.cpu past) line ≡ given
+
+-- a line that is done stays so
+stays_done : (past : List Event) (e : Event) (l : Line) → l.number < e.trace.line → command_at (own_past l.cpu past) l ≡ None → command_at (own_past l.cpu (e ∷ past)) l ≡ None
+stays_done past e l less none = by_test (touches_cpu l.cpu e) where
+  by_test : (b : Bool) → command_at (cond b (e ∷ own_past l.cpu past) (own_past l.cpu past)) l ≡ None
+  by_test true = rw (le-ltb e.trace.line l.number (omega (arith, less)), ne_eqb e.trace.line l.number (λ same. absurd (omega (arith, same, less)))) refl
+  by_test false = none
+
+-- after an entry of its own a line gives one more or none
+gives_after : (past : List Event) (e : Event) (line : Line) → e.trace.line ≡ line.number → e.trace.cpu ≡ line.cpu → command_at (own_past line.cpu (e ∷ past)) line ≡ command_after line.directive e
+gives_after past e line number cpu =
+    ap (λ (own : List Event). command_at own line) (keeps (touches_cpu line.cpu) e past (ap (λ (n : ℕ). n == line.cpu) cpu ∙ same_test line.cpu))
+    ∙ rw (le-ltb e.trace.line line.number (omega (arith, number)), number, same_test line.number) refl
+
+-- the line's entry makes it longer
+one_more : {plan : Plan} {script : Script} {line : Line} (of : IsLineOf plan script line) (past : List Event) (cmd : Cmd) → IsAt of past (Some cmd) →
+    IsAt of (entry_after plan past line cmd ∷ past) (command_after line.directive (entry_after plan past line cmd))
+one_more {plan = plan} {script = script} {line = line} of past cmd at =
+    let e : Event = entry_after plan past line cmd in
     record {
-      serial = record {
-        legal = made_legal plan line past block cpu made run.serial.legal;
-        placed = made_placed plan line past block made run.serial.placed;
-        stamped = made_stamped plan line past block made run.serial.stamped;
-        given = (
-          subst (AreGivenBy line) (sym own) (record { cpu = cpus; gives = gives }),
-          both_give (λ (l : Line). entries_at (block ++ past) l ≡ entries_at past l) (λ (l : Line). AreGivenBy l (entries_at past l)) (λ (l : Line). AreGivenBy l (entries_at (block ++ past) l))
-              earlier (λ l same given. subst (AreGivenBy l) (sym same) given) others run.serial.given,
-        );
-        whole = ap (λ (xs : List Event). block ++ xs) (run.serial.whole ∙ sym (joins_same (entries_at (block ++ past)) (entries_at past) earlier others))
-            ∙ ap (λ (xs : List Event). xs ++ flat_map (entries_at (block ++ past)) earlier) (sym own);
+      part = record {
+        legal = (record { cpu = of.cpu; is = refl }, at.part.legal);
+        part = (record { step = next_is script past of.earlier line of.later cmd of.is at.done at.gives; place = refl }, at.part.part);
+        order = (at.upto, at.part.order);
+        stamped = (refl, at.part.stamped);
       };
-      below = λ n lines. all_append (λ (e : Event). e.trace.line < n) block past
-          (all_give (λ (e : Event). e.trace.line ≡ line.number) (λ (e : Event). e.trace.line < n) block (λ e is. subst (λ (m : ℕ). m < n) (sym is) lines.0) numbers)
-          (run.below n lines.1);
-      each = λ n. filter-append (touches_cpu n) block past
-          ∙ ap (λ (xs : List Event). xs ++ filter (touches_cpu n) past) (own_or_none n line block cpus)
-          ∙ ap (λ (xs : List Event). cond (is_line_of n line) block [] ++ xs)
-          (run.each n ∙ sym (joins_same (entries_at (block ++ past)) (entries_at past) (filter (is_line_of n) earlier)
-          (all_kept (λ (l : Line). entries_at (block ++ past) l ≡ entries_at past l) (is_line_of n) earlier others)))
-          ∙ by_test (is_line_of n line) own (filter (is_line_of n) earlier);
-    } where
-      by_test : (b : Bool) → entries_at (block ++ past) line ≡ block → (more : List Line) →
-          cond b block [] ++ flat_map (entries_at (block ++ past)) more ≡ flat_map (entries_at (block ++ past)) (cond b (line ∷ more) more)
-      by_test true own more = ap (λ (xs : List Event). xs ++ flat_map (entries_at (block ++ past)) more) (sym own)
-      by_test false own more = refl
-
-run_is : (plan : Plan) (lines : List Line) → OnCpus plan lines → Fall lines → IsRunOf plan lines (run_after plan lines)
-run_is plan [] on fall = none_run plan
-run_is plan (line ∷ earlier) on fall =
-    let next = done plan (run_after plan earlier) line line.directive in
-    subst (IsRunOf plan (line ∷ earlier)) (sym next.is)
-    (more_run plan line earlier next.block (run_after plan earlier) on.0 fall.0 next.made next.gives (run_is plan earlier on.1 fall.1))
-
--- the history before the last line's entries is one of the earlier lines
-before_last : (plan : Plan) (line : Line) (earlier : List Line) (past : List Event) → AreBelow line.number earlier → IsSerialOf plan (line ∷ earlier) past →
-    IsSerialOf plan earlier (flat_map (entries_at past) earlier)
-before_last plan line earlier past fall serial =
-    let block : List Event = entries_at past line in
-    let rest : List Event = flat_map (entries_at past) earlier in
-    let same : AllByRecursion (λ (l : Line). entries_at (block ++ rest) l ≡ entries_at rest l) earlier = earlier_entries line.number earlier block rest (at_have_number past line) fall in
-    let here : AllByRecursion (λ (l : Line). entries_at past l ≡ entries_at rest l) earlier =
-    subst (λ (xs : List Event). AllByRecursion (λ (l : Line). entries_at xs l ≡ entries_at rest l) earlier) (sym serial.whole) same in
-    record {
-      legal = legal_before plan rest block (subst (IsLegal plan) serial.whole serial.legal);
-      placed = placed_before rest block (subst IsPlaced serial.whole serial.placed);
-      stamped = stamped_before rest block (subst IsStamped serial.whole serial.stamped);
-      given = both_give (λ (l : Line). entries_at past l ≡ entries_at rest l) (λ (l : Line). AreGivenBy l (entries_at past l)) (λ (l : Line). AreGivenBy l (entries_at rest l))
-          earlier (λ l is given. subst (AreGivenBy l) is given) here serial.given.1;
-      whole = joins_same (entries_at past) (entries_at rest) earlier here;
+      upto = (omega arith, at.upto);
+      done = both_give (λ (l : Line). l.number < line.number) (λ (l : Line). command_at (own_past l.cpu past) l ≡ None) (λ (l : Line). command_at (own_past l.cpu (e ∷ past)) l ≡ None) of.earlier
+          (λ l less none. stays_done past e l less none) of.falls at.done;
+      gives = gives_after past e line refl refl;
     }
 
--- a history of lines is their run
-run_only : (plan : Plan) (lines : List Line) (past : List Event) → Fall lines → IsSerialOf plan lines past → past ≡ run_after plan lines
-run_only plan [] past fall serial = serial.whole
-run_only plan (line ∷ earlier) past fall serial =
-    let block : List Event = entries_at past line in
-    let rest : List Event = flat_map (entries_at past) earlier in
-    let given : AreGivenBy line block = serial.given.0 in
-    let made : AreMade plan line rest block = are_made plan line rest block (subst (IsLegal plan) serial.whole serial.legal) (subst IsPlaced serial.whole serial.placed)
-    (subst IsStamped serial.whole serial.stamped) (at_have_number past line) given.cpu in
-    let before : rest ≡ run_after plan earlier = run_only plan earlier rest fall.1 (before_last plan line earlier past fall.0 serial) in
-    serial.whole ∙ only_done plan rest line line.directive block made given.gives ∙ ap (λ (xs : List Event). with_directive plan xs line line.directive) before
+-- so do those of `go` that are left
+gos_more : {plan : Plan} {script : Script} {line : Line} (of : IsLineOf plan script line) (past : List Event) (n m : ℕ) → line.directive ≡ GoAll → gos_left (ctx_at plan past line) ≡ n + m →
+    IsAt of past (Some Go) → IsAt of (gos plan n past line) (Some Go)
+gos_more of past zero m all left at = at
+gos_more {plan = plan} {line = line} of past (suc n) m all left at =
+    let before : List Event = gos plan n past line in
+    let next = further plan before line m (gos_go_on plan n (suc m) past line (omega (arith, left))).1 in
+    subst (IsAt of (gos plan (suc n) past line)) (ap (λ (d : Directive). command_after d (entry_after plan before line Go)) all ∙ ap (λ (ends : Bool). cond ends None (Some Go)) next.0.goes_on)
+    (one_more of before Go (gos_more of past n (suc m) all (omega (arith, left)) at))
+
+-- and those of a directive, after which the line is done
+directive_more : {plan : Plan} {script : Script} {line : Line} (of : IsLineOf plan script line) (past : List Event) (directive : Directive) → line.directive ≡ directive →
+    IsAt of past (Some (first_command directive)) → IsAt of (with_directive plan past line directive) None
+directive_more {plan = plan} {line = line} of past (Once cmd) is at =
+    subst (IsAt of (entry_after plan past line cmd ∷ past)) (ap (λ (d : Directive). command_after d (entry_after plan past line cmd)) is) (one_more of past cmd at)
+directive_more {plan = plan} {line = line} of past GoAll is at =
+    let n : ℕ = gos_left (ctx_at plan past line) in
+    let before : List Event = gos plan n past line in
+    let ends = last plan before line (gos_go_on plan n 0 past line (omega arith)).1 in
+    subst (λ (xs : List Event). IsAt of xs None) (sym (most_gos_is plan past line))
+    (subst (IsAt of (gos plan (suc n) past line)) (ap (λ (d : Directive). command_after d (entry_after plan before line Go)) is ∙ ap (λ (b : Bool). cond b None (Some Go)) ends)
+    (one_more of before Go (gos_more of past n 0 is (omega arith) at)))
+
+-- a line gives its first command after entries of earlier lines
+gives_first : (own : List Event) (line : Line) → AllByRecursion (λ (e : Event). e.trace.line < line.number) own → command_at own line ≡ Some (first_command line.directive)
+gives_first [] line below = refl
+gives_first (e ∷ earlier) line below = rw (lt-ltb e.trace.line line.number below.0) refl
+
+run_is : (plan : Plan) (script : Script) (lines later : List Line) → script.lines ≡ reverse_aux lines later → AllByRecursion (λ (line : Line). line.cpu < plan.cpus) script.lines → Fall lines →
+    IsRunOf plan script lines (run_after plan lines)
+run_is plan script [] later is on fall = record { part = record { legal = tt; part = tt; order = tt; stamped = tt }; below = λ n lines. tt; done = tt }
+run_is plan script (line ∷ earlier) later is on fall =
+    let past : List Event = run_after plan earlier in
+    let before : IsRunOf plan script earlier past = run_is plan script earlier (line ∷ later) is on fall.1 in
+    let below = before.below line.number fall.0 in
+    let cpu = (all_back (λ (l : Line). l.cpu < plan.cpus) earlier (line ∷ later) (subst (AllByRecursion (λ (l : Line). l.cpu < plan.cpus)) is on)).1.0 in
+    let of : IsLineOf plan script line = record { earlier = earlier; later = later; is = is; cpu = cpu; falls = fall.0 } in
+    let after : IsAt of (with_directive plan past line line.directive) None = directive_more of past line.directive refl (record {
+      part = before.part;
+      upto = all_give (λ (e : Event). e.trace.line < line.number) (λ (e : Event). e.trace.line ≤ line.number) past (λ e less. omega (arith, less)) below;
+      done = before.done;
+      gives = gives_first (own_past line.cpu past) line (all_kept (λ (e : Event). e.trace.line < line.number) (touches_cpu line.cpu) past below);
+    }) in
+    record {
+      part = after.part;
+      below = λ n lines. all_give (λ (e : Event). e.trace.line ≤ line.number) (λ (e : Event). e.trace.line < n) (with_directive plan past line line.directive) (λ e less. omega (arith, less, lines.0)) after.upto;
+      done = (after.gives, after.done);
+    }
 
 pub one_run : OneRun
 one_run script is =
     let plan = plan_of script.config in
     let lines = reverse script.lines in
+    let back : script.lines ≡ reverse_aux lines [] = sym (reverse-reverse script.lines) in
     let fall : Fall lines = reverse_falls script.lines is.rises in
-    let run : IsRunOf plan lines (run_of script) = run_is plan lines (all_reverse (λ (line : Line). line.cpu < plan.cpus) script.lines is.cpus) fall in
+    let on : OnCpus (cpu_at lines) script.lines = (all_back (λ (line : Line). cpu_at lines line.number ≡ line.cpu) script.lines [] (cpus_are_own lines fall)).0 in
+    let run : IsRunOf plan script lines (run_of script) = run_is plan script lines [] back is.cpus fall in
+    let ended : (n : ℕ) → next_of script (run_of script) n ≡ None = (λ n. none_is_next script (run_of script) lines n back run.done) in
     record {
-      holds = record {
-        legal = run.serial.legal;
-        serial = record {
-          scheduled = record { given = all_from_reverse (λ (line : Line). AreGivenBy line (entries_at (run_of script) line)) script.lines run.serial.given; lines = run.each; placed = run.serial.placed };
-          lines = run.serial.whole;
-          stamped = run.serial.stamped;
-        };
-      };
-      only = λ past other. run_only plan lines past fall (record {
-        legal = other.legal;
-        placed = other.serial.scheduled.placed;
-        stamped = other.serial.stamped;
-        given = all_reverse (λ (line : Line). AreGivenBy line (entries_at past line)) script.lines other.serial.scheduled.given;
-        whole = other.serial.lines;
-      });
+      holds = record { legal = run.part.legal; serial = record { scheduled = record { part = run.part.part; ended = ended }; order = run.part.order; stamped = run.part.stamped } };
+      only = λ other r. ended_same (cpu_at lines) plan script other (run_of script) on
+          (record { legal = r.legal; part = r.serial.scheduled.part; order = r.serial.order; stamped = r.serial.stamped }) run.part r.serial.scheduled.ended ended;
     }

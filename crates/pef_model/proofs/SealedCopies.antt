@@ -1,8 +1,8 @@
 -- What was last sealed of a page that is Out are its last stores, under the tag of its version, and so is what is pending of one that moves outward.
-use Rattle.std.proofs.Common.{◌≡◌, ℕ, ◌+◌, List, [], ◌∷◌, Bool, true, false, refl, ap, sym, subst, ◌∙◌, Some}
+use Rattle.std.proofs.Common.{◌≡◌, ℕ, ◌+◌, List, [], ◌∷◌, Bool, true, refl, ap, sym, subst, ◌∙◌, Some}
 use Rattle.std.specs.Prelude.{option_map}
 use Rattle.pef_model.specs.declared.state.Kind.{Kind}
-use Rattle.pef_model.specs.declared.state.Kind.TheVariants.{Secure, Out}
+use Rattle.pef_model.specs.declared.state.Kind.TheVariants.{Out}
 use Rattle.pef_model.specs.declared.state.Way.TheVariants as way
 use Rattle.pef_model.specs.declared.state.Run.{Run}
 use Rattle.pef_model.specs.declared.state.Ctx.{Ctx}
@@ -11,7 +11,7 @@ use Rattle.pef_model.specs.declared.command.Cmd.{Cmd}
 use Rattle.pef_model.specs.declared.entry.Answer.{Answer}
 use Rattle.pef_model.specs.Plan.{Plan, plan_of}
 use Rattle.pef_model.specs.Event.{Event}
-use Rattle.pef_model.specs.GuestPart.{Page, GuestPart, page_of, is_invalid, start_part_of}
+use Rattle.pef_model.specs.GuestPart.{Page, GuestPart, page_of, invalid_page}
 use Rattle.pef_model.specs.PageOut.{tag_of, private_page, sealed_page}
 use Rattle.pef_model.specs.Authority.{InSealedBytes, authority_by}
 use Rattle.pef_model.specs.History.{cpu_after, guest_after, last_store, IsLegal}
@@ -22,7 +22,7 @@ use Rattle.pef_model.proofs.Fields.{same_field, kept_field}
 use Rattle.pef_model.proofs.Paging.{pages, generations, all_moved}
 use Rattle.pef_model.proofs.Begun.{PageStep, Stays, Begun, Ended, Coming, Refused, Secured, not_both_ways, page_step}
 use Rattle.pef_model.proofs.PageBytes.{same_page_bytes}
-use Rattle.pef_model.proofs.KeptStores.{StoresNothing, others_store_nothing, last_store_stays}
+use Rattle.pef_model.proofs.KeptStores.{StoresNothing, others_store_nothing, content_stays}
 use Rattle.pef_model.proofs.Away.{IsAway, moves_away, out_away, away_stores_nothing}
 
 -- no step changes a generation
@@ -54,8 +54,8 @@ record HasCopy (page : Page) (copy : List ℕ) : Type 0 where
 
 -- an entry makes this copy of that: the bytes that a page-out seals, and else the old one where no access to the page is done
 record MakesCopy (old new : Page) (begins : Bool) (seal before after : List ℕ) : Type 0 where
-  made : begins ≡ true → new.version ≡ old.version + 1 → is_invalid new ≡ is_invalid old → after ≡ seal
-  kept : IsAway old → new.version ≡ old.version → is_invalid new ≡ is_invalid old → after ≡ before
+  made : begins ≡ true → new.version ≡ old.version + 1 → after ≡ seal
+  kept : IsAway old → new.version ≡ old.version → after ≡ before
 
 -- so the page has it then
 copy_after : (old new : Page) (begins : Bool) (bytes seal before after : List ℕ) → PageStep old new begins bytes seal → MakesCopy old new begins seal before after → HasCopy old before → HasCopy new after
@@ -64,26 +64,23 @@ copy_after old new begins bytes seal before after (Stays none is) makes h = subs
   pending = λ cpu moves. h.pending cpu moves ∙ ap Some (sym (same (moves_away old _ moves)));
 }) where
   same : IsAway old → after ≡ before
-  same away = makes.kept away (ap (λ (page : Page). page.version) is) (ap is_invalid is)
+  same away = makes.kept away (ap (λ (page : Page). page.version) is)
 copy_after old new begins bytes seal before after (Begun some cpu secure sealed is) makes h = subst (λ (page : Page). HasCopy page after) (sym is) (record {
   sealed = λ out. cc;
-  pending = λ n moves. ap Some (sealed ∙ sym (makes.made some (ap (λ (page : Page). page.version) is) (ap is_invalid is)));
+  pending = λ n moves. ap Some (sealed ∙ sym (makes.made some (ap (λ (page : Page). page.version) is)));
 })
 copy_after old new begins bytes seal before after (Ended none hand cpu moving is) makes h = subst (λ (page : Page). HasCopy page after) (sym is) (record {
   sealed = λ out. h.pending cpu moving.mover ∙ ap Some (sym same);
   pending = λ n rests. cc;
 }) where
-  is_secure : (page : Page) → page.kind ≡ Secure → false ≡ is_invalid page
-  is_secure page secure = ap (λ (k : Kind). is_invalid (record page { kind = k })) (sym secure)
-
   same : after ≡ before
-  same = makes.kept (moves_away old _ moving.mover) (ap (λ (page : Page). page.version) is) (ap is_invalid is ∙ is_secure old moving.kind_is)
+  same = makes.kept (moves_away old _ moving.mover) (ap (λ (page : Page). page.version) is)
 copy_after old new begins bytes seal before after (Coming none cpu is) makes h = subst (λ (page : Page). HasCopy page after) (sym is) (record {
-  sealed = λ out. h.sealed out ∙ ap Some (sym (makes.kept (out_away old out) (ap (λ (page : Page). page.version) is) (ap is_invalid is)));
+  sealed = λ out. h.sealed out ∙ ap Some (sym (makes.kept (out_away old out) (ap (λ (page : Page). page.version) is)));
   pending = λ n moves. absurd (not_both_ways n cpu _ _ refl moves refl);
 })
 copy_after old new begins bytes seal before after (Refused none is) makes h = subst (λ (page : Page). HasCopy page after) (sym is) (record {
-  sealed = λ out. h.sealed out ∙ ap Some (sym (makes.kept (out_away old out) (ap (λ (page : Page). page.version) is) (ap is_invalid is)));
+  sealed = λ out. h.sealed out ∙ ap Some (sym (makes.kept (out_away old out) (ap (λ (page : Page). page.version) is)));
   pending = λ n rests. cc;
 })
 copy_after old new begins bytes seal before after (Secured none is) makes h = subst (λ (page : Page). HasCopy page after) (sym is) (record { sealed = λ out. cc; pending = λ n rests. cc })
@@ -105,14 +102,13 @@ module _ (plan : Plan) (past : List Event) (e : Event) (lpid gfn : ℕ) (legal :
   g = (guest_after plan lpid past).part
 
   -- where nothing is stored in the page, its copy differs in the version alone
-  same_copy : (version : ℕ) → ((gpa : ℕ) → page_of plan gpa ≡ gfn → StoresNothing plan past e lpid gpa) → new.version ≡ version → is_invalid new ≡ is_invalid old →
+  same_copy : (version : ℕ) → ((gpa : ℕ) → page_of plan gpa ≡ gfn → StoresNothing plan past e lpid gpa) → new.version ≡ version →
       copy_of plan (e ∷ past) lpid gfn ≡ plan.image (tag_of g lpid gfn version) (private_page plan (guest_after plan lpid past) gfn)
-  same_copy version none is invalid =
+  same_copy version none is =
       let generation : generations plan (e ∷ past) lpid ≡ g.generation = ap (λ (f : ℕ → ℕ). f lpid) (sym (generations_stay plan past e (change plan past e legal.0))) in
       let bytes : private_page plan (guest_after plan lpid (e ∷ past)) gfn ≡ private_page plan (guest_after plan lpid past) gfn =
       same_page_bytes plan.shift (last_store plan (e ∷ past) lpid) (last_store plan past lpid) gfn
-      (λ gpa here. last_store_stays plan past e lpid gpa (none gpa here)
-      (subst (λ (n : ℕ). is_invalid (pages plan (e ∷ past) lpid n) ≡ is_invalid (pages plan past lpid n)) (sym here) invalid)) in
+      (λ gpa here. content_stays plan past e lpid gpa (none gpa here)) in
       ap (λ (x : ℕ). plan.image (record { lpid = lpid; generation = x; gfn = gfn; version = new.version }) (private_page plan (guest_after plan lpid (e ∷ past)) gfn)) generation
       ∙ ap (λ (x : ℕ). plan.image (tag_of g lpid gfn x) (private_page plan (guest_after plan lpid (e ∷ past)) gfn)) is
       ∙ ap (plan.image (tag_of g lpid gfn version)) bytes
@@ -127,13 +123,12 @@ module _ (plan : Plan) (past : List Event) (e : Event) (lpid gfn : ℕ) (legal :
   }
 
 -- at the start no page is Out or moves
-start_has_copy : (b : Bool) (gfn : ℕ) (copy : List ℕ) → HasCopy ((start_part_of b).pages gfn) copy
-start_has_copy true gfn copy = record { sealed = λ out. cc; pending = λ cpu moves. cc }
-start_has_copy false gfn copy = record { sealed = λ out. cc; pending = λ cpu moves. cc }
+start_has_copy : (copy : List ℕ) → HasCopy invalid_page copy
+start_has_copy copy = record { sealed = λ out. cc; pending = λ cpu moves. cc }
 
 -- by induction over the history
 has_copy : (plan : Plan) (past : List Event) (lpid gfn : ℕ) → IsLegal plan past → HasCopy (pages plan past lpid gfn) (copy_of plan past lpid gfn)
-has_copy plan [] lpid gfn legal = start_has_copy (plan.is_born lpid) gfn (copy_of plan [] lpid gfn)
+has_copy plan [] lpid gfn legal = start_has_copy (copy_of plan [] lpid gfn)
 has_copy plan (e ∷ past) lpid gfn legal =
     copy_after _ _ (begins_out plan lpid gfn e) e.bytes (sealed_page plan (guest_after plan lpid past) lpid gfn) (copy_of plan past lpid gfn) (copy_of plan (e ∷ past) lpid gfn)
     (page_step plan past e legal.0 lpid gfn (all_moved plan past legal.1) (change plan past e legal.0)) (makes_copy plan past e lpid gfn legal) (has_copy plan past lpid gfn legal.1)

@@ -1,19 +1,21 @@
 -- What an entry makes of the public state doesn't depend on what a guest alone knows.
-use Rattle.std.proofs.Common.{◌≡◌, ℕ, Bool, true, false, List, [], ◌∷◌, map, refl, ap, sym, ◌∙◌}
-use Rattle.pef_model.specs.declared.state.Work.{Work}
+use Rattle.std.proofs.Common.{Option, ◌≡◌, ℕ, Bool, true, false, List, [], ◌∷◌, map, refl, ap, sym, ◌∙◌, if◌then◌else◌}
 use Rattle.pef_model.specs.declared.state.Work.TheVariants.{Inward, Outward}
 use Rattle.pef_model.specs.declared.state.Ctx.{Ctx}
 use Rattle.pef_model.specs.declared.state.Ctx.TheVariants as ctx
 use Rattle.pef_model.specs.declared.command.Cmd.{Cmd}
-use Rattle.pef_model.specs.declared.command.Cmd.TheVariants.{GLi, GLd, GSt, GIrq}
+use Rattle.pef_model.specs.declared.command.Cmd.TheVariants.{GLi, GLd}
+use Rattle.pef_model.specs.declared.entry.Exit.TheVariants as exit
 use Rattle.pef_model.specs.declared.entry.Answer.{Answer}
-use Rattle.pef_model.specs.declared.entry.Answer.TheVariants.{Val}
+use Rattle.pef_model.specs.declared.entry.Answer.TheVariants.{Val, Exit, Done, Enter, Step}
+use Rattle.pef_model.specs.declared.entry.PoolSaw.{PoolSaw}
 use Rattle.pef_model.specs.Plan.{Plan}
 use Rattle.pef_model.specs.Event.{Event, value_after}
-use Rattle.pef_model.specs.Target.{is_guest, touches_cpu, touches_guest, touches_pool, touches_frame}
-use Rattle.pef_model.specs.Cpu.{start_cpu, CpuPart, next_cpu, cpu_after_in, cpu_after_guest, own_after, hand_after, last_after}
-use Rattle.pef_model.specs.GuestPart.{start_part, GuestPart, page_of, next_part, part_after_in, part_after_guest, part_after_hypervisor, part_after_access, part_after_interrupt}
-use Rattle.pef_model.specs.Memory.{start_pool, next_pool, start_frame, next_frame, written, copied, written_in}
+use Rattle.pef_model.specs.Target.{is_guest, touches_cpu, touches_guest, touches_pool, touches_frame, takes_bytes}
+use Rattle.pef_model.specs.Cpu.{start_cpu, CpuPart, next_cpu, cpu_in, cpu_of_guest, own_after, last_after}
+use Rattle.pef_model.specs.GuestPart.{start_part, GuestPart, part_in, next_part}
+use Rattle.pef_model.specs.Memory.{start_pool, next_pool, start_frame, next_frame, after_writes}
+use Rattle.pef_model.proofs.FrameOpen.{writes_open}
 use Rattle.pef_model.specs.Guest.{Guest, start_guest, next_guest}
 use Rattle.pef_model.specs.declared.state.Run.{Run}
 use Rattle.pef_model.specs.History.{cpu_after, guest_after, pool_after, frame_after}
@@ -25,70 +27,46 @@ own_open : (own : List ℕ) (cmd : Cmd) (a : Answer) → own_after own cmd a ≡
 own_open own (GLi rd value) a = refl
 own_open own cmd a = refl
 
-hand_open : (hand : List ℕ) (cmd : Cmd) (a : Answer) (bytes : List ℕ) → hand_after hand cmd a bytes ≡ hand_after hand (open_cmd cmd) a bytes
-hand_open hand (GLi rd value) a bytes = refl
-hand_open hand cmd a bytes = refl
+cpu_guest_open : (cpu : CpuPart) (run : Run) (a : Answer) (shown : List ℕ) → cpu_of_guest cpu run a shown ≡ cpu_of_guest cpu run (open_answer_of_guest a) shown
+cpu_guest_open cpu run (Val value) shown = refl
+cpu_guest_open cpu run a shown = refl
 
-cpu_guest_open : (cpu : CpuPart) (run : Run) (a : Answer) → cpu_after_guest cpu run a ≡ cpu_after_guest cpu run (open_answer_of_guest a)
-cpu_guest_open cpu run (Val value) = refl
-cpu_guest_open cpu run a = refl
+cpu_in_open : (cpu : CpuPart) (c : Ctx) (cmd : Cmd) (a : Answer) (shown : List ℕ) → cpu_in c cpu cmd a shown ≡ cpu_in c cpu (open_cmd cmd) (open_answer c a) shown
+cpu_in_open cpu ctx.Hv cmd a shown = ap (λ (own : List ℕ). record cpu { own = own; last = last_after cpu.last a }) (own_open cpu.own cmd a)
+cpu_in_open cpu (ctx.Uv work) cmd a shown = refl
+cpu_in_open cpu (ctx.Guest run) cmd a shown = cpu_guest_open cpu run a shown
 
--- an entry opened as in this context
-abbrev opened : Ctx → Event → Event
-opened c e = record e { trace = record e.trace { cmd = open_cmd e.trace.cmd; answer = open_answer c e.trace.answer } }
+-- nor to whether the hand takes its bytes
+takes_open : (c : Ctx) (cmd : Cmd) (a : Answer) → takes_bytes c cmd a ≡ takes_bytes c (open_cmd cmd) (open_answer c a)
+takes_open ctx.Hv (GLi rd value) a = refl
+takes_open ctx.Hv cmd a = refl
+takes_open (ctx.Uv (Inward move)) cmd Step = refl
+takes_open (ctx.Uv (Inward move)) cmd a = refl
+takes_open (ctx.Uv (Outward move)) cmd a = refl
+takes_open (ctx.Guest run) cmd a = refl
 
 cpu_open : (cpu : CpuPart) (e : Event) → next_cpu cpu e ≡ next_cpu cpu (open_entry e)
-cpu_open cpu e = by_ctx e.saw.before where
-  by_ctx : (c : Ctx) → cpu_after_in c cpu e ≡ cpu_after_in c cpu (opened c e)
-  by_ctx ctx.Hv = (λ i. record cpu {
-    ctx = e.saw.after;
-    own = own_open cpu.own e.trace.cmd e.trace.answer i;
-    last = last_after cpu.last e.trace.answer;
-    hand = hand_open cpu.hand e.trace.cmd e.trace.answer e.bytes i;
-  })
-  by_ctx (ctx.Uv work) = refl
-  by_ctx (ctx.Guest run) = cpu_guest_open cpu run e.trace.answer
+cpu_open cpu e = λ i. record (cpu_in_open cpu e.saw.before e.trace.cmd e.trace.answer e.saw.shown i) {
+  ctx = e.saw.after;
+  hand = if takes_open e.saw.before e.trace.cmd e.trace.answer i then e.bytes else cpu.hand;
+}
 
-access_open : (g : GuestPart) (gfn : ℕ) (a : Answer) → part_after_access g gfn a ≡ part_after_access g gfn (open_answer_of_guest a)
-access_open g gfn (Val value) = refl
-access_open g gfn a = refl
-
-interrupt_open : (g : GuestPart) (v : ℕ) (a : Answer) → part_after_interrupt g v a ≡ part_after_interrupt g v (open_answer_of_guest a)
-interrupt_open g v (Val value) = refl
-interrupt_open g v a = refl
+-- what a guest alone knows makes no difference to what an entry does
+effect_open : (plan : Plan) (g : GuestPart) (cpu : ℕ) (bytes : List ℕ) (c : Ctx) (a : Answer) (cmd : Cmd) (pool : Option PoolSaw) (vid : ℕ) → part_in plan g c a cmd pool vid cpu bytes ≡ part_in plan g c (open_answer c a) (open_cmd cmd) pool vid cpu bytes
+effect_open plan g cpu bytes ctx.Hv Step (GLi rd value) pool vid = refl
+effect_open plan g cpu bytes ctx.Hv Enter (GLi rd value) pool vid = refl
+effect_open plan g cpu bytes ctx.Hv a cmd pool vid = refl
+effect_open plan g cpu bytes (ctx.Uv work) a cmd pool vid = refl
+effect_open plan g cpu bytes (ctx.Guest run) Done (GLi rd value) pool vid = refl
+effect_open plan g cpu bytes (ctx.Guest run) (Val value) (GLd rd gpa) pool vid = refl
+effect_open plan g cpu bytes (ctx.Guest run) (Exit exit.Irq) (GLi rd value) pool vid = refl
+effect_open plan g cpu bytes (ctx.Guest run) a cmd pool vid = refl
 
 guest_open : (plan : Plan) (g : GuestPart) (e : Event) → next_part plan g e ≡ next_part plan g (open_entry e)
-guest_open plan g e = by_ctx e.saw.before where
-  by_cmd : (cmd : Cmd) → part_after_hypervisor plan g cmd e ≡ part_after_hypervisor plan g (open_cmd cmd) (opened ctx.Hv e)
-  by_cmd (GLi rd value) = refl
-  by_cmd cmd = refl
+guest_open plan g e = effect_open plan g e.trace.cpu e.bytes e.saw.before e.trace.answer e.trace.cmd e.saw.pool e.saw.vid
 
-  by_guest : (v : ℕ) (cmd : Cmd) (a : Answer) → part_after_guest plan g v cmd a ≡ part_after_guest plan g v (open_cmd cmd) (open_answer_of_guest a)
-  by_guest v (GLd rd gpa) a = access_open g (page_of plan gpa) a
-  by_guest v (GSt rs gpa) a = access_open g (page_of plan gpa) a
-  by_guest v GIrq a = interrupt_open g v a
-  by_guest v cmd a = refl
-
-  by_ctx : (c : Ctx) → part_after_in c plan g e ≡ part_after_in c plan g (opened c e)
-  by_ctx ctx.Hv = by_cmd e.trace.cmd
-  by_ctx (ctx.Uv work) = refl
-  by_ctx (ctx.Guest run) = by_guest run.vid e.trace.cmd e.trace.answer
-
-written_open : (plan : Plan) (bytes : List ℕ) (cmd : Cmd) (a : Answer) → written plan bytes cmd a ≡ written plan bytes (open_cmd cmd) a
-written_open plan bytes (GLi rd value) a = refl
-written_open plan bytes cmd a = refl
-
-copied_open : (work : Work) (bytes : List ℕ) (cmd : Cmd) (a : Answer) (hand : List ℕ) → copied work bytes cmd a hand ≡ copied work bytes (open_cmd cmd) a hand
-copied_open (Inward move) bytes cmd a hand = refl
-copied_open (Outward move) bytes (GLi rd value) a hand = refl
-copied_open (Outward move) bytes cmd a hand = refl
-
-frame_open : (plan : Plan) (bytes : List ℕ) (e : Event) → next_frame plan bytes e ≡ next_frame plan bytes (open_entry e)
-frame_open plan bytes e = by_ctx e.saw.before where
-  by_ctx : (c : Ctx) → written_in c plan bytes e.trace.cmd e.trace.answer e.bytes ≡ written_in c plan bytes (open_cmd e.trace.cmd) (open_answer c e.trace.answer) e.bytes
-  by_ctx ctx.Hv = written_open plan bytes e.trace.cmd e.trace.answer
-  by_ctx (ctx.Uv work) = copied_open work bytes e.trace.cmd e.trace.answer e.bytes
-  by_ctx (ctx.Guest run) = refl
+frame_open : (plan : Plan) (n : ℕ) (bytes : List ℕ) (e : Event) → next_frame plan n bytes e ≡ next_frame plan n bytes (open_entry e)
+frame_open plan n bytes e = ap (after_writes n bytes) (writes_open plan e.saw.before e.trace.cmd e.trace.answer e.bytes e.saw.frame)
 
 pub no_secret_in_one_entry : NoSecretInOneEntry
 no_secret_in_one_entry plan e f same = record {
@@ -101,7 +79,7 @@ no_secret_in_one_entry plan e f same = record {
   cpu = λ cpu. cpu_open cpu e ∙ ap (next_cpu cpu) same ∙ sym (cpu_open cpu f);
   guest = λ g. guest_open plan g e ∙ ap (next_part plan g) same ∙ sym (guest_open plan g f);
   pool = λ free. ap (next_pool free) same;
-  frame = λ bytes. frame_open plan bytes e ∙ ap (next_frame plan bytes) same ∙ sym (frame_open plan bytes f);
+  frame = λ n bytes. frame_open plan n bytes e ∙ ap (next_frame plan n bytes) same ∙ sym (frame_open plan n bytes f);
 }
 
 -- a fold over two histories that agree goes on to agree
@@ -147,7 +125,7 @@ parts_agree plan (e ∷ past) (f ∷ other) same =
       cpu = λ n. agree_more (touches_cpu n) next_cpu (start_cpu plan) e f past other (law.touches_cpu n) law.cpu (before.cpu n);
       part = λ lpid. agree_more (touches_guest plan lpid) (next_part plan) (start_part plan lpid) e f past other (law.touches_guest lpid) law.guest (before.part lpid);
       pool = agree_more touches_pool next_pool (start_pool plan) e f past other law.touches_pool law.pool before.pool;
-      frame = λ n. agree_more (touches_frame n) (next_frame plan) (start_frame plan) e f past other (law.touches_frame n) law.frame (before.frame n);
+      frame = λ n. agree_more (touches_frame n) (next_frame plan n) (start_frame plan) e f past other (law.touches_frame n) (law.frame n) (before.frame n);
     }
 
 pub no_secret_in_public_state : NoSecretInPublicState

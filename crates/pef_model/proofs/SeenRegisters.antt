@@ -10,5 +10,5 @@ pub registers_are_seen : RegistersAreSeen
 registers_are_seen plan [] n legal runs = refl
 registers_are_seen plan (e ∷ past) n legal runs =
     let before = registers_are_seen plan past n legal.1 in
-    let after = ctx_after plan past e legal.0 in
+    let after = ctx_after plan past e in
     grind (arith, nat_tests, common_steps)

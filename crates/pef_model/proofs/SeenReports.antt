@@ -8,18 +8,20 @@ use Rattle.pef_model.specs.Plan.{Plan, plan_of}
 use Rattle.pef_model.specs.Event.{Event}
 use Rattle.pef_model.specs.History.{PublicState, public_state}
 use Rattle.pef_model.specs.Report.{answer_text, entry_line, frames_below, free_text}
-use Rattle.pef_model.specs.View.{Step, Sight, if_hypervisor, is_hypervisor, is_seen, either_of, sight, view}
+use Rattle.pef_model.specs.View.{SeenStep, Sight, if_hypervisor, is_seen, sight, view}
+use Rattle.pef_model.specs.Memory.{either_of}
+use Rattle.pef_model.specs.Target.{is_hypervisor}
 use Rattle.pef_model.specs.Alike.{ShowTheSame, first}
 use Rattle.pef_model.specs.SeenReport.{AlikeReportTheSame}
 use Rattle.pef_model.proofs.Views.{alike_show_the_same, length_alike, one_plan}
 use Rattle.std.specs.Prelude.{codes, decimal}
 
 -- the line of a step
-abbrev step_line : Step → List ℕ
+abbrev step_line : SeenStep → List ℕ
 step_line s = decimal s.line ++ (codes " " ++ (decimal s.cpu ++ (codes " " ++ (s.command ++ (codes " " ++ (answer_text s.answer ++ codes "\n"))))))
 
 -- the line of what an entry shows before others
-abbrev before_seen : Option Step → List (List ℕ) → List (List ℕ)
+abbrev before_seen : Option SeenStep → List (List ℕ) → List (List ℕ)
 before_seen None lines = lines
 before_seen (Some s) lines = step_line s ∷ lines
 
@@ -32,7 +34,7 @@ lines_of_view (s ∷ more) = before_seen s.step (lines_of_view more)
 abbrev shown_places : List Sight → List Bool
 shown_places sights = map (λ (s : Sight). is_some s.step) sights
 
-seen_is_shown : (before after : Ctx) (s : Step) → is_hypervisor before || is_hypervisor after ≡ is_some (either_of (if_hypervisor before s) (if_hypervisor after s))
+seen_is_shown : (before after : Ctx) (s : SeenStep) → is_hypervisor before || is_hypervisor after ≡ is_some (either_of (if_hypervisor before s) (if_hypervisor after s))
 seen_is_shown ctx.Hv after s = refl
 seen_is_shown (ctx.Uv work) ctx.Hv s = refl
 seen_is_shown (ctx.Uv work) (ctx.Uv other) s = refl
@@ -47,7 +49,7 @@ places_shown plan (e ∷ past) =
     ap (λ (b : Bool). b ∷ map is_seen past) (seen_is_shown e.saw.before e.saw.after _)
     ∙ ap (λ (bs : List Bool). is_some (sight plan past e).step ∷ bs) (places_shown plan past)
 
-line_shown : (before after : Ctx) (s : Step) (lines : List (List ℕ)) →
+line_shown : (before after : Ctx) (s : SeenStep) (lines : List (List ℕ)) →
     cond (is_hypervisor before || is_hypervisor after) (step_line s ∷ lines) lines ≡ before_seen (either_of (if_hypervisor before s) (if_hypervisor after s)) lines
 line_shown ctx.Hv after s lines = refl
 line_shown (ctx.Uv work) ctx.Hv s lines = refl

@@ -1,5 +1,5 @@
 -- What an entry makes of its CPU and lets out.
-use Rattle.std.proofs.Common.{◌≡◌, ℕ, ◌<◌, List, [], ◌∷◌, ◌++◌, length, take, drop, replicate, get_or, refl, ap, sym, subst, ◌∙◌, if◌then◌else◌, arith, Bool, true, false, ◌==◌, ◌≢◌}
+use Rattle.std.proofs.Common.{◌≡◌, ℕ, ◌<◌, List, [], ◌∷◌, ◌++◌, length, take, drop, replicate, get_or, refl, ap, sym, subst, ◌∙◌, if◌then◌else◌, arith, Bool, true, false, ◌==◌, ◌≢◌, Option}
 use Rattle.std.specs.Prelude.{unwrap_or, slice_set}
 use Rattle.std.proofs.lemmas.List.{get_or-replicate, set-get_or}
 use Rattle.std.proofs.Math.ListN.{length-set}
@@ -17,20 +17,19 @@ use Rattle.pef_model.specs.declared.entry.Exit.TheVariants as exit
 use Rattle.pef_model.specs.declared.entry.Answer.{Answer}
 use Rattle.pef_model.specs.declared.entry.Answer.TheVariants.{Done, Val, Ret, Step, Enter, Exit, Again, Gone, Hole, Context}
 use Rattle.pef_model.specs.Plan.{Plan}
-use Rattle.pef_model.specs.Event.{Event, Mark, mark_of}
+use Rattle.pef_model.specs.Event.{Event}
 use Rattle.pef_model.specs.Registers.{number_of, interrupt_registers, load_return}
-use Rattle.pef_model.specs.Cpu.{CpuPart, start_cpu, next_cpu, cpu_after_work, cpu_after_guest, own_after, own_after_return, own_after_load, last_after}
-use Rattle.pef_model.specs.Target.{touches_cpu}
-use Rattle.pef_model.specs.History.{cpu_after, next_entry, Extends}
+use Rattle.pef_model.specs.Cpu.{CpuPart, start_cpu, next_cpu, cpu_in, cpu_by, cpu_of_guest, own_after, own_after_call, own_after_load, last_after}
+use Rattle.pef_model.specs.Target.{touches_cpu, caller}
+use Rattle.pef_model.specs.History.{cpu_after, guest_after}
 use Rattle.pef_model.specs.SearchLaw.{loaded_value, IsCommand}
-use Rattle.pef_model.specs.SecretLaw.{takes_bytes}
-use Rattle.pef_model.specs.StepLaw.{is_kept, given_by_return, given_by_page_call, given_by_load, given_by_coming_back, own_given_in, selected_lpid, selected_vid, let_out, EachEntryLeavesCpu}
+use Rattle.pef_model.specs.StepLaw.{given_by_return, given_by_page_call, given_by_load, own_given_in, selected_lpid, selected_vid, let_out, EachEntryLeavesCpu, is_kept, given_by_work}
 use Rattle.pef_model.proofs.Folds.{same_test, test_same, counts}
-use Rattle.pef_model.proofs.NextValues.{cpu_by, cpu_by_is}
 use Rattle.pef_model.proofs.Assigned.{returned_value, set_value}
 use Rattle.pef_model.proofs.Called.{load_page_call, called_value, number_stays}
 use Rattle.pef_model.proofs.OwnRegisters.{own_registers}
-use Rattle.pef_model.proofs.Outcomes.{Outcome, next_outcome, outcome, Moving, moving}
+use Rattle.pef_model.proofs.Outcomes.{Outcome, outcome, Moving, moving}
+use Rattle.pef_model.specs.Guest.{Guest}
 
 -- the context after a guest's step, by its answer
 abbrev pub ctx_after_guest : Run → Answer → Ctx
@@ -59,60 +58,49 @@ after_guest run Go a after shown h = absurd h
 after_guest run cmd Gone after shown h = h.0
 after_guest run cmd a after shown h = absurd h
 
-ctx_left_by_guest : (cpu : CpuPart) (run : Run) (a : Answer) → cpu.ctx ≡ ctx.Guest run → (cpu_after_guest cpu run a).ctx ≡ ctx_after_guest run a
-ctx_left_by_guest cpu run (Exit exit) h = refl
-ctx_left_by_guest cpu run Gone h = refl
-ctx_left_by_guest cpu run a h = h
-
--- a step of a call in progress leaves the context that it tells
-ctx_left_by_work : (cpu : CpuPart) (work : Work) (after : Ctx) (a : Answer) (shown bytes : List ℕ) → cpu.ctx ≡ ctx.Uv work → Moving work a after shown →
-    (cpu_after_work cpu work after a bytes).ctx ≡ after
-ctx_left_by_work cpu work after Step shown bytes before h = refl
-ctx_left_by_work cpu work after (Ret code) shown bytes before h = refl
-ctx_left_by_work cpu work after Context shown bytes before h = before ∙ sym h.0
-ctx_left_by_work cpu work after a shown bytes before h = absurd h
-
--- so does every step
-ctx_left : (cpu : CpuPart) (c after : Ctx) (cmd : Cmd) (a : Answer) (shown bytes : List ℕ) → cpu.ctx ≡ c → Outcome c cmd a after shown →
-    (cpu_by cpu c after cmd a bytes).ctx ≡ after
-ctx_left cpu ctx.Hv after cmd a shown bytes before h = refl
-ctx_left cpu (ctx.Uv work) after cmd a shown bytes before h = ctx_left_by_work cpu work after a shown bytes before (moving work cmd a after shown h)
-ctx_left cpu (ctx.Guest run) after cmd a shown bytes before h = ctx_left_by_guest cpu run a before ∙ sym (after_guest run cmd a after shown h)
-
 -- a command of another context leaves the CPU as it is
-context_leaves : (cpu : CpuPart) (c after : Ctx) (cmd : Cmd) (shown bytes : List ℕ) → cpu.ctx ≡ c → Outcome c cmd Context after shown → cpu_by cpu c after cmd Context bytes ≡ cpu
+pub context_leaves : (cpu : CpuPart) (c after : Ctx) (cmd : Cmd) (shown bytes : List ℕ) → cpu.ctx ≡ c → Outcome c cmd Context after shown → cpu_by cpu c after cmd Context shown bytes ≡ cpu
 context_leaves cpu ctx.Hv after (HLd ra) shown bytes before h = absurd h
 context_leaves cpu ctx.Hv after (HSt ra value) shown bytes before h = absurd h
 context_leaves cpu ctx.Hv after (UPagein lpid src gpa flags order) shown bytes before h = absurd h
 context_leaves cpu ctx.Hv after (UPageout lpid dest gpa flags order) shown bytes before h = absurd h
 context_leaves cpu ctx.Hv after (UReturn r0 r2 outs) shown bytes before h = absurd h
 context_leaves cpu ctx.Hv after cmd shown bytes before h = (λ i. record cpu { ctx = (h.0 ∙ sym before) i })
-context_leaves cpu (ctx.Uv work) after cmd shown bytes before h = refl
-context_leaves cpu (ctx.Guest run) after cmd shown bytes before h = refl
+context_leaves cpu (ctx.Uv (Inward move)) after Go shown bytes before h = absurd h
+context_leaves cpu (ctx.Uv (Inward move)) after cmd shown bytes before h = (λ i. record cpu { ctx = (h.0 ∙ sym before) i })
+context_leaves cpu (ctx.Uv (Outward move)) after Go shown bytes before h = absurd h
+context_leaves cpu (ctx.Uv (Outward move)) after cmd shown bytes before h = (λ i. record cpu { ctx = (h.0 ∙ sym before) i })
+context_leaves cpu (ctx.Guest run) after (HLd ra) shown bytes before h = (λ i. record cpu { ctx = (h.0 ∙ sym before) i })
+context_leaves cpu (ctx.Guest run) after (HSt ra value) shown bytes before h = (λ i. record cpu { ctx = (h.0 ∙ sym before) i })
+context_leaves cpu (ctx.Guest run) after Go shown bytes before h = (λ i. record cpu { ctx = (h.0 ∙ sym before) i })
+context_leaves cpu (ctx.Guest run) after cmd shown bytes before h = absurd h
 
 last_by_hypervisor : (old a : Answer) (after : Ctx) → last_after old a ≡ (if is_kept ctx.Hv a after then a else old)
 last_by_hypervisor old Context after = refl
 last_by_hypervisor old a after = refl
 
 -- of a call in progress the last answer is kept where it comes back
-last_by_work : (cpu : CpuPart) (work : Work) (after : Ctx) (a : Answer) (shown bytes : List ℕ) → Moving work a after shown →
-    (cpu_after_work cpu work after a bytes).last ≡ (if is_kept (ctx.Uv work) a after then a else cpu.last)
-last_by_work cpu work after Step shown bytes h = ap (λ (x : Ctx). if is_kept (ctx.Uv work) Step x then Step else cpu.last) (sym h.0)
-last_by_work cpu work after (Ret code) shown bytes h = ap (λ (x : Ctx). if is_kept (ctx.Uv work) (Ret code) x then Ret code else cpu.last) (sym h.0)
-last_by_work cpu work after Context shown bytes h = refl
-last_by_work cpu work after a shown bytes h = absurd h
+last_by_work : (cpu : CpuPart) (work : Work) (after : Ctx) (a : Answer) (shown : List ℕ) → Moving work a after shown →
+    (cpu_in (ctx.Uv work) cpu Go a shown).last ≡ (if is_kept (ctx.Uv work) a after then a else cpu.last)
+last_by_work cpu (Inward move) after Step shown h = ap (λ (x : Ctx). if is_kept (ctx.Uv (Inward move)) Step x then Step else cpu.last) (sym h.0)
+last_by_work cpu (Outward move) after Step shown h = ap (λ (x : Ctx). if is_kept (ctx.Uv (Outward move)) Step x then Step else cpu.last) (sym h.0)
+last_by_work cpu (Inward move) after (Ret code) shown h = ap (λ (x : Ctx). if is_kept (ctx.Uv (Inward move)) (Ret code) x then Ret code else cpu.last) (sym h.0)
+last_by_work cpu (Outward move) after (Ret code) shown h = ap (λ (x : Ctx). if is_kept (ctx.Uv (Outward move)) (Ret code) x then Ret code else cpu.last) (sym h.0)
+last_by_work cpu (Inward move) after Context shown h = refl
+last_by_work cpu (Outward move) after Context shown h = refl
+last_by_work cpu work after a shown h = absurd h
 
-last_by_guest : (cpu : CpuPart) (run : Run) (a : Answer) → (cpu_after_guest cpu run a).last ≡ (if is_kept (ctx.Guest run) a (ctx_after_guest run a) then a else cpu.last)
-last_by_guest cpu run (Exit exit) = refl
-last_by_guest cpu run Gone = refl
-last_by_guest cpu run a = refl
+last_by_guest : (cpu : CpuPart) (run : Run) (a : Answer) (shown : List ℕ) → (cpu_of_guest cpu run a shown).last ≡ (if is_kept (ctx.Guest run) a (ctx_after_guest run a) then a else cpu.last)
+last_by_guest cpu run (Exit exit) shown = refl
+last_by_guest cpu run Gone shown = refl
+last_by_guest cpu run a shown = refl
 
-last_left : (cpu : CpuPart) (c after : Ctx) (cmd : Cmd) (a : Answer) (shown bytes : List ℕ) → Outcome c cmd a after shown →
-    (cpu_by cpu c after cmd a bytes).last ≡ (if is_kept c a after then a else cpu.last)
-last_left cpu ctx.Hv after cmd a shown bytes h = last_by_hypervisor cpu.last a after
-last_left cpu (ctx.Uv work) after cmd a shown bytes h = last_by_work cpu work after a shown bytes (moving work cmd a after shown h)
-last_left cpu (ctx.Guest run) after cmd a shown bytes h =
-    last_by_guest cpu run a ∙ ap (λ (x : Ctx). if is_kept (ctx.Guest run) a x then a else cpu.last) (sym (after_guest run cmd a after shown h))
+last_left : (cpu : CpuPart) (c after : Ctx) (cmd : Cmd) (a : Answer) (shown : List ℕ) → Outcome c cmd a after shown →
+    (cpu_in c cpu cmd a shown).last ≡ (if is_kept c a after then a else cpu.last)
+last_left cpu ctx.Hv after cmd a shown h = last_by_hypervisor cpu.last a after
+last_left cpu (ctx.Uv work) after cmd a shown h = last_by_work cpu work after a shown (moving work cmd a after shown h)
+last_left cpu (ctx.Guest run) after cmd a shown h =
+    last_by_guest cpu run a shown ∙ ap (λ (x : Ctx). if is_kept (ctx.Guest run) a x then a else cpu.last) (sym (after_guest run cmd a after shown h))
 
 at_three : (gpr rest : List ℕ) (v : ℕ) → 3 < length gpr → get_or (take 4 (slice_set gpr 3 v) ++ rest) 3 0 ≡ v
 at_three [] rest v h = absurd (omega arith)
@@ -138,17 +126,18 @@ own_by_return own r0 r2 outs a r k full small = loaded_for_return own outs r0 r2
 
 -- each of the hypervisor's registers after a call that moves a page, by whether it came back at once
 own_by_page_call : (own : List ℕ) (number lpid ra gpa flags order : ℕ) (a : Answer) (r : ℕ) → length own ≡ 32 →
-    get_or (own_after_return (load_page_call own number lpid ra gpa flags order) a) r 0 ≡ unwrap_or (given_by_page_call number lpid ra gpa flags order a r) (get_or own r 0)
+    get_or (own_after_call (load_page_call own number lpid ra gpa flags order) a) r 0 ≡ unwrap_or (given_by_page_call number lpid ra gpa flags order a r) (get_or own r 0)
 own_by_page_call own number lpid ra gpa flags order (Ret code) r full = called_value own number lpid ra gpa flags order (number_of code) r full
 own_by_page_call own number lpid ra gpa flags order a r full =
     ap (λ (xs : List ℕ). get_or xs r 0) (sym (number_stays own number lpid ra gpa flags order full)) ∙ called_value own number lpid ra gpa flags order number r full
 
 -- R3 has the code of a call that comes back
-own_by_work : (cpu : CpuPart) (work : Work) (after : Ctx) (a : Answer) (bytes : List ℕ) (r : ℕ) → length cpu.own ≡ 32 →
-    get_or (cpu_after_work cpu work after a bytes).own r 0 ≡ unwrap_or (given_by_coming_back a r) (get_or cpu.own r 0)
-own_by_work cpu work after Step bytes r full = refl
-own_by_work cpu work after (Ret code) bytes r full = set_value cpu.own 3 (number_of code) r full (omega arith)
-own_by_work cpu work after a bytes r full = refl
+own_by_work : (cpu : CpuPart) (work : Work) (cmd : Cmd) (a : Answer) (shown : List ℕ) (r : ℕ) → length cpu.own ≡ 32 →
+    get_or (cpu_in (ctx.Uv work) cpu cmd a shown).own r 0 ≡ unwrap_or (given_by_work (caller work) a shown r) (get_or cpu.own r 0)
+own_by_work cpu (Inward move) cmd (Ret code) shown r full = set_value cpu.own 3 (number_of code) r full (omega arith)
+own_by_work cpu (Inward move) cmd a shown r full = refl
+own_by_work cpu (Outward move) cmd (Ret code) shown r full = set_value cpu.own 3 (number_of code) r full (omega arith)
+own_by_work cpu (Outward move) cmd a shown r full = refl
 
 own_by_load : (own : List ℕ) (a : Answer) (r : ℕ) → length own ≡ 32 → get_or (own_after_load own a) r 0 ≡ unwrap_or (given_by_load a r) (get_or own r 0)
 own_by_load own (Val value) r full = set_value own 3 value r full (omega arith)
@@ -162,50 +151,29 @@ interrupt_shows r small = by_test (r == 3) refl where
   by_test false t = let other : 3 ≢ r = grind (arith, nat_tests) in let zero : get_or (replicate {A = ℕ} 32 0) r 0 ≡ 0 = get_or-replicate 32 r 0 0 small in grind (arith, common_steps)
 
 -- each of the hypervisor's registers after a step
-own_left : (cpu : CpuPart) (c after : Ctx) (cmd : Cmd) (a : Answer) (bytes : List ℕ) (r : ℕ) → IsCommand cmd → length cpu.own ≡ 32 → r < 32 →
-    get_or (cpu_by cpu c after cmd a bytes).own r 0 ≡ unwrap_or (own_given_in c cmd a r) (get_or cpu.own r 0)
-own_left cpu ctx.Hv after (HLd ra) a bytes r k full small = own_by_load cpu.own a r full
-own_left cpu ctx.Hv after (UPagein lpid src gpa flags order) a bytes r k full small = own_by_page_call cpu.own UV_PAGE_IN lpid src gpa flags order a r full
-own_left cpu ctx.Hv after (UPageout lpid dest gpa flags order) a bytes r k full small = own_by_page_call cpu.own UV_PAGE_OUT lpid dest gpa flags order a r full
-own_left cpu ctx.Hv after (UReturn r0 r2 outs) a bytes r k full small = own_by_return cpu.own r0 r2 outs a r k full small
-own_left cpu ctx.Hv after cmd a bytes r k full small = refl
-own_left cpu (ctx.Uv work) after cmd a bytes r k full small = own_by_work cpu work after a bytes r full
-own_left cpu (ctx.Guest run) after cmd (Exit exit.Irq) bytes r k full small = interrupt_shows r small
-own_left cpu (ctx.Guest run) after cmd Gone bytes r k full small = get_or-replicate 32 r 0 0 small
-own_left cpu (ctx.Guest run) after cmd a bytes r k full small = refl
+own_left : (cpu : CpuPart) (c : Ctx) (cmd : Cmd) (a : Answer) (shown : List ℕ) (r : ℕ) → IsCommand cmd → length cpu.own ≡ 32 → r < 32 →
+    get_or (cpu_in c cpu cmd a shown).own r 0 ≡ unwrap_or (own_given_in c cmd a shown r) (get_or cpu.own r 0)
+own_left cpu ctx.Hv (HLd ra) a shown r k full small = own_by_load cpu.own a r full
+own_left cpu ctx.Hv (UPagein lpid src gpa flags order) a shown r k full small = own_by_page_call cpu.own UV_PAGE_IN lpid src gpa flags order a r full
+own_left cpu ctx.Hv (UPageout lpid dest gpa flags order) a shown r k full small = own_by_page_call cpu.own UV_PAGE_OUT lpid dest gpa flags order a r full
+own_left cpu ctx.Hv (UReturn r0 r2 outs) a shown r k full small = own_by_return cpu.own r0 r2 outs a r k full small
+own_left cpu ctx.Hv cmd a shown r k full small = refl
+own_left cpu (ctx.Uv work) cmd a shown r k full small = own_by_work cpu work cmd a shown r full
+own_left cpu (ctx.Guest run) cmd (Exit exit.Irq) shown r k full small = interrupt_shows r small
+own_left cpu (ctx.Guest run) cmd Gone shown r k full small = get_or-replicate 32 r 0 0 small
+own_left cpu (ctx.Guest run) cmd a shown r k full small = refl
 
--- the hand after a step of a call in progress: the copy of a page-in takes the bytes
-hand_left_by_work : (cpu : CpuPart) (work : Work) (after : Ctx) (cmd : Cmd) (a : Answer) (shown bytes : List ℕ) → Outcome (ctx.Uv work) cmd a after shown →
-    (cpu_after_work cpu work after a bytes).hand ≡ (if takes_bytes (ctx.Uv work) cmd a then bytes else cpu.hand)
-hand_left_by_work cpu (Inward move) after Go Step shown bytes h = refl
-hand_left_by_work cpu (Inward move) after Go (Ret code) shown bytes h = refl
-hand_left_by_work cpu (Inward move) after Go a shown bytes h = absurd h
-hand_left_by_work cpu (Inward move) after cmd Context shown bytes h = refl
-hand_left_by_work cpu (Inward move) after cmd a shown bytes h = absurd h
-hand_left_by_work cpu (Outward move) after cmd Step shown bytes h = refl
-hand_left_by_work cpu (Outward move) after cmd (Ret code) shown bytes h = refl
-hand_left_by_work cpu (Outward move) after cmd a shown bytes h = refl
-
--- the hand after an entry
-hand_left : (cpu : CpuPart) (c after : Ctx) (cmd : Cmd) (a : Answer) (shown bytes : List ℕ) → Outcome c cmd a after shown →
-    (cpu_by cpu c after cmd a bytes).hand ≡ (if takes_bytes c cmd a then bytes else cpu.hand)
-hand_left cpu ctx.Hv after (UPageout lpid dest gpa flags order) Step shown bytes h = refl
-hand_left cpu ctx.Hv after cmd a shown bytes h = refl
-hand_left cpu (ctx.Uv work) after cmd a shown bytes h = hand_left_by_work cpu work after cmd a shown bytes h
-hand_left cpu (ctx.Guest run) after cmd (Exit exit) shown bytes h = refl
-hand_left cpu (ctx.Guest run) after cmd Gone shown bytes h = refl
-hand_left cpu (ctx.Guest run) after cmd a shown bytes h = refl
-
--- the selection after an entry
-pub selection_left : (cpu : CpuPart) (c after : Ctx) (cmd : Cmd) (a : Answer) (bytes : List ℕ) →
-    ((cpu_by cpu c after cmd a bytes).lpid ≡ selected_lpid c a cpu.lpid) × ((cpu_by cpu c after cmd a bytes).vid ≡ selected_vid c a cpu.vid)
-selection_left cpu ctx.Hv after cmd a bytes = (refl, refl)
-selection_left cpu (ctx.Uv work) after cmd Step bytes = (refl, refl)
-selection_left cpu (ctx.Uv work) after cmd (Ret code) bytes = (refl, refl)
-selection_left cpu (ctx.Uv work) after cmd a bytes = (refl, refl)
-selection_left cpu (ctx.Guest run) after cmd (Exit exit) bytes = (refl, refl)
-selection_left cpu (ctx.Guest run) after cmd Gone bytes = (refl, refl)
-selection_left cpu (ctx.Guest run) after cmd a bytes = (refl, refl)
+-- the selection after a step
+pub selection_left : (cpu : CpuPart) (c : Ctx) (cmd : Cmd) (a : Answer) (shown : List ℕ) →
+    ((cpu_in c cpu cmd a shown).lpid ≡ selected_lpid c cmd a cpu.lpid) × ((cpu_in c cpu cmd a shown).vid ≡ selected_vid c cmd a cpu.vid)
+selection_left cpu ctx.Hv cmd a shown = (refl, refl)
+selection_left cpu (ctx.Uv (Inward move)) cmd (Ret code) shown = (refl, refl)
+selection_left cpu (ctx.Uv (Inward move)) cmd a shown = (refl, refl)
+selection_left cpu (ctx.Uv (Outward move)) cmd (Ret code) shown = (refl, refl)
+selection_left cpu (ctx.Uv (Outward move)) cmd a shown = (refl, refl)
+selection_left cpu (ctx.Guest run) cmd (Exit exit) shown = (refl, refl)
+selection_left cpu (ctx.Guest run) cmd Gone shown = (refl, refl)
+selection_left cpu (ctx.Guest run) cmd a shown = (refl, refl)
 
 -- a call in progress lets nothing out
 shown_by_work : (work : Work) (a : Answer) (after : Ctx) (shown : List ℕ) → Moving work a after shown → shown ≡ []
@@ -215,78 +183,68 @@ shown_by_work work Context after shown h = h.1
 shown_by_work work a after shown h = absurd h
 
 -- a step lets out what its answer says
-shown_is : (c : Ctx) (cmd : Cmd) (a : Answer) (after : Ctx) (shown : List ℕ) → Outcome c cmd a after shown → shown ≡ let_out c cmd a
-shown_is ctx.Hv (HLd ra) (Val value) after shown h = h.1
-shown_is ctx.Hv (HLd ra) Hole after shown h = h.1
-shown_is ctx.Hv (HLd ra) a after shown h = absurd h
-shown_is ctx.Hv (HSt ra value) Done after shown h = h.1
-shown_is ctx.Hv (HSt ra value) Hole after shown h = h.1
-shown_is ctx.Hv (HSt ra value) a after shown h = absurd h
-shown_is ctx.Hv (UPagein lpid src gpa flags order) Step after shown h = h.1
-shown_is ctx.Hv (UPagein lpid src gpa flags order) (Ret code) after shown h = h.1
-shown_is ctx.Hv (UPagein lpid src gpa flags order) a after shown h = absurd h
-shown_is ctx.Hv (UPageout lpid dest gpa flags order) Step after shown h = h.1
-shown_is ctx.Hv (UPageout lpid dest gpa flags order) (Ret code) after shown h = h.1
-shown_is ctx.Hv (UPageout lpid dest gpa flags order) a after shown h = absurd h
-shown_is ctx.Hv (UReturn r0 r2 outs) Enter after shown h = h
-shown_is ctx.Hv (UReturn r0 r2 outs) (Ret code) after shown h = h.1
-shown_is ctx.Hv (UReturn r0 r2 outs) a after shown h = absurd h
-shown_is ctx.Hv cmd Context after shown h = h.1
-shown_is (ctx.Uv work) cmd a after shown h = shown_by_work work a after shown (moving work cmd a after shown h)
-shown_is (ctx.Guest run) (HLd ra) Context after shown h = h.1
-shown_is (ctx.Guest run) (HLd ra) a after shown h = absurd h
-shown_is (ctx.Guest run) (HSt ra value) Context after shown h = h.1
-shown_is (ctx.Guest run) (HSt ra value) a after shown h = absurd h
-shown_is (ctx.Guest run) (UPagein lpid src gpa flags order) (Ret code) after shown h = h.1
-shown_is (ctx.Guest run) (UPageout lpid dest gpa flags order) (Ret code) after shown h = h.1
-shown_is (ctx.Guest run) (UReturn r0 r2 outs) (Ret code) after shown h = h.1
-shown_is (ctx.Guest run) (GLi rd value) Done after shown h = h.1
-shown_is (ctx.Guest run) (GLd rd gpa) (Val value) after shown h = h.1
-shown_is (ctx.Guest run) (GLd rd gpa) Hole after shown h = h.1
-shown_is (ctx.Guest run) (GLd rd gpa) Again after shown h = h.1
-shown_is (ctx.Guest run) (GSt rs gpa) Done after shown h = h.1
-shown_is (ctx.Guest run) (GSt rs gpa) Hole after shown h = h.1
-shown_is (ctx.Guest run) (GSt rs gpa) Again after shown h = h.1
-shown_is (ctx.Guest run) GIrq (Exit exit.Irq) after shown h = h.1
-shown_is (ctx.Guest run) Go Context after shown h = h.1
-shown_is (ctx.Guest run) Go a after shown h = absurd h
-shown_is (ctx.Guest run) cmd Gone after shown h = h.1
-shown_is c cmd a after shown h = absurd h
+shown_is : (plan : Plan) (guests : ℕ → Guest) (frame : Option ℕ) (c : Ctx) (cmd : Cmd) (a : Answer) (after : Ctx) (shown : List ℕ) → Outcome c cmd a after shown → shown ≡ let_out plan guests c cmd a frame
+shown_is plan guests frame ctx.Hv (HLd ra) (Val value) after shown h = h.1
+shown_is plan guests frame ctx.Hv (HLd ra) Hole after shown h = h.1
+shown_is plan guests frame ctx.Hv (HLd ra) a after shown h = absurd h
+shown_is plan guests frame ctx.Hv (HSt ra value) Done after shown h = h.1
+shown_is plan guests frame ctx.Hv (HSt ra value) Hole after shown h = h.1
+shown_is plan guests frame ctx.Hv (HSt ra value) a after shown h = absurd h
+shown_is plan guests frame ctx.Hv (UPagein lpid src gpa flags order) Step after shown h = h.1
+shown_is plan guests frame ctx.Hv (UPagein lpid src gpa flags order) (Ret code) after shown h = h.1
+shown_is plan guests frame ctx.Hv (UPagein lpid src gpa flags order) a after shown h = absurd h
+shown_is plan guests frame ctx.Hv (UPageout lpid dest gpa flags order) Step after shown h = h.1
+shown_is plan guests frame ctx.Hv (UPageout lpid dest gpa flags order) (Ret code) after shown h = h.1
+shown_is plan guests frame ctx.Hv (UPageout lpid dest gpa flags order) a after shown h = absurd h
+shown_is plan guests frame ctx.Hv (UReturn r0 r2 outs) Enter after shown h = h
+shown_is plan guests frame ctx.Hv (UReturn r0 r2 outs) (Ret code) after shown h = h.1
+shown_is plan guests frame ctx.Hv (UReturn r0 r2 outs) a after shown h = absurd h
+shown_is plan guests frame ctx.Hv cmd Context after shown h = h.1
+shown_is plan guests frame (ctx.Uv work) cmd a after shown h = shown_by_work work a after shown (moving work cmd a after shown h)
+shown_is plan guests frame (ctx.Guest run) (HLd ra) Context after shown h = h.1
+shown_is plan guests frame (ctx.Guest run) (HLd ra) a after shown h = absurd h
+shown_is plan guests frame (ctx.Guest run) (HSt ra value) Context after shown h = h.1
+shown_is plan guests frame (ctx.Guest run) (HSt ra value) a after shown h = absurd h
+shown_is plan guests frame (ctx.Guest run) (UPagein lpid src gpa flags order) (Ret code) after shown h = h.1
+shown_is plan guests frame (ctx.Guest run) (UPageout lpid dest gpa flags order) (Ret code) after shown h = h.1
+shown_is plan guests frame (ctx.Guest run) (UReturn r0 r2 outs) (Ret code) after shown h = h.1
+shown_is plan guests frame (ctx.Guest run) (GLi rd value) Done after shown h = h.1
+shown_is plan guests frame (ctx.Guest run) (GLd rd gpa) (Val value) after shown h = h.1
+shown_is plan guests frame (ctx.Guest run) (GLd rd gpa) Hole after shown h = h.1
+shown_is plan guests frame (ctx.Guest run) (GLd rd gpa) Again after shown h = h.1
+shown_is plan guests frame (ctx.Guest run) (GSt rs gpa) Done after shown h = h.1
+shown_is plan guests frame (ctx.Guest run) (GSt rs gpa) Hole after shown h = h.1
+shown_is plan guests frame (ctx.Guest run) (GSt rs gpa) Again after shown h = h.1
+shown_is plan guests frame (ctx.Guest run) GIrq (Exit exit.Irq) after shown h = h.1
+shown_is plan guests frame (ctx.Guest run) Go Context after shown h = h.1
+shown_is plan guests frame (ctx.Guest run) Go a after shown h = absurd h
+shown_is plan guests frame (ctx.Guest run) cmd Gone after shown h = h.1
+shown_is plan guests frame c cmd a after shown h = absurd h
 
--- a CPU after an entry of its own, by the fields of the entry
-own_cpu : (plan : Plan) (past : List Event) (e : Event) →
-    cpu_after plan e.trace.cpu (e ∷ past) ≡ cpu_by (cpu_after plan e.trace.cpu past) e.saw.before e.saw.after e.trace.cmd e.trace.answer e.bytes
-own_cpu plan past e =
-    counts (touches_cpu e.trace.cpu) next_cpu (start_cpu plan) e past (same_test e.trace.cpu) ∙ cpu_by_is (cpu_after plan e.trace.cpu past) e
+-- a CPU after an entry of its own
+own_cpu : (plan : Plan) (past : List Event) (e : Event) → cpu_after plan e.trace.cpu (e ∷ past) ≡ next_cpu (cpu_after plan e.trace.cpu past) e
+own_cpu plan past e = counts (touches_cpu e.trace.cpu) next_cpu (start_cpu plan) e past (same_test e.trace.cpu)
 
--- the context after the entry that a step adds is the one that the entry tells
-pub ctx_after_next : (plan : Plan) (past : List Event) (mark : Mark) (cmd : Cmd) → (cpu_after plan mark.cpu (next_entry plan past mark cmd ∷ past)).ctx ≡ (next_entry plan past mark cmd).saw.after
-ctx_after_next plan past mark cmd =
-    let e : Event = next_entry plan past mark cmd in
-    ap (λ (x : CpuPart). x.ctx) (own_cpu plan past e)
-    ∙ ctx_left (cpu_after plan mark.cpu past) e.saw.before e.saw.after cmd e.trace.answer e.saw.shown e.bytes refl (next_outcome plan past mark cmd)
-
--- so is the one after an entry that extends a history
-pub ctx_after : (plan : Plan) (past : List Event) (e : Event) → Extends plan past e → (cpu_after plan e.trace.cpu (e ∷ past)).ctx ≡ e.saw.after
-ctx_after plan past e extends =
-    subst (λ (x : Event). (cpu_after plan x.trace.cpu (x ∷ past)).ctx ≡ x.saw.after) (sym extends.is) (ctx_after_next plan past (mark_of e) e.trace.cmd)
+-- its context is the one that the entry tells
+pub ctx_after : (plan : Plan) (past : List Event) (e : Event) → (cpu_after plan e.trace.cpu (e ∷ past)).ctx ≡ e.saw.after
+ctx_after plan past e = ap (λ (x : CpuPart). x.ctx) (own_cpu plan past e)
 
 pub each_entry_leaves_cpu : EachEntryLeavesCpu
 each_entry_leaves_cpu plan past e command commands extends =
     let cpu : CpuPart = cpu_after plan e.trace.cpu past in
     let before : cpu.ctx ≡ e.saw.before = ap (λ (x : Event). x.saw.before) (sym extends.is) in
-    let is : cpu_after plan e.trace.cpu (e ∷ past) ≡ cpu_by cpu e.saw.before e.saw.after e.trace.cmd e.trace.answer e.bytes = own_cpu plan past e in
+    let is : cpu_after plan e.trace.cpu (e ∷ past) ≡ next_cpu cpu e = own_cpu plan past e in
     let h : Outcome e.saw.before e.trace.cmd e.trace.answer e.saw.after e.saw.shown = outcome plan past e extends in
-    let stays = selection_left cpu e.saw.before e.saw.after e.trace.cmd e.trace.answer e.bytes in
+    let stays = selection_left cpu e.saw.before e.trace.cmd e.trace.answer e.saw.shown in
     record {
-      after = ctx_after plan past e extends;
+      after = ctx_after plan past e;
       context = λ (k : e.trace.answer ≡ Context).
-          is ∙ ap (λ (a : Answer). cpu_by cpu e.saw.before e.saw.after e.trace.cmd a e.bytes) k
+          is ∙ ap (λ (a : Answer). cpu_by cpu e.saw.before e.saw.after e.trace.cmd a e.saw.shown e.bytes) k
           ∙ context_leaves cpu e.saw.before e.saw.after e.trace.cmd e.saw.shown e.bytes before (subst (λ (a : Answer). Outcome e.saw.before e.trace.cmd a e.saw.after e.saw.shown) k h);
-      last = ap (λ (x : CpuPart). x.last) is ∙ last_left cpu e.saw.before e.saw.after e.trace.cmd e.trace.answer e.saw.shown e.bytes h;
-      own = λ r small. ap (λ (x : CpuPart). get_or x.own r 0) is ∙ own_left cpu e.saw.before e.saw.after e.trace.cmd e.trace.answer e.bytes r command (own_registers plan past e.trace.cpu commands) small;
+      last = ap (λ (x : CpuPart). x.last) is ∙ last_left cpu e.saw.before e.saw.after e.trace.cmd e.trace.answer e.saw.shown h;
+      own = λ r small. ap (λ (x : CpuPart). get_or x.own r 0) is ∙ own_left cpu e.saw.before e.trace.cmd e.trace.answer e.saw.shown r command (own_registers plan past e.trace.cpu commands) small;
       lpid = ap (λ (x : CpuPart). x.lpid) is ∙ stays.0;
       vid = ap (λ (x : CpuPart). x.vid) is ∙ stays.1;
-      hand = ap (λ (x : CpuPart). x.hand) is ∙ hand_left cpu e.saw.before e.saw.after e.trace.cmd e.trace.answer e.saw.shown e.bytes h;
-      shown = shown_is e.saw.before e.trace.cmd e.trace.answer e.saw.after e.saw.shown h;
+      hand = ap (λ (x : CpuPart). x.hand) is;
+      shown = shown_is plan (λ lpid. guest_after plan lpid past) e.saw.frame e.saw.before e.trace.cmd e.trace.answer e.saw.after e.saw.shown h;
     }

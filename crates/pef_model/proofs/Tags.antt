@@ -7,8 +7,7 @@ use Rattle.pef_model.specs.Plan.{Plan}
 use Rattle.pef_model.specs.Event.{Event}
 use Rattle.pef_model.specs.History.{IsLegal}
 use Rattle.pef_model.specs.MoveLaw.{begins_out, page_after, NoTagTwice}
-use Rattle.pef_model.proofs.LineEntries.{legal_before}
-use Rattle.pef_model.proofs.Begun.{versions_count_page_outs}
+use Rattle.pef_model.proofs.Begun.{legal_before, version_counts}
 
 -- what is added to a list beside an element that counts leaves more that count
 more_counted : {X : Type 0} (p : X → Bool) (since past : List X) (x : X) → p x ≡ true → count_by p past < count_by p (since ++ x ∷ past)
@@ -23,8 +22,8 @@ version_rises : (plan : Plan) (past since : List Event) (e : Event) (lpid gfn : 
     (page_after plan past lpid gfn).version < (page_after plan (since ++ e ∷ past) lpid gfn).version
 version_rises plan past since e lpid gfn legal begins =
     let from : IsLegal plan (e ∷ past) = legal_before plan (e ∷ past) since legal in
-    let old = versions_count_page_outs plan past lpid gfn from.1 in
-    let new = versions_count_page_outs plan (since ++ e ∷ past) lpid gfn legal in
+    let old = version_counts plan past lpid gfn from.1 in
+    let new = version_counts plan (since ++ e ∷ past) lpid gfn legal in
     let more = more_counted (begins_out plan lpid gfn) since past e begins in
     omega (arith, old, new, more)
 

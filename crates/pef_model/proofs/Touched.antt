@@ -1,8 +1,6 @@
 -- The objects that an entry touches decide whether it extends a history.
-use Rattle.std.proofs.Common.{◌≡◌, ℕ, Bool, true, false, ◌==◌, ◌&&◌, nat_lt, if◌then◌else◌, List, refl, ap, sym, ◌∙◌, Option, Some, None}
+use Rattle.std.proofs.Common.{◌∷◌, ◌≡◌, ℕ, Bool, true, false, ◌==◌, ◌&&◌, nat_lt, if◌then◌else◌, List, refl, ap, sym, ◌∙◌, Option, Some, None, subst, [], slice_index}
 use Rattle.std.specs.Prelude.{is_some}
-use Rattle.pef_model.specs.declared.state.Kind.{Kind}
-use Rattle.pef_model.specs.declared.state.Kind.TheVariants as kind
 use Rattle.pef_model.specs.declared.state.Work.TheVariants.{Inward, Outward}
 use Rattle.pef_model.specs.declared.state.Ctx.{Ctx}
 use Rattle.pef_model.specs.declared.state.Ctx.TheVariants as ctx
@@ -11,50 +9,35 @@ use Rattle.pef_model.specs.declared.command.Cmd.TheVariants.{UPagein, UPageout, 
 use Rattle.pef_model.specs.declared.command.Code.{Code}
 use Rattle.pef_model.specs.declared.command.Code.TheVariants.{USuccess, UParameter, UInvalid}
 use Rattle.pef_model.specs.declared.entry.Answer.{Answer}
-use Rattle.pef_model.specs.declared.entry.Answer.TheVariants.{Enter, Ret}
+use Rattle.pef_model.specs.declared.entry.Answer.TheVariants.{Enter, Ret, Val, Done}
 use Rattle.pef_model.specs.declared.entry.PoolSaw.{PoolSaw}
+use Rattle.pef_model.specs.declared.state.Run.{Run}
+use Rattle.pef_model.specs.Memory.{offset_of}
 use Rattle.pef_model.specs.Plan.{Plan}
 use Rattle.pef_model.specs.Event.{Event, mark_of}
 use Rattle.pef_model.specs.Target.{Ask, Target, Alone, AtGuest, AtFrame, target_of_running, target_in, is_guest, is_number, touches_frame, touches_guest, touches_pool}
 use Rattle.pef_model.specs.Cpu.{CpuPart}
-use Rattle.pef_model.specs.GuestPart.{GuestPart, Page, has_place, page_of}
+use Rattle.pef_model.specs.GuestPart.{GuestPart, Meeting, Unbacked, meets}
 use Rattle.pef_model.specs.Guest.{Guest}
 use Rattle.pef_model.specs.PageOut.{page_out_code}
 use Rattle.pef_model.specs.PageIn.{page_in_operands, is_last_sealed}
-use Rattle.pef_model.specs.Deed.{answering, giving, returning, coming_back, deed_page_out_begin, deed_page_in_with, deed_page_in_test, may_return_in, is_waiting, NoPage, Moves, reach_of, reach_kind, reach_invalid, deed_access, deed_running, deed_gone, deed_hypervisor, deed_guest_in, deed_guest, deed_frame_in, deed_frame}
-use Rattle.pef_model.specs.History.{cpu_after, guest_after, pool_after, frame_after, ask_of, entry_of, deed_after, next_entry, next_entry_by}
-use Rattle.pef_model.specs.ReadLaw.{asks_pool, TouchedObjectsDecide, AskedIsTold}
+use Rattle.pef_model.specs.Deed.{answering, giving, returning, coming_back, deed_page_out_begin, deed_page_in_with, deed_page_in_test, may_return_in, is_waiting, deed_backing, deed_access, deed_running, deed_gone, deed_hypervisor, deed_guest_in, deed_guest, deed_frame_in, deed_frame}
+use Rattle.pef_model.specs.History.{cpu_after, guest_after, pool_after, frame_after, ask_of, entry_of, deed_after, next_entry, next_entry_by, found_after}
+use Rattle.pef_model.specs.ReadLaw.{TouchedObjectsDecide, AskedIsTold, IsTold}
 use Rattle.pef_model.proofs.Folds.{same_test}
 
 -- an access that didn't ask for a frame is the same whether one is free or not
-invalid_asks : (ask : Ask) (success : Answer) (any free : Bool) → (is_some (deed_access ask success (reach_invalid any)).pool ≡ true → any ≡ free) →
-    deed_access ask success (reach_invalid any) ≡ deed_access ask success (reach_invalid free)
-invalid_asks ask success true free h = ap (λ (b : Bool). deed_access ask success (reach_invalid b)) (h refl)
-invalid_asks ask success false free h = ap (λ (b : Bool). deed_access ask success (reach_invalid b)) (h refl)
+access_asks : (ask : Ask) (success : Answer) (through other : ℕ → Answer) (out : List ℕ) (any free : Bool) (m : Meeting) → (is_some (deed_access ask success through out any m).pool ≡ true → any ≡ free) →
+    deed_access ask success through out any m ≡ deed_access ask success other out free m
+access_asks ask success through other out true free Unbacked h = ap (λ (b : Bool). deed_backing ask success b) (h refl)
+access_asks ask success through other out false free Unbacked h = ap (λ (b : Bool). deed_backing ask success b) (h refl)
+access_asks ask success through other out any free m h = refl
 
-kind_asks : (ask : Ask) (success : Answer) (k : Kind) (any free : Bool) → (is_some (deed_access ask success (reach_kind k any)).pool ≡ true → any ≡ free) →
-    deed_access ask success (reach_kind k any) ≡ deed_access ask success (reach_kind k free)
-kind_asks ask success kind.Invalid any free h = invalid_asks ask success any free h
-kind_asks ask success kind.Secure any free h = refl
-kind_asks ask success kind.Out any free h = refl
-kind_asks ask success (kind.Shared frame fresh) any free h = refl
-
-access_asks : (ask : Ask) (success : Answer) (moves : Bool) (k : Kind) (any free : Bool) → (is_some (deed_access ask success (if moves then Moves else reach_kind k any)).pool ≡ true → any ≡ free) →
-    deed_access ask success (if moves then Moves else reach_kind k any) ≡ deed_access ask success (if moves then Moves else reach_kind k free)
-access_asks ask success true k any free h = refl
-access_asks ask success false k any free h = kind_asks ask success k any free h
-
-placed_asks : (ask : Ask) (success : Answer) (placed : Bool) (page : Page) (any free : Bool) →
-    (is_some (deed_access ask success (if placed then reach_of page any else NoPage)).pool ≡ true → any ≡ free) →
-    deed_access ask success (if placed then reach_of page any else NoPage) ≡ deed_access ask success (if placed then reach_of page free else NoPage)
-placed_asks ask success true page any free h = access_asks ask success (is_some page.mover) page.kind any free h
-placed_asks ask success false page any free h = refl
-
-running_asks : (plan : Plan) (g : Guest) (any free : Bool) (ask : Ask) (cmd : Cmd) → (is_some (deed_running plan g any ask cmd).pool ≡ true → any ≡ free) →
-    deed_running plan g any ask cmd ≡ deed_running plan g free ask cmd
-running_asks plan g any free ask (GLd rd gpa) h = placed_asks ask _ (has_place plan gpa) (g.part.pages (page_of plan gpa)) any free h
-running_asks plan g any free ask (GSt rs gpa) h = placed_asks ask _ (has_place plan gpa) (g.part.pages (page_of plan gpa)) any free h
-running_asks plan g any free ask cmd h = refl
+running_asks : (plan : Plan) (run : Run) (g : Guest) (found other : ℕ → ℕ → ℕ) (any free : Bool) (ask : Ask) (cmd : Cmd) → (is_some (deed_running plan run g found any ask cmd).pool ≡ true → any ≡ free) →
+    deed_running plan run g found any ask cmd ≡ deed_running plan run g other free ask cmd
+running_asks plan run g found other any free ask (GLd rd gpa) h = access_asks ask (Val (g.content gpa)) (λ n. Val (found n (offset_of plan gpa))) (λ n. Val (other n (offset_of plan gpa))) [] any free (meets plan g.part gpa) h
+running_asks plan run g found other any free ask (GSt rs gpa) h = access_asks ask Done (λ n. Done) (λ n. Done) (slice_index (g.registers run.vid).gpr rs ∷ []) any free (meets plan g.part gpa) h
+running_asks plan run g found other any free ask cmd h = refl
 
 -- so is a page-in that came back before it asked
 page_in_asks : (plan : Plan) (g : GuestPart) (any free : Bool) (ask : Ask) (lpid src gpa : ℕ) (code : Option Code) →
@@ -70,14 +53,15 @@ hypervisor_asks plan g any free ask (UPagein lpid src gpa flags order) h = page_
 hypervisor_asks plan g any free ask cmd h = refl
 
 -- what was not asked of the pool makes no difference
-deed_asks : (plan : Plan) (g : Guest) (any free : Bool) (ask : Ask) (cmd : Cmd) (c : Ctx) → (is_some (deed_guest_in c plan g any ask cmd).pool ≡ true → any ≡ free) →
-    deed_guest_in c plan g any ask cmd ≡ deed_guest_in c plan g free ask cmd
-deed_asks plan g any free ask cmd ctx.Hv h = hypervisor_asks plan g any free ask cmd h
-deed_asks plan g any free ask cmd (ctx.Uv work) h = refl
-deed_asks plan g any free ask cmd (ctx.Guest run) h = by_test (run.generation == g.part.generation) h where
-  by_test : (b : Bool) → (is_some (if b then deed_running plan g any ask cmd else deed_gone ask).pool ≡ true → any ≡ free) →
-      (if b then deed_running plan g any ask cmd else deed_gone ask) ≡ (if b then deed_running plan g free ask cmd else deed_gone ask)
-  by_test true k = running_asks plan g any free ask cmd k
+deed_asks : (plan : Plan) (g : Guest) (found other : ℕ → ℕ → ℕ) (any free : Bool) (ask : Ask) (cmd : Cmd) (c : Ctx) → (is_some (deed_guest_in c plan g found any ask cmd).pool ≡ true → any ≡ free) →
+    deed_guest_in c plan g found any ask cmd ≡ deed_guest_in c plan g other free ask cmd
+deed_asks plan g found other any free ask cmd ctx.Hv h = hypervisor_asks plan g any free ask cmd h
+deed_asks plan g found other any free ask cmd (ctx.Uv (Inward move)) h = refl
+deed_asks plan g found other any free ask cmd (ctx.Uv (Outward move)) h = refl
+deed_asks plan g found other any free ask cmd (ctx.Guest run) h = by_test (run.generation == g.part.generation) h where
+  by_test : (b : Bool) → (is_some (if b then deed_running plan run g found any ask cmd else deed_gone ask).pool ≡ true → any ≡ free) →
+      (if b then deed_running plan run g found any ask cmd else deed_gone ask) ≡ (if b then deed_running plan run g other free ask cmd else deed_gone ask)
+  by_test true k = running_asks plan run g found other any free ask cmd k
   by_test false k = refl
 
 -- a step that aims at a normal frame touches it: none of a guest does
@@ -108,13 +92,13 @@ touched_objects_decide plan past other e agree extends = record { cpu = extends.
   at history t = entry_of ask (mark_of e) e.trace.cmd (deed_after plan history ask e.trace.cmd t)
 
   deeds : (lpid : ℕ) → target_in plan ask.before ask.lpid e.trace.cmd ≡ AtGuest lpid →
-      deed_guest plan (guest_after plan lpid past) (free past) ask e.trace.cmd ≡ deed_guest plan (guest_after plan lpid other) (free other) ask e.trace.cmd
+      deed_guest plan (guest_after plan lpid past) (found_after plan past) (free past) ask e.trace.cmd ≡ deed_guest plan (guest_after plan lpid other) (found_after plan other) (free other) ask e.trace.cmd
   deeds lpid is =
       let touched : touches_guest plan lpid e ≡ true = ap (touches_guest plan lpid) extends.is ∙ ap (is_guest lpid) is ∙ same_test lpid in
-      let asks : is_some (deed_guest plan (guest_after plan lpid past) (free past) ask e.trace.cmd).pool ≡ true → free past ≡ free other =
+      let asks : is_some (deed_guest plan (guest_after plan lpid past) (found_after plan past) (free past) ask e.trace.cmd).pool ≡ true → free past ≡ free other =
       (λ h. ap (nat_lt 0) (agree.pool (ap touches_pool extends.is ∙ ap (λ (t : Target). is_some (deed_after plan past ask e.trace.cmd t).pool) is ∙ h))) in
-      deed_asks plan (guest_after plan lpid past) (free past) (free other) ask e.trace.cmd ask.before asks
-      ∙ ap (λ (g : Guest). deed_guest plan g (free other) ask e.trace.cmd) (agree.guest lpid touched)
+      deed_asks plan (guest_after plan lpid past) (found_after plan past) (found_after plan other) (free past) (free other) ask e.trace.cmd ask.before asks
+      ∙ ap (λ (g : Guest). deed_guest plan g (found_after plan other) (free other) ask e.trace.cmd) (agree.guest lpid touched)
 
   frames : (n : ℕ) → target_in plan ask.before ask.lpid e.trace.cmd ≡ AtFrame n → frame_after plan n past ≡ frame_after plan n other
   frames n is = agree.frame n (ap (touches_frame n) extends.is ∙ ap (λ (t : Target). is_number n (deed_after plan past ask e.trace.cmd t).frame) is ∙ at_frame plan n (frame_after plan n past) ask e.trace.cmd is)
@@ -124,74 +108,63 @@ touched_objects_decide plan past other e agree extends = record { cpu = extends.
   by_target (AtFrame n) is = ap (at past) is ∙ ap (λ (bytes : List ℕ). entry_of ask (mark_of e) e.trace.cmd (deed_frame plan n bytes ask e.trace.cmd)) (frames n is) ∙ sym (ap (at other) is)
   by_target (AtGuest lpid) is = ap (at past) is ∙ ap (entry_of ask (mark_of e) e.trace.cmd) (deeds lpid is) ∙ sym (ap (at other) is)
 
-invalid_tells : (ask : Ask) (success : Answer) (any : Bool) (saw : PoolSaw) → (deed_access ask success (reach_invalid any)).pool ≡ Some saw → saw.any ≡ any
-invalid_tells ask success true saw h = cc
-invalid_tells ask success false saw h = cc
+-- what a step saw of the pool is told by it
+some_same : {x y : PoolSaw} → Some x ≡ Some y → x ≡ y
+some_same h = cc
 
-kind_tells : (ask : Ask) (success : Answer) (k : Kind) (any : Bool) (saw : PoolSaw) → (deed_access ask success (reach_kind k any)).pool ≡ Some saw → saw.any ≡ any
-kind_tells ask success kind.Invalid any saw h = invalid_tells ask success any saw h
-kind_tells ask success kind.Secure any saw h = cc
-kind_tells ask success kind.Out any saw h = cc
-kind_tells ask success (kind.Shared frame fresh) any saw h = cc
+access_tells : (ask : Ask) (success : Answer) (through : ℕ → Answer) (out : List ℕ) (any : Bool) (m : Meeting) (saw : PoolSaw) → (deed_access ask success through out any m).pool ≡ Some saw → IsTold any saw
+access_tells ask success through out true Unbacked saw h = subst (IsTold true) (some_same h) refl
+access_tells ask success through out false Unbacked saw h = subst (IsTold false) (some_same h) refl
+access_tells ask success through out any m saw h = cc
 
-access_tells : (ask : Ask) (success : Answer) (moves : Bool) (k : Kind) (any : Bool) (saw : PoolSaw) →
-    (deed_access ask success (if moves then Moves else reach_kind k any)).pool ≡ Some saw → saw.any ≡ any
-access_tells ask success true k any saw h = cc
-access_tells ask success false k any saw h = kind_tells ask success k any saw h
-
-placed_tells : (ask : Ask) (success : Answer) (placed : Bool) (page : Page) (any : Bool) (saw : PoolSaw) →
-    (deed_access ask success (if placed then reach_of page any else NoPage)).pool ≡ Some saw → saw.any ≡ any
-placed_tells ask success true page any saw h = access_tells ask success (is_some page.mover) page.kind any saw h
-placed_tells ask success false page any saw h = cc
-
-running_tells : (plan : Plan) (g : Guest) (any : Bool) (ask : Ask) (cmd : Cmd) (saw : PoolSaw) → (deed_running plan g any ask cmd).pool ≡ Some saw → saw.any ≡ any
-running_tells plan g any ask (GLd rd gpa) saw h = placed_tells ask _ (has_place plan gpa) (g.part.pages (page_of plan gpa)) any saw h
-running_tells plan g any ask (GSt rs gpa) saw h = placed_tells ask _ (has_place plan gpa) (g.part.pages (page_of plan gpa)) any saw h
-running_tells plan g any ask cmd saw h = cc
+running_tells : (plan : Plan) (run : Run) (g : Guest) (found : ℕ → ℕ → ℕ) (any : Bool) (ask : Ask) (cmd : Cmd) (saw : PoolSaw) → (deed_running plan run g found any ask cmd).pool ≡ Some saw → IsTold any saw
+running_tells plan run g found any ask (GLd rd gpa) saw h = access_tells ask (Val (g.content gpa)) (λ n. Val (found n (offset_of plan gpa))) [] any (meets plan g.part gpa) saw h
+running_tells plan run g found any ask (GSt rs gpa) saw h = access_tells ask Done (λ n. Done) (slice_index (g.registers run.vid).gpr rs ∷ []) any (meets plan g.part gpa) saw h
+running_tells plan run g found any ask cmd saw h = cc
 
 page_in_tells : (plan : Plan) (g : GuestPart) (any : Bool) (ask : Ask) (lpid src gpa : ℕ) (code : Option Code) (saw : PoolSaw) →
-    (returning ask code (deed_page_in_with plan g ask lpid src gpa any)).pool ≡ Some saw → saw.any ≡ any
+    (returning ask code (deed_page_in_with plan g ask lpid src gpa any)).pool ≡ Some saw → IsTold any saw
 page_in_tells plan g any ask lpid src gpa (Some code) saw h = cc
-page_in_tells plan g true ask lpid src gpa None saw h = cc
-page_in_tells plan g false ask lpid src gpa None saw h = cc
+page_in_tells plan g true ask lpid src gpa None saw h = subst (IsTold true) (some_same h) refl
+page_in_tells plan g false ask lpid src gpa None saw h = subst (IsTold false) (some_same h) refl
 
 -- a page-out that begins asks for no frame
 page_out_tells : (plan : Plan) (g : Guest) (any : Bool) (ask : Ask) (lpid dest gpa : ℕ) (code : Option Code) (saw : PoolSaw) →
-    (returning ask code (deed_page_out_begin plan g ask lpid dest gpa)).pool ≡ Some saw → saw.any ≡ any
+    (returning ask code (deed_page_out_begin plan g ask lpid dest gpa)).pool ≡ Some saw → IsTold any saw
 page_out_tells plan g any ask lpid dest gpa (Some code) saw h = cc
 page_out_tells plan g any ask lpid dest gpa None saw h = cc
 
-hypervisor_tells : (plan : Plan) (g : Guest) (any : Bool) (ask : Ask) (cmd : Cmd) (saw : PoolSaw) → (deed_hypervisor plan g any ask cmd).pool ≡ Some saw → saw.any ≡ any
+hypervisor_tells : (plan : Plan) (g : Guest) (any : Bool) (ask : Ask) (cmd : Cmd) (saw : PoolSaw) → (deed_hypervisor plan g any ask cmd).pool ≡ Some saw → IsTold any saw
 hypervisor_tells plan g any ask (UPagein lpid src gpa flags order) saw h = page_in_tells plan g.part any ask lpid src gpa (page_in_operands plan g.part src gpa flags order) saw h
 hypervisor_tells plan g any ask (UPageout lpid dest gpa flags order) saw h = page_out_tells plan g any ask lpid dest gpa (page_out_code plan g.part dest gpa flags order) saw h
 hypervisor_tells plan g any ask (UReturn r0 r2 outs) saw h = by_test (may_return_in g.part.phase && is_waiting (g.part.vcpus ask.vid).state) h where
-  by_test : (b : Bool) → (if b then record (answering ask Enter) { after = ctx.Guest (record { lpid = ask.lpid; vid = ask.vid; generation = g.part.generation }) } else answering ask (Ret UInvalid)).pool ≡ Some saw → saw.any ≡ any
+  by_test : (b : Bool) → (if b then record (answering ask Enter) { after = ctx.Guest (record { lpid = ask.lpid; vid = ask.vid; generation = g.part.generation }) } else answering ask (Ret UInvalid)).pool ≡ Some saw → IsTold any saw
   by_test true k = cc
   by_test false k = cc
 hypervisor_tells plan g any ask cmd saw h = cc
 
 -- the end of a page-out gives a frame back, and takes none
-end_tells : (ask : Ask) (ends : Bool) (saw : PoolSaw) → (if ends then giving (coming_back ask USuccess) 1 else coming_back ask UParameter).pool ≡ Some saw → saw.any ≡ false
-end_tells ask true saw h = cc
-end_tells ask false saw h = cc
+end_tells : (any : Bool) (ask : Ask) (ends : Bool) (saw : PoolSaw) → (if ends then giving (coming_back ask USuccess) 1 else coming_back ask UParameter).pool ≡ Some saw → IsTold any saw
+end_tells any ask true saw h = subst (IsTold any) (some_same h) refl
+end_tells any ask false saw h = cc
 
 -- so does that of a page-in that is refused, and one that is accepted keeps its frame
-test_tells : (ask : Ask) (fresh : Bool) (saw : PoolSaw) → (deed_page_in_test ask fresh).pool ≡ Some saw → saw.any ≡ false
-test_tells ask true saw h = cc
-test_tells ask false saw h = cc
+test_tells : (any : Bool) (ask : Ask) (fresh : Bool) (saw : PoolSaw) → (deed_page_in_test ask fresh).pool ≡ Some saw → IsTold any saw
+test_tells any ask true saw h = cc
+test_tells any ask false saw h = subst (IsTold any) (some_same h) refl
 
-arrival_tells : (ask : Ask) (ends fresh : Bool) (saw : PoolSaw) → (if ends then deed_page_in_test ask fresh else coming_back ask UParameter).pool ≡ Some saw → saw.any ≡ false
-arrival_tells ask true fresh saw h = test_tells ask fresh saw h
-arrival_tells ask false fresh saw h = cc
+arrival_tells : (any : Bool) (ask : Ask) (ends fresh : Bool) (saw : PoolSaw) → (if ends then deed_page_in_test ask fresh else coming_back ask UParameter).pool ≡ Some saw → IsTold any saw
+arrival_tells any ask true fresh saw h = test_tells any ask fresh saw h
+arrival_tells any ask false fresh saw h = cc
 
 pub asked_is_told : AskedIsTold
-asked_is_told plan g any ask cmd saw is = by_ctx ask.before is where
-  by_ctx : (c : Ctx) → (deed_guest_in c plan g any ask cmd).pool ≡ Some saw → saw.any ≡ (if asks_pool c then any else false)
+asked_is_told plan g found any ask cmd saw is = by_ctx ask.before is where
+  by_ctx : (c : Ctx) → (deed_guest_in c plan g found any ask cmd).pool ≡ Some saw → IsTold any saw
   by_ctx ctx.Hv h = hypervisor_tells plan g any ask cmd saw h
   by_ctx (ctx.Uv (Inward move)) h =
-      arrival_tells ask (move.generation == g.part.generation) (is_last_sealed (g.part.pages move.gfn).sealed ask.hand) saw h
-  by_ctx (ctx.Uv (Outward move)) h = end_tells ask (move.generation == g.part.generation) saw h
+      arrival_tells any ask (move.generation == g.part.generation) (is_last_sealed (g.part.pages move.gfn).sealed ask.hand) saw h
+  by_ctx (ctx.Uv (Outward move)) h = end_tells any ask (move.generation == g.part.generation) saw h
   by_ctx (ctx.Guest run) h = by_test (run.generation == g.part.generation) h where
-    by_test : (b : Bool) → (if b then deed_running plan g any ask cmd else deed_gone ask).pool ≡ Some saw → saw.any ≡ any
-    by_test true k = running_tells plan g any ask cmd saw k
+    by_test : (b : Bool) → (if b then deed_running plan run g found any ask cmd else deed_gone ask).pool ≡ Some saw → IsTold any saw
+    by_test true k = running_tells plan run g found any ask cmd saw k
     by_test false k = cc

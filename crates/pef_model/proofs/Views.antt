@@ -1,5 +1,5 @@
 -- Two histories that are alike show the same.
-use Rattle.std.proofs.Common.{◌≡◌, ℕ, zero, suc, ◌-◌, List, [], ◌∷◌, length, drop, Bool, true, false, refl, ap, sym, subst, ◌∙◌, ◌==◌, nat_lt, if◌then◌else◌, Some}
+use Rattle.std.proofs.Common.{◌≡◌, ℕ, zero, suc, ◌-◌, List, [], ◌∷◌, length, drop, Bool, true, false, refl, ap, sym, subst, ◌∙◌, ◌==◌, nat_lt, if◌then◌else◌, Some, slice_index}
 use Rattle.std.specs.Prelude.{◌^◌, IsTrue}
 use Rattle.std.specs.List.{list_any, AllByRecursion}
 use Rattle.pef_model.specs.declared.config.Config.{Config}
@@ -9,23 +9,23 @@ use Rattle.pef_model.specs.declared.state.Ctx.TheVariants as ctx
 use Rattle.pef_model.specs.declared.command.Cmd.{Cmd}
 use Rattle.pef_model.specs.declared.command.Cmd.TheVariants.{HLd, HSt, GLd, GSt, Go}
 use Rattle.pef_model.specs.declared.entry.Answer.{Answer}
-use Rattle.pef_model.specs.declared.entry.Answer.TheVariants.{Done}
-use Rattle.pef_model.specs.Plan.{Plan, plan_of}
+use Rattle.pef_model.specs.declared.entry.Answer.TheVariants.{Done, Val}
+use Rattle.pef_model.specs.Plan.{Plan, plan_of, with_entropy}
 use Rattle.pef_model.specs.Seal.{vault_image, stream_image, image as image_by}
 use Rattle.pef_model.specs.Event.{Event, mark_of}
 use Rattle.pef_model.specs.Target.{Ask, target_of_running, touches_cpu, touches_guest, touches_pool, touches_frame}
 use Rattle.pef_model.specs.Cpu.{CpuPart, start_cpu, next_cpu}
-use Rattle.pef_model.specs.GuestPart.{GuestPart, start_part, next_part}
-use Rattle.pef_model.specs.Memory.{start_pool, next_pool, start_frame, next_frame}
+use Rattle.pef_model.specs.GuestPart.{GuestPart, Meeting, Unbacked, meets, start_part, next_part}
+use Rattle.pef_model.specs.Memory.{writes_of, start_pool, next_pool, start_frame, next_frame, offset_of, either_of}
 use Rattle.pef_model.specs.Guest.{Guest}
-use Rattle.pef_model.specs.Deed.{Reach, NoPage, deed_access, deed_running, deed_gone, reach}
-use Rattle.pef_model.specs.History.{public_state, cpu_after, guest_after, pool_after, ask_of, deed_after, next_entry_by, IsLegal}
+use Rattle.pef_model.specs.Deed.{deed_access, deed_running, deed_gone}
+use Rattle.pef_model.specs.History.{public_state, cpu_after, guest_after, pool_after, ask_of, deed_after, next_entry_by, IsLegal, found_after}
 use Rattle.pef_model.specs.Report.{command_name}
 use Rattle.pef_model.specs.SecretLaw.{open_cmd, open_answer, open_answer_of_guest, SecretsStayIn}
-use Rattle.pef_model.specs.View.{Step, Sight, if_hypervisor, either_of, writes_of, sight, view}
+use Rattle.pef_model.proofs.FrameOpen.{writes_open}
+use Rattle.pef_model.specs.View.{SeenStep, Sight, if_hypervisor, sight, view}
 use Rattle.pef_model.specs.Alike.{AgreeButWords, AreAlikeOpen, AllAlikeOpen, SealedBytesAgree, begins_sealing, first, AlikeShowTheSame, OpenIsAlike, UnsealedIsAlike}
-use Rattle.pef_model.proofs.NextValues.{cpu_by_is, part_by_is}
-use Rattle.pef_model.proofs.Opened.{name_open, writes_open}
+use Rattle.pef_model.proofs.Opened.{name_open}
 use Rattle.pef_model.proofs.Secrets.{no_secret_in_one_entry, agree_more, part_after}
 use Rattle.pef_model.proofs.Deeds.{IsShut}
 use Rattle.pef_model.proofs.AlikeEntries.{IsNext, unstamped, opened, Same, entries_shut, entries_agree}
@@ -45,17 +45,18 @@ running_gives_none plan past run l v last hand cmd = by_command cmd where
   free : Bool
   free = nat_lt 0 (pool_after plan past)
 
-  by_reach : (success : Answer) (r : Reach) → (deed_access ask success r).after ≡ ctx.Hv → open_answer_of_guest (deed_access ask success r).answer ≡ (deed_access ask success r).answer
-  by_reach success NoPage h = cc
-  by_reach success r h = cc
+  by_reach : (success : Answer) (through : ℕ → Answer) (out : List ℕ) (any : Bool) (m : Meeting) → (deed_access ask success through out any m).after ≡ ctx.Hv → open_answer_of_guest (deed_access ask success through out any m).answer ≡ (deed_access ask success through out any m).answer
+  by_reach success through out true Unbacked h = cc
+  by_reach success through out false Unbacked h = cc
+  by_reach success through out any m h = cc
 
-  by_running : (cmd : Cmd) → (deed_running plan g free ask cmd).after ≡ ctx.Hv → open_answer_of_guest (deed_running plan g free ask cmd).answer ≡ (deed_running plan g free ask cmd).answer
-  by_running (GLd rd gpa) h = by_reach _ (reach plan g.part free gpa) h
-  by_running (GSt rs gpa) h = by_reach Done (reach plan g.part free gpa) h
+  by_running : (cmd : Cmd) → (deed_running plan run g (found_after plan past) free ask cmd).after ≡ ctx.Hv → open_answer_of_guest (deed_running plan run g (found_after plan past) free ask cmd).answer ≡ (deed_running plan run g (found_after plan past) free ask cmd).answer
+  by_running (GLd rd gpa) h = by_reach (Val (g.content gpa)) (λ n. Val (found_after plan past n (offset_of plan gpa))) [] free (meets plan g.part gpa) h
+  by_running (GSt rs gpa) h = by_reach Done (λ n. Done) (slice_index (g.registers run.vid).gpr rs ∷ []) free (meets plan g.part gpa) h
   by_running cmd h = cc
 
-  by_generation : (cmd : Cmd) (b : Bool) → (if b then deed_running plan g free ask cmd else deed_gone ask).after ≡ ctx.Hv →
-      open_answer_of_guest (if b then deed_running plan g free ask cmd else deed_gone ask).answer ≡ (if b then deed_running plan g free ask cmd else deed_gone ask).answer
+  by_generation : (cmd : Cmd) (b : Bool) → (if b then deed_running plan run g (found_after plan past) free ask cmd else deed_gone ask).after ≡ ctx.Hv →
+      open_answer_of_guest (if b then deed_running plan run g (found_after plan past) free ask cmd else deed_gone ask).answer ≡ (if b then deed_running plan run g (found_after plan past) free ask cmd else deed_gone ask).answer
   by_generation cmd true h = by_running cmd h
   by_generation cmd false h = refl
 
@@ -84,40 +85,40 @@ gives_none plan past e extends after = by_ctx e.saw.before refl where
       ∙ sym (ap (λ (x : Event). x.trace.answer) entry)
 
 -- a step is shown where the hypervisor runs before it or after it
-shown_alike : (before after : Ctx) (s t : Step) → (before ≡ ctx.Hv → s ≡ t) → (after ≡ ctx.Hv → s ≡ t) →
+shown_alike : (before after : Ctx) (s t : SeenStep) → (before ≡ ctx.Hv → s ≡ t) → (after ≡ ctx.Hv → s ≡ t) →
     either_of (if_hypervisor before s) (if_hypervisor after s) ≡ either_of (if_hypervisor before t) (if_hypervisor after t)
-shown_alike ctx.Hv after s t h k = ap (λ (x : Step). Some x) (h refl)
-shown_alike (ctx.Uv work) ctx.Hv s t h k = ap (λ (x : Step). Some x) (k refl)
-shown_alike (ctx.Guest run) ctx.Hv s t h k = ap (λ (x : Step). Some x) (k refl)
+shown_alike ctx.Hv after s t h k = ap (λ (x : SeenStep). Some x) (h refl)
+shown_alike (ctx.Uv work) ctx.Hv s t h k = ap (λ (x : SeenStep). Some x) (k refl)
+shown_alike (ctx.Guest run) ctx.Hv s t h k = ap (λ (x : SeenStep). Some x) (k refl)
 shown_alike before after s t h k = refl
 
-module _ (plan : Plan) (past history : List Event) (e f : Event) (same : Same plan past history) (p : IsNext plan past e) (q : IsNext plan history f) (alike : AreAlikeOpen e f)
+module _ (plan : Plan) (words : ℕ → List ℕ) (past history : List Event) (e f : Event) (same : Same plan words past history) (p : IsNext plan past e) (q : IsNext (with_entropy plan words) history f) (alike : AreAlikeOpen e f)
     (sealed : begins_sealing e ≡ true → e.bytes ≡ f.bytes) where
   alike_opened : opened e ≡ opened f
-  alike_opened = entries_agree plan past history e f same p q alike sealed
+  alike_opened = entries_agree plan words past history e f same p q alike sealed
 
   law : SecretsStayIn plan (unstamped e) (unstamped f)
   law = no_secret_in_one_entry plan (unstamped e) (unstamped f) alike_opened
 
   -- stamps count for no object
   cpu_unstamped : (x : Event) (cpu : CpuPart) → next_cpu cpu x ≡ next_cpu cpu (unstamped x)
-  cpu_unstamped x cpu = cpu_by_is cpu x ∙ sym (cpu_by_is cpu (unstamped x))
+  cpu_unstamped x cpu = refl
 
   part_unstamped : (x : Event) (g : GuestPart) → next_part plan g x ≡ next_part plan g (unstamped x)
-  part_unstamped x g = part_by_is plan g x ∙ sym (part_by_is plan g (unstamped x))
+  part_unstamped x g = refl
 
-  cpu_more : (n : ℕ) → cpu_after plan n (e ∷ past) ≡ cpu_after plan n (f ∷ history)
+  cpu_more : (n : ℕ) → cpu_after plan n (e ∷ past) ≡ cpu_after (with_entropy plan words) n (f ∷ history)
   cpu_more n =
       agree_more (touches_cpu n) next_cpu (start_cpu plan) e f past history (law.touches_cpu n)
       (λ (cpu : CpuPart). cpu_unstamped e cpu ∙ law.cpu cpu ∙ sym (cpu_unstamped f cpu)) (same.cpu n)
 
-  part_more : (lpid : ℕ) → (guest_after plan lpid (e ∷ past)).part ≡ (guest_after plan lpid (f ∷ history)).part
+  part_more : (lpid : ℕ) → (guest_after plan lpid (e ∷ past)).part ≡ (guest_after (with_entropy plan words) lpid (f ∷ history)).part
   part_more lpid =
       part_after plan lpid (e ∷ past)
       ∙ agree_more (touches_guest plan lpid) (next_part plan) (start_part plan lpid) e f past history (law.touches_guest lpid)
       (λ (g : GuestPart). part_unstamped e g ∙ law.guest g ∙ sym (part_unstamped f g))
-      (sym (part_after plan lpid past) ∙ same.part lpid ∙ part_after plan lpid history)
-      ∙ sym (part_after plan lpid (f ∷ history))
+      (sym (part_after plan lpid past) ∙ same.part lpid ∙ part_after (with_entropy plan words) lpid history)
+      ∙ sym (part_after (with_entropy plan words) lpid (f ∷ history))
 
   before : e.saw.before ≡ f.saw.before
   before = ap (λ (x : Event). x.saw.before) alike_opened
@@ -131,7 +132,7 @@ module _ (plan : Plan) (past history : List Event) (e f : Event) (same : Same pl
   cmds : open_cmd e.trace.cmd ≡ open_cmd f.trace.cmd
   cmds = alike.cmd
 
-  step : Event → Step
+  step : Event → SeenStep
   step x = record { line = x.trace.line; cpu = x.trace.cpu; command = command_name x.trace.cmd; answer = x.trace.answer }
 
   steps : e.trace.answer ≡ f.trace.answer → step e ≡ step f
@@ -145,38 +146,38 @@ module _ (plan : Plan) (past history : List Event) (e f : Event) (same : Same pl
       steps (ap (λ (c : Ctx). open_answer c e.trace.answer) (sym h) ∙ answers ∙ ap (λ (c : Ctx). open_answer c f.trace.answer) (sym before ∙ h))
 
   to_hypervisor : e.saw.after ≡ ctx.Hv → step e ≡ step f
-  to_hypervisor h = steps (sym (gives_none plan past e p h) ∙ answers ∙ gives_none plan history f q (sym after ∙ h))
+  to_hypervisor h = steps (sym (gives_none plan past e p h) ∙ answers ∙ gives_none (with_entropy plan words) history f q (sym after ∙ h))
 
-  sights : sight plan past e ≡ sight plan history f
+  sights : sight plan past e ≡ sight (with_entropy plan words) history f
   unfolding step
   sights =
       let shown = shown_alike e.saw.before e.saw.after (step e) (step f) from_hypervisor to_hypervisor
       ∙ ap (λ (c : Ctx). either_of (if_hypervisor c (step f)) (if_hypervisor e.saw.after (step f))) before
       ∙ ap (λ (c : Ctx). either_of (if_hypervisor f.saw.before (step f)) (if_hypervisor c (step f))) after in
-      let registers : if_hypervisor e.saw.after (cpu_after plan e.trace.cpu (e ∷ past)).own ≡ if_hypervisor f.saw.after (cpu_after plan f.trace.cpu (f ∷ history)).own =
-      ap (λ (cpu : CpuPart). if_hypervisor e.saw.after cpu.own) (cpu_more e.trace.cpu ∙ ap (λ (n : ℕ). cpu_after plan n (f ∷ history)) alike.cpu)
-      ∙ ap (λ (c : Ctx). if_hypervisor c (cpu_after plan f.trace.cpu (f ∷ history)).own) after in
-      let writes : writes_of plan e.saw.before e.trace.cmd e.trace.answer e.bytes ≡ writes_of plan f.saw.before f.trace.cmd f.trace.answer f.bytes =
-      writes_open plan e.saw.before e.trace.cmd e.trace.answer e.bytes
-      ∙ ap (λ (x : Event). writes_of plan x.saw.before x.trace.cmd x.trace.answer x.bytes) alike_opened
-      ∙ sym (writes_open plan f.saw.before f.trace.cmd f.trace.answer f.bytes) in
+      let registers : if_hypervisor e.saw.after (cpu_after plan e.trace.cpu (e ∷ past)).own ≡ if_hypervisor f.saw.after (cpu_after (with_entropy plan words) f.trace.cpu (f ∷ history)).own =
+      ap (λ (cpu : CpuPart). if_hypervisor e.saw.after cpu.own) (cpu_more e.trace.cpu ∙ ap (λ (n : ℕ). cpu_after (with_entropy plan words) n (f ∷ history)) alike.cpu)
+      ∙ ap (λ (c : Ctx). if_hypervisor c (cpu_after (with_entropy plan words) f.trace.cpu (f ∷ history)).own) after in
+      let writes : writes_of plan e ≡ writes_of plan f =
+      writes_open plan e.saw.before e.trace.cmd e.trace.answer e.bytes e.saw.frame
+      ∙ ap (λ (x : Event). writes_of plan x) alike_opened
+      ∙ sym (writes_open plan f.saw.before f.trace.cmd f.trace.answer f.bytes f.saw.frame) in
       (λ i. record { step = shown i; registers = registers i; writes = writes i })
 
-  pub one_more : Same plan (e ∷ past) (f ∷ history)
+  pub one_more : Same plan words (e ∷ past) (f ∷ history)
   one_more = record {
     cpu = cpu_more;
     part = part_more;
     pool = agree_more touches_pool next_pool (start_pool plan) e f past history law.touches_pool law.pool same.pool;
-    frame = λ n. agree_more (touches_frame n) (next_frame plan) (start_frame plan) e f past history (law.touches_frame n) law.frame (same.frame n);
-    seen = ap (λ (s : Sight). s ∷ view plan past) sights ∙ ap (λ (xs : List Sight). sight plan history f ∷ xs) same.seen;
+    frame = λ n. agree_more (touches_frame n) (next_frame plan n) (start_frame plan) e f past history (law.touches_frame n) (law.frame n) (same.frame n);
+    seen = ap (λ (s : Sight). s ∷ view plan past) sights ∙ ap (λ (xs : List Sight). sight (with_entropy plan words) history f ∷ xs) same.seen;
   }
 
 -- two legal histories that are alike have as much in common, by induction on both
-pub same_so_far : (plan : Plan) (past history : List Event) → IsLegal plan past → IsLegal plan history → AllAlikeOpen past history → SealedBytesAgree past history → Same plan past history
-same_so_far plan [] [] p q alike sealed = record { cpu = λ n. refl; part = λ lpid. refl; pool = refl; frame = λ n. refl; seen = refl }
-same_so_far plan [] (f ∷ history) p q alike sealed = absurd alike
-same_so_far plan (e ∷ past) [] p q alike sealed = absurd alike
-same_so_far plan (e ∷ past) (f ∷ history) p q alike sealed = one_more plan past history e f (same_so_far plan past history p.1 q.1 alike.1 sealed.1) p.0.is q.0.is alike.0 sealed.0
+pub same_so_far : (plan : Plan) (words : ℕ → List ℕ) (past history : List Event) → IsLegal plan past → IsLegal (with_entropy plan words) history → AllAlikeOpen past history → SealedBytesAgree past history → Same plan words past history
+same_so_far plan words [] [] p q alike sealed = record { cpu = λ n. refl; part = λ lpid. refl; pool = refl; frame = λ n. refl; seen = refl }
+same_so_far plan words [] (f ∷ history) p q alike sealed = absurd alike
+same_so_far plan words (e ∷ past) [] p q alike sealed = absurd alike
+same_so_far plan words (e ∷ past) (f ∷ history) p q alike sealed = one_more plan words past history e f (same_so_far plan words past history p.1 q.1 alike.1 sealed.1) p.0.is q.0.is alike.0 sealed.0
 
 -- a prefix of a legal history is legal, and prefixes of alike histories are alike
 legal_prefix : (plan : Plan) (n : ℕ) (past : List Event) → IsLegal plan past → IsLegal plan (drop n past)
@@ -207,7 +208,8 @@ length_alike [] (f ∷ history) h = absurd h
 length_alike (e ∷ past) [] h = absurd h
 length_alike (e ∷ past) (f ∷ history) h = ap suc (length_alike past history h.1)
 
-pub one_plan : (one other : Config) → AgreeButWords one other → plan_of one ≡ plan_of other
+-- configurations that agree but for the entropy words have plans that do
+pub one_plan : (one other : Config) → AgreeButWords one other → with_entropy (plan_of one) (plan_of other).entropy ≡ plan_of other
 one_plan one other agree = (λ i. record {
   shift = (agree.same i).shift;
   normal = (agree.same i).normal;
@@ -219,17 +221,19 @@ one_plan one other agree = (λ i. record {
   image = image_by (agree.same i);
   is_born = λ lpid. list_any (λ born. born == lpid) (agree.same i).born;
   words = λ lpid. agree.words lpid i;
+  entropy = (plan_of other).entropy;
 })
 
 pub alike_show_the_same : AlikeShowTheSame
 alike_show_the_same one other past history k alike legal legal_too =
     let plan : Plan = plan_of one in
-    let plans : plan ≡ plan_of other = one_plan one other alike.open_.configs in
+    let words : ℕ → List ℕ = (plan_of other).entropy in
+    let plans : with_entropy plan words ≡ plan_of other = one_plan one other alike.open_.configs in
     let n : ℕ = length past - k in
     let there : first k history ≡ drop n history = ap (λ (m : ℕ). drop (m - k) history) (sym (length_alike past history alike.open_.entries)) in
-    let same : Same plan (drop n past) (drop n history) =
-    same_so_far plan (drop n past) (drop n history) (legal_prefix plan n past legal)
-    (legal_prefix plan n history (subst (λ (x : Plan). IsLegal x history) (sym plans) legal_too))
+    let same : Same plan words (drop n past) (drop n history) =
+    same_so_far plan words (drop n past) (drop n history) (legal_prefix plan n past legal)
+    (legal_prefix (with_entropy plan words) n history (subst (λ (x : Plan). IsLegal x history) (sym plans) legal_too))
     (alike_prefix n past history alike.open_.entries) (sealed_prefix n past history alike.sealed) in
     record {
       state = (λ i. record { cpus = λ m. same.cpu m i; guests = λ lpid. same.part lpid i; pool = same.pool i; frames = λ m. same.frame m i })
@@ -246,19 +250,20 @@ vault_is_shut config vault tag one other = by_test config.vault vault where
   by_test false h = cc
 
 -- alike histories of a vault show the same, and what they seal is the same
-shut_so_far : (plan : Plan) → IsShut plan → (past history : List Event) → IsLegal plan past → IsLegal plan history → AllAlikeOpen past history → Same plan past history × SealedBytesAgree past history
-shut_so_far plan shut [] [] p q alike = (record { cpu = λ n. refl; part = λ lpid. refl; pool = refl; frame = λ n. refl; seen = refl }, tt)
-shut_so_far plan shut [] (f ∷ history) p q alike = absurd alike
-shut_so_far plan shut (e ∷ past) [] p q alike = absurd alike
-shut_so_far plan shut (e ∷ past) (f ∷ history) p q alike =
-    let before : Same plan past history × SealedBytesAgree past history = shut_so_far plan shut past history p.1 q.1 alike.1 in
-    let sealed : begins_sealing e ≡ true → e.bytes ≡ f.bytes = (λ h. entries_shut plan past history e f before.0 p.0.is q.0.is alike.0 shut) in
-    (one_more plan past history e f before.0 p.0.is q.0.is alike.0 sealed, (sealed, before.1))
+shut_so_far : (plan : Plan) (words : ℕ → List ℕ) → IsShut plan → (past history : List Event) → IsLegal plan past → IsLegal (with_entropy plan words) history → AllAlikeOpen past history → Same plan words past history × SealedBytesAgree past history
+shut_so_far plan words shut [] [] p q alike = (record { cpu = λ n. refl; part = λ lpid. refl; pool = refl; frame = λ n. refl; seen = refl }, tt)
+shut_so_far plan words shut [] (f ∷ history) p q alike = absurd alike
+shut_so_far plan words shut (e ∷ past) [] p q alike = absurd alike
+shut_so_far plan words shut (e ∷ past) (f ∷ history) p q alike =
+    let before : Same plan words past history × SealedBytesAgree past history = shut_so_far plan words shut past history p.1 q.1 alike.1 in
+    let sealed : begins_sealing e ≡ true → e.bytes ≡ f.bytes = (λ h. entries_shut plan words past history e f before.0 p.0.is q.0.is alike.0 shut) in
+    (one_more plan words past history e f before.0 p.0.is q.0.is alike.0 sealed, (sealed, before.1))
 
 pub open_is_alike : OpenIsAlike
 open_is_alike one other past history vault legal legal_too alike =
-    let same : Same (plan_of one) past history × SealedBytesAgree past history =
-    shut_so_far (plan_of one) (vault_is_shut one vault) past history legal (subst (λ (x : Plan). IsLegal x history) (sym (one_plan one other alike.configs)) legal_too) alike.entries in
+    let words : ℕ → List ℕ = (plan_of other).entropy in
+    let same : Same (plan_of one) words past history × SealedBytesAgree past history =
+    shut_so_far (plan_of one) words (vault_is_shut one vault) past history legal (subst (λ (x : Plan). IsLegal x history) (sym (one_plan one other alike.configs)) legal_too) alike.entries in
     record { open_ = alike; sealed = same.1 }
 
 pub unsealed_is_alike : UnsealedIsAlike

@@ -6,7 +6,8 @@ use Rattle.pef_model.specs.declared.config.EntropyWord.{EntropyWord}
 use Rattle.pef_model.specs.Plan.{Plan, plan_of}
 use Rattle.pef_model.specs.Event.{Event}
 use Rattle.pef_model.specs.History.{public_state, IsLegal}
-use Rattle.pef_model.specs.SecretLaw.{open_cmd, is_sealing}
+use Rattle.pef_model.specs.SecretLaw.{open_cmd}
+use Rattle.pef_model.specs.Target.{is_sealing}
 use Rattle.pef_model.specs.Sound.{is_clean, sound}
 use Rattle.pef_model.specs.View.{view}
 

@@ -1,15 +1,13 @@
 -- Laws of whole histories: each vCPU runs on one CPU, and the frames are counted.
-use Rattle.std.specs.Prelude.{◌≡◌, ◌≢◌, ℕ, zero, suc, ◌+◌, ◌<◌, ◌==◌, Bool, true, ◌||◌, is_some, if◌then◌else◌, List, ◌∷◌, filter, length, take}
+use Rattle.std.specs.Prelude.{◌≡◌, ◌≢◌, ℕ, ◌+◌, ◌<◌, ◌≤◌, ◌==◌, if◌then◌else◌, List, ◌∷◌, filter, length, take}
 use Rattle.std.specs.List.{count_by}
-use Rattle.pef_model.specs.declared.state.Phase.TheVariants.{Secure}
+use Rattle.pef_model.specs.declared.state.Phase.TheVariants.{Normal, Secure}
 use Rattle.pef_model.specs.declared.state.VState.TheVariants.{Running}
 use Rattle.pef_model.specs.declared.state.Run.{Run}
 use Rattle.pef_model.specs.declared.state.Ctx.TheVariants as ctx
 use Rattle.pef_model.specs.Plan.{Plan}
 use Rattle.pef_model.specs.Event.{Event}
-use Rattle.pef_model.specs.GuestPart.{Page, GuestPart, is_secure}
-use Rattle.pef_model.specs.Guest.{start_guest}
-use Rattle.pef_model.specs.Deed.{may_return_in}
+use Rattle.pef_model.specs.GuestPart.{GuestPart, is_secure, frames_in, sum_below}
 use Rattle.pef_model.specs.History.{cpu_after, guest_after, pool_after, IsLegal}
 
 -- a guest's public part after a history
@@ -22,21 +20,25 @@ pub record RunsItsVcpu (plan : Plan) (past : List Event) (n : ℕ) (run : Run) :
   pub state : ((part_after plan past run.lpid).vcpus run.vid).state ≡ Running n
   -- it was taken up in the generation that the context names
   pub taken : ((part_after plan past run.lpid).vcpus run.vid).generation ≡ run.generation
-  -- the guest is still in that generation
-  pub generation : (part_after plan past run.lpid).generation ≡ run.generation
-  -- the guest is in a phase in which UV_RETURN takes up a vCPU
-  pub returns : may_return_in (part_after plan past run.lpid).phase ≡ true
-  -- the guest is secure
-  pub secure : (part_after plan past run.lpid).phase ≡ Secure
+  -- the guest runs in normal memory, or is secure
+  pub secure : (part_after plan past run.lpid).phase ≢ Normal → (part_after plan past run.lpid).phase ≡ Secure
 
+-- each CPU does, as long as the guest is in the generation that the context names
 abbrev pub EachCpuRunsItsVcpu : Type 0
-EachCpuRunsItsVcpu = (plan : Plan) (past : List Event) (n : ℕ) (run : Run) → IsLegal plan past → (cpu_after plan n past).ctx ≡ ctx.Guest run → RunsItsVcpu plan past n run
+EachCpuRunsItsVcpu =
+    (plan : Plan) (past : List Event) (n : ℕ) (run : Run) → IsLegal plan past → (cpu_after plan n past).ctx ≡ ctx.Guest run → run.generation ≡ (part_after plan past run.lpid).generation →
+    RunsItsVcpu plan past n run
 
--- two CPUs that run the same vCPU are the same CPU
+-- a context names a generation that its guest has reached
+abbrev pub EachRunIsOfAGeneration : Type 0
+EachRunIsOfAGeneration =
+    (plan : Plan) (past : List Event) (n : ℕ) (run : Run) → IsLegal plan past → (cpu_after plan n past).ctx ≡ ctx.Guest run → run.generation ≤ (part_after plan past run.lpid).generation
+
+-- two CPUs that run the same vCPU in one generation are the same CPU
 abbrev pub NoVcpuRunsTwice : Type 0
 NoVcpuRunsTwice =
     (plan : Plan) (past : List Event) (m n : ℕ) (left right : Run) → IsLegal plan past →
-    (cpu_after plan m past).ctx ≡ ctx.Guest left → (cpu_after plan n past).ctx ≡ ctx.Guest right → left.lpid ≡ right.lpid → left.vid ≡ right.vid → m ≡ n
+    (cpu_after plan m past).ctx ≡ ctx.Guest left → (cpu_after plan n past).ctx ≡ ctx.Guest right → left.lpid ≡ right.lpid → left.vid ≡ right.vid → left.generation ≡ right.generation → m ≡ n
 
 -- an order has each Secure page of its guest once, and no other page
 abbrev pub OrderHasSecurePages : Type 0
@@ -54,25 +56,11 @@ OrderGrows =
     (plan : Plan) (past : List Event) (e : Event) (lpid : ℕ) →
     take (length (still_secure plan past e lpid)) (part_after plan (e ∷ past) lpid).order ≡ still_secure plan past e lpid
 
--- whether a page has a secure frame: it is Secure, or moves inward
-abbrev pub has_secure_frame : Page → Bool
-has_secure_frame page = is_secure page || is_some page.mover
-
--- the sum of f 0 to f (n - 1)
-abbrev pub sum_below : ℕ → (ℕ → ℕ) → ℕ
-sum_below zero f = 0
-sum_below (suc n) f = sum_below n f + f n
-
--- how many pages of a guest have a secure frame
+-- the secure frames of a guest after a history
 abbrev pub frames_held : Plan → List Event → ℕ → ℕ
-frames_held plan past lpid = sum_below plan.pages (λ gfn. if has_secure_frame ((part_after plan past lpid).pages gfn) then 1 else 0)
+frames_held plan past lpid = frames_in plan (part_after plan past lpid)
 
--- the secure frames are counted: free, or pages'
-pub record CountsFrames (plan : Plan) (past : List Event) : Type 0 where
-  -- the free frames and those of all guests' pages are as many as the secure frames
-  pub all : pool_after plan past + sum_below plan.guests (λ i. frames_held plan past (i + 1)) ≡ plan.secure
-  -- every other guest than 1 is as at the start
-  pub others : (lpid : ℕ) → lpid ≢ 1 → guest_after plan lpid past ≡ start_guest plan lpid
-
+-- the free frames and those of all guests' pages are as many as the secure frames
 abbrev pub FramesAreCounted : Type 0
-FramesAreCounted = (plan : Plan) (past : List Event) → 0 < plan.guests → IsLegal plan past → CountsFrames plan past
+FramesAreCounted =
+    (plan : Plan) (past : List Event) → 0 < plan.guests → IsLegal plan past → pool_after plan past + sum_below plan.guests (λ i. frames_held plan past (i + 1)) ≡ plan.secure

@@ -11,19 +11,21 @@ use Rattle.pef_model.specs.declared.command.Cmd.TheVariants.{Go}
 use Rattle.pef_model.specs.declared.entry.Answer.TheVariants as answer
 use Rattle.pef_model.specs.Plan.{Plan}
 use Rattle.pef_model.specs.Event.{Event}
-use Rattle.pef_model.specs.Target.{touches_guest}
-use Rattle.pef_model.specs.GuestPart.{secured, refused_in}
+use Rattle.pef_model.specs.Target.{vcpu_in, touches_guest}
+use Rattle.pef_model.specs.declared.state.Kind.TheVariants.{Invalid, Out}
+use Rattle.pef_model.specs.GuestPart.{page_of, secured, refused_in}
 use Rattle.pef_model.specs.History.{guest_after, last_store, IsLegal}
 use Rattle.pef_model.specs.Alike.{first}
 use Rattle.pef_model.specs.MoveLaw.{page_after, last_begun}
 use Rattle.pef_model.specs.Sound.{is_clash, is_clean, sound}
 
--- an entry is the end of a page-in, under the guest's generation
+-- an entry is the end of a page-in of a page that is Out, under the guest's generation
 pub record EndsPageIn (plan : Plan) (past : List Event) (move : Move) (e : Event) : Type 0 where
   pub before : e.saw.before ≡ ctx.Uv (Inward move)
   pub copied : move.copied ≡ true
   pub cmd_is : e.trace.cmd ≡ Go
   pub generation : move.generation ≡ (guest_after plan move.lpid past).part.generation
+  pub out : (page_after plan past move.lpid move.gfn).kind ≡ Out
 
 -- a page that came in and was refused: the code is U_P2, and the page is at rest as it was, with what was last sealed of it
 pub record IsRefused (plan : Plan) (past : List Event) (move : Move) (e : Event) : Type 0 where
@@ -43,10 +45,12 @@ pub record IsFresh (plan : Plan) (past : List Event) (move : Move) (e : Event) :
 abbrev pub Freshness : Type 0
 Freshness = (plan : Plan) (past : List Event) (move : Move) (e : Event) → IsLegal plan (e ∷ past) → EndsPageIn plan past move e → IsFresh plan past move e
 
--- no step but one of the guest's own changes what it last stored
+-- as long as the guest stays in one generation, no step but one of its own changes what it last stored in a page that isn't Invalid
 abbrev pub MovesKeepLastStore : Type 0
 MovesKeepLastStore =
-    (plan : Plan) (past : List Event) (e : Event) (lpid gpa : ℕ) → IsLegal plan (e ∷ past) → ((run : Run) → e.saw.before ≡ ctx.Guest run → run.lpid ≢ lpid) → last_store plan (e ∷ past) lpid gpa ≡ last_store plan past lpid gpa
+    (plan : Plan) (past : List Event) (e : Event) (lpid gpa : ℕ) → IsLegal plan (e ∷ past) → ((run : Run) → vcpu_in e.saw.before ≡ Some run → run.lpid ≢ lpid) →
+    (guest_after plan lpid (e ∷ past)).part.generation ≡ (guest_after plan lpid past).part.generation → (page_after plan past lpid (page_of plan gpa)).kind ≢ Invalid →
+    last_store plan (e ∷ past) lpid gpa ≡ last_store plan past lpid gpa
 
 -- the part of a history before its first clash
 pub record IsSound (plan : Plan) (past : List Event) : Type 0 where

@@ -1,5 +1,5 @@
 -- A guest's public part, and what an entry makes of it.
-use Rattle.std.specs.Prelude.{ℕ, ◌+◌, ◌/◌, ◌%◌, ◌^◌, ◌==◌, nat_lt, Bool, true, false, not, ◌&&◌, if◌then◌else◌, List, [], ◌∷◌, ◌++◌, filter, Option, Some, None}
+use Rattle.std.specs.Prelude.{ℕ, zero, suc, ◌+◌, ◌/◌, ◌%◌, ◌^◌, ◌==◌, nat_lt, Bool, true, false, not, ◌&&◌, ◌||◌, if◌then◌else◌, List, [], ◌∷◌, ◌++◌, filter, Option, Some, None, is_some}
 use Rattle.pef_model.specs.declared.state.Phase.{Phase}
 use Rattle.pef_model.specs.declared.state.Phase.TheVariants as phase
 use Rattle.pef_model.specs.declared.state.Kind.{Kind}
@@ -15,31 +15,41 @@ use Rattle.pef_model.specs.declared.state.Work.TheVariants.{Inward, Outward}
 use Rattle.pef_model.specs.declared.state.Ctx.{Ctx}
 use Rattle.pef_model.specs.declared.state.Ctx.TheVariants as ctx
 use Rattle.pef_model.specs.declared.command.Cmd.{Cmd}
-use Rattle.pef_model.specs.declared.command.Cmd.TheVariants.{HLd, HSt, UPagein, UPageout, UReturn, GLi, GLd, GSt, GIrq, Go}
+use Rattle.pef_model.specs.declared.command.Cmd.TheVariants.{UPagein, UPageout, UReturn, GLd, GSt, GIrq}
 use Rattle.pef_model.specs.declared.command.Code.TheVariants.{USuccess, UP2}
 use Rattle.pef_model.specs.declared.entry.Exit.TheVariants as exit
 use Rattle.pef_model.specs.declared.entry.Answer.{Answer}
 use Rattle.pef_model.specs.declared.entry.Answer.TheVariants as answer
+use Rattle.pef_model.specs.declared.entry.PoolSaw.{PoolSaw}
 use Rattle.pef_model.specs.Plan.{Plan}
 use Rattle.pef_model.specs.Event.{Event}
+use Rattle.pef_model.specs.Target.{frame_of}
 
--- a page, as far as it is public: its kind; who moves it; how often it was paged out, begun page-outs included; where it is Out what was last sealed of it; where it moves outward what is to be that
+-- a page, as far as it is public: its kind; who moves it; how often it was paged out, begun page-outs included; where it is Out what was last sealed of it; where it moves outward what is to be that; its bytes where it is Secure in a guest that isn't secure yet, or no longer
 pub record Page : Type 0 where
   pub kind : Kind
   pub mover : Option Mover
   pub version : ℕ
   pub sealed : Option (List ℕ)
   pub pending : Option (List ℕ)
+  pub plain : Option (List ℕ)
 
 -- a vCPU, as far as it is public: its state, and the guest's generation when it was taken up
 pub record VcpuPart : Type 0 where
   pub state : VState
   pub generation : ℕ
 
--- a guest, without what it keeps to itself; order has its Secure pages, the one that became so first in front
+-- a partition entry: the real address of its first normal frame, and the number of its frames, one for each page from page 0 on
+pub record PartitionEntry : Type 0 where
+  pub base : ℕ
+  pub length_ : ℕ
+
+-- a guest, without what it keeps to itself; words is the number of entropy words that are left, order has its Secure pages, the one that became so first in front
 pub record GuestPart : Type 0 where
   pub phase : Phase
   pub generation : ℕ
+  pub entry : PartitionEntry
+  pub words : ℕ
   pub pages : ℕ → Page
   pub vcpus : ℕ → VcpuPart
   pub order : List ℕ
@@ -50,11 +60,11 @@ put f at x n = if n == at then x else f n
 
 -- a page that has no frame yet, and was never paged out
 abbrev pub invalid_page : Page
-invalid_page = record { kind = kind.Invalid; mover = None; version = 0; sealed = None; pending = None }
+invalid_page = record { kind = kind.Invalid; mover = None; version = 0; sealed = None; pending = None; plain = None }
 
 -- a page that was put into a secure frame; its version stays
 abbrev pub secured : Page → Page
-secured page = record { kind = kind.Secure; mover = None; version = page.version; sealed = None; pending = None }
+secured page = record { kind = kind.Secure; mover = None; version = page.version; sealed = None; pending = None; plain = None }
 
 -- a page that a CPU begins to move outward: its version rises, and the bytes of the begin are pending
 abbrev pub begun_out : Page → ℕ → List ℕ → Page
@@ -62,32 +72,37 @@ begun_out page cpu bytes = record page { mover = Some (record { cpu = cpu; way =
 
 -- a page that has moved outward: it is Out, and what was pending is what was last sealed
 abbrev pub ended_out : Page → Page
-ended_out page = record { kind = kind.Out; mover = None; version = page.version; sealed = page.pending; pending = None }
+ended_out page = record { kind = kind.Out; mover = None; version = page.version; sealed = page.pending; pending = None; plain = None }
 
 -- a vCPU in this state that was never taken up
 abbrev pub new_vcpu : VState → VcpuPart
 new_vcpu state = record { state = state; generation = 0 }
 
--- a guest that is born secure has Fresh vCPUs; every other is Absent, and its vCPUs are Idle
-abbrev pub start_part_of : Bool → GuestPart
-start_part_of true = record {
-  phase = phase.Secure;
-  generation = 1;
-  pages = λ gfn. invalid_page;
-  vcpus = λ vid. new_vcpu vstate.Fresh;
-  order = [];
-}
-start_part_of false = record {
-  phase = phase.Absent;
-  generation = 1;
-  pages = λ gfn. invalid_page;
-  vcpus = λ vid. new_vcpu vstate.Idle;
-  order = [];
-}
+-- no partition entry
+abbrev pub no_entry : PartitionEntry
+no_entry = record { base = 0; length_ = 0 }
+
+-- the phase in which a guest begins, by whether it is born secure
+abbrev pub start_phase : Bool → Phase
+start_phase true = phase.Secure
+start_phase false = phase.Absent
+
+-- and the state of its vCPUs
+abbrev pub start_state : Bool → VState
+start_state true = vstate.Fresh
+start_state false = vstate.Idle
 
 -- a guest's public part at the start
 abbrev pub start_part : Plan → ℕ → GuestPart
-start_part plan lpid = start_part_of (plan.is_born lpid)
+start_part plan lpid = record {
+  phase = start_phase (plan.is_born lpid);
+  generation = 1;
+  entry = no_entry;
+  words = plan.words lpid;
+  pages = λ gfn. invalid_page;
+  vcpus = λ vid. new_vcpu (start_state (plan.is_born lpid));
+  order = [];
+}
 
 -- the page of a guest address
 abbrev pub page_of : Plan → ℕ → ℕ
@@ -96,6 +111,48 @@ page_of plan gpa = gpa / 2 ^ plan.shift
 -- whether a guest address is that of a doubleword in a page of the guest
 abbrev pub has_place : Plan → ℕ → Bool
 has_place plan gpa = (gpa % 8 == 0) && nat_lt (page_of plan gpa) plan.pages
+
+-- what an access to a guest address meets
+pub data Meeting : Type 0 where
+  -- no doubleword of a page
+  NoPlace : Meeting
+  -- a page on the move
+  Moves : Meeting
+  -- its secure frame
+  Private : Meeting
+  -- the normal frame of this number, through the partition entry or Shared
+  Normal : ℕ → Meeting
+  -- a Shared page without a frame
+  Unshared : Meeting
+  -- an Invalid page
+  Unbacked : Meeting
+  -- a page that is Out
+  Away : Meeting
+
+-- what an access to a page at rest meets
+abbrev pub meets_kind : Kind → Meeting
+meets_kind kind.Invalid = Unbacked
+meets_kind kind.Secure = Private
+meets_kind kind.Out = Away
+meets_kind (kind.Shared (Some n) fresh) = Normal n
+meets_kind (kind.Shared None fresh) = Unshared
+
+-- what an access to a page meets: nothing is done with one that moves
+abbrev pub meets_page : Page → Meeting
+meets_page page = if is_some page.mover then Moves else meets_kind page.kind
+
+-- what an access through a partition entry meets
+abbrev pub meets_entry : Plan → PartitionEntry → ℕ → Meeting
+meets_entry plan entry gfn = if nat_lt gfn entry.length_ then Normal (frame_of plan entry.base + gfn) else NoPlace
+
+-- by the guest's phase: a Normal guest goes through its partition entry
+abbrev pub meets_in : Phase → Plan → GuestPart → ℕ → Meeting
+meets_in phase.Normal plan g gpa = if gpa % 8 == 0 then meets_entry plan g.entry (page_of plan gpa) else NoPlace
+meets_in phase plan g gpa = if has_place plan gpa then meets_page (g.pages (page_of plan gpa)) else NoPlace
+
+-- what an access of a guest meets
+abbrev pub meets : Plan → GuestPart → ℕ → Meeting
+meets plan g gpa = meets_in g.phase plan g gpa
 
 -- whether a page is Invalid
 abbrev pub is_invalid : Page → Bool
@@ -115,21 +172,30 @@ is_secure page = is_secure_kind page.kind where
   is_secure_kind kind.Out = false
   is_secure_kind (kind.Shared frame fresh) = false
 
+-- whether a page has a secure frame: it is Secure, or moves inward
+abbrev pub has_secure_frame : Page → Bool
+has_secure_frame page = is_secure page || is_some page.mover
+
+-- the sum of f 0 to f (n - 1)
+abbrev pub sum_below : ℕ → (ℕ → ℕ) → ℕ
+sum_below zero f = 0
+sum_below (suc n) f = sum_below n f + f n
+
+-- how many pages of a guest have a secure frame
+abbrev pub frames_in : Plan → GuestPart → ℕ
+frames_in plan g = sum_below plan.pages (λ gfn. if has_secure_frame (g.pages gfn) then 1 else 0)
+
 -- a page that becomes Secure is the last in the order
 abbrev pub with_secure_page : GuestPart → ℕ → GuestPart
 with_secure_page g gfn = record g { pages = put g.pages gfn (secured (g.pages gfn)); order = g.order ++ gfn ∷ [] }
 
--- an access that was done has backed the page where it was Invalid
-abbrev pub with_page_backed : GuestPart → ℕ → GuestPart
-with_page_backed g gfn = if is_invalid (g.pages gfn) then with_secure_page g gfn else g
-
 -- a vCPU that is taken up runs on the CPU under the guest's generation
 abbrev pub with_running_vcpu : GuestPart → ℕ → ℕ → GuestPart
-with_running_vcpu g vid cpu = record g { vcpus = put g.vcpus vid (record { state = vstate.Running cpu; generation = g.generation }) }
+with_running_vcpu g vid cpu = record g { vcpus = put g.vcpus vid (record (g.vcpus vid) { state = vstate.Running cpu; generation = g.generation }) }
 
 -- a vCPU that leaves is parked, in the generation in which it was taken up
 abbrev pub with_parked_vcpu : GuestPart → ℕ → Pending → GuestPart
-with_parked_vcpu g vid pending = record g { vcpus = put g.vcpus vid (record { state = vstate.Parked pending; generation = (g.vcpus vid).generation }) }
+with_parked_vcpu g vid pending = record g { vcpus = put g.vcpus vid (record (g.vcpus vid) { state = vstate.Parked pending }) }
 
 -- a page that a CPU begins to move inward; what was last sealed of it stays until it has come in
 abbrev pub begun_in : Page → ℕ → Page
@@ -147,11 +213,6 @@ with_page_leaving g gfn cpu bytes = record g { pages = put g.pages gfn (begun_ou
 abbrev pub with_page_out : GuestPart → ℕ → GuestPart
 with_page_out g gfn = record g { pages = put g.pages gfn (ended_out (g.pages gfn)); order = filter (λ n. not (n == gfn)) g.order }
 
--- after an answer of UV_PAGE_OUT in the hypervisor: where it is accepted a page begins to move
-abbrev pub part_after_page_out : GuestPart → ℕ → ℕ → Answer → List ℕ → GuestPart
-part_after_page_out g gfn cpu answer.Step bytes = with_page_leaving g gfn cpu bytes
-part_after_page_out g gfn cpu other bytes = g
-
 -- a page begins to move inward
 abbrev pub with_page_coming : GuestPart → ℕ → ℕ → GuestPart
 with_page_coming g gfn cpu = record g { pages = put g.pages gfn (begun_in (g.pages gfn) cpu) }
@@ -160,67 +221,38 @@ with_page_coming g gfn cpu = record g { pages = put g.pages gfn (begun_in (g.pag
 abbrev pub with_page_refused : GuestPart → ℕ → GuestPart
 with_page_refused g gfn = record g { pages = put g.pages gfn (refused_in (g.pages gfn)) }
 
--- after an answer of UV_PAGE_IN in the hypervisor: where it is accepted a page begins to move
-abbrev pub part_after_page_in : GuestPart → ℕ → ℕ → Answer → GuestPart
-part_after_page_in g gfn cpu answer.Step = with_page_coming g gfn cpu
-part_after_page_in g gfn cpu other = g
-
--- after an answer of UV_RETURN in the hypervisor
-abbrev pub part_after_return : GuestPart → ℕ → ℕ → Answer → GuestPart
-part_after_return g vid cpu answer.Enter = with_running_vcpu g vid cpu
-part_after_return g vid cpu other = g
-
--- after the answer of an access
-abbrev pub part_after_access : GuestPart → ℕ → Answer → GuestPart
-part_after_access g gfn answer.Done = with_page_backed g gfn
-part_after_access g gfn (answer.Val value) = with_page_backed g gfn
-part_after_access g gfn other = g
-
--- after the answer to an interrupt
-abbrev pub part_after_interrupt : GuestPart → ℕ → Answer → GuestPart
-part_after_interrupt g vid (answer.Exit exit.Irq) = with_parked_vcpu g vid pending.Irq
-part_after_interrupt g vid other = g
-
 -- after a step of the hypervisor
-abbrev pub part_after_hypervisor : Plan → GuestPart → Cmd → Event → GuestPart
-part_after_hypervisor plan g (HLd ra) e = g
-part_after_hypervisor plan g (HSt ra value) e = g
-part_after_hypervisor plan g (UPagein lpid src gpa flags order) e = part_after_page_in g (page_of plan gpa) e.trace.cpu e.trace.answer
-part_after_hypervisor plan g (UPageout lpid dest gpa flags order) e = part_after_page_out g (page_of plan gpa) e.trace.cpu e.trace.answer e.bytes
-part_after_hypervisor plan g (UReturn r0 r2 outs) e = part_after_return g e.saw.vid e.trace.cpu e.trace.answer
-part_after_hypervisor plan g (GLi rd value) e = g
-part_after_hypervisor plan g (GLd rd gpa) e = g
-part_after_hypervisor plan g (GSt rs gpa) e = g
-part_after_hypervisor plan g GIrq e = g
-part_after_hypervisor plan g Go e = g
+abbrev pub part_of_hypervisor : Plan → GuestPart → ℕ → ℕ → List ℕ → Answer → Cmd → GuestPart
+part_of_hypervisor plan g vid cpu bytes answer.Step (UPageout lpid dest gpa flags order) = with_page_leaving g (page_of plan gpa) cpu bytes
+part_of_hypervisor plan g vid cpu bytes answer.Step (UPagein lpid src gpa flags order) = with_page_coming g (page_of plan gpa) cpu
+part_of_hypervisor plan g vid cpu bytes answer.Enter (UReturn r0 r2 outs) = with_running_vcpu g vid cpu
+part_of_hypervisor plan g vid cpu bytes a cmd = g
 
--- after a step of a call in progress: a page has moved where the call comes back with U_SUCCESS, and was refused at U_P2
-abbrev pub part_after_work : GuestPart → Work → Answer → GuestPart
-part_after_work g (Inward move) (answer.Ret USuccess) = with_secure_page g move.gfn
-part_after_work g (Inward move) (answer.Ret UP2) = with_page_refused g move.gfn
-part_after_work g (Inward move) other = g
-part_after_work g (Outward move) (answer.Ret USuccess) = with_page_out g move.gfn
-part_after_work g (Outward move) other = g
+-- after a step of a call in progress
+abbrev pub part_of_work : GuestPart → List ℕ → Answer → Work → GuestPart
+part_of_work g bytes (answer.Ret USuccess) (Outward move) = with_page_out g move.gfn
+part_of_work g bytes (answer.Ret USuccess) (Inward move) = with_secure_page g move.gfn
+part_of_work g bytes (answer.Ret UP2) (Inward move) = with_page_refused g move.gfn
+part_of_work g bytes a work = g
 
--- after a step of the guest's vCPU of this number
-abbrev pub part_after_guest : Plan → GuestPart → ℕ → Cmd → Answer → GuestPart
-part_after_guest plan g vid (HLd ra) a = g
-part_after_guest plan g vid (HSt ra value) a = g
-part_after_guest plan g vid (UPagein lpid src gpa flags order) a = g
-part_after_guest plan g vid (UPageout lpid dest gpa flags order) a = g
-part_after_guest plan g vid (UReturn r0 r2 outs) a = g
-part_after_guest plan g vid (GLi rd value) a = g
-part_after_guest plan g vid (GLd rd gpa) a = part_after_access g (page_of plan gpa) a
-part_after_guest plan g vid (GSt rs gpa) a = part_after_access g (page_of plan gpa) a
-part_after_guest plan g vid GIrq a = part_after_interrupt g vid a
-part_after_guest plan g vid Go a = g
+-- after an access that was done: the page is backed where it took a frame
+abbrev pub part_of_access : GuestPart → ℕ → Option PoolSaw → GuestPart
+part_of_access g gfn (Some saw) = with_secure_page g gfn
+part_of_access g gfn None = g
 
--- by the context before the entry
-abbrev pub part_after_in : Ctx → Plan → GuestPart → Event → GuestPart
-part_after_in ctx.Hv plan g e = part_after_hypervisor plan g e.trace.cmd e
-part_after_in (ctx.Uv work) plan g e = part_after_work g work e.trace.answer
-part_after_in (ctx.Guest run) plan g e = part_after_guest plan g run.vid e.trace.cmd e.trace.answer
+-- after a step of a guest's vCPU
+abbrev pub part_of_guest : Plan → GuestPart → ℕ → Answer → Cmd → Option PoolSaw → GuestPart
+part_of_guest plan g vid (answer.Val value) (GLd rd gpa) pool = part_of_access g (page_of plan gpa) pool
+part_of_guest plan g vid answer.Done (GSt rs gpa) pool = part_of_access g (page_of plan gpa) pool
+part_of_guest plan g vid (answer.Exit exit.Irq) GIrq pool = with_parked_vcpu g vid pending.Irq
+part_of_guest plan g vid a cmd pool = g
+
+-- by the context before the step
+abbrev pub part_in : Plan → GuestPart → Ctx → Answer → Cmd → Option PoolSaw → ℕ → ℕ → List ℕ → GuestPart
+part_in plan g ctx.Hv a cmd pool vid cpu bytes = part_of_hypervisor plan g vid cpu bytes a cmd
+part_in plan g (ctx.Uv work) a cmd pool vid cpu bytes = part_of_work g bytes a work
+part_in plan g (ctx.Guest run) a cmd pool vid cpu bytes = part_of_guest plan g run.vid a cmd pool
 
 -- a guest's public part after an entry that touches it
 abbrev pub next_part : Plan → GuestPart → Event → GuestPart
-next_part plan g e = part_after_in e.saw.before plan g e
+next_part plan g e = part_in plan g e.saw.before e.trace.answer e.trace.cmd e.saw.pool e.saw.vid e.trace.cpu e.bytes

@@ -1,20 +1,14 @@
 -- The objects after a history, the one entry that a step adds, and legal histories.
-use Rattle.std.specs.Prelude.{◌≡◌, ℕ, ◌<◌, ◌==◌, nat_lt, if◌then◌else◌, List, [], ◌∷◌, Option, Some, None, slice_index}
-use Rattle.pef_model.specs.declared.state.Work.TheVariants.{Outward}
-use Rattle.pef_model.specs.declared.state.Ctx.{Ctx}
-use Rattle.pef_model.specs.declared.state.Ctx.TheVariants as ctx
-use Rattle.pef_model.specs.declared.entry.Answer.{Answer}
-use Rattle.pef_model.specs.declared.entry.Answer.TheVariants as answer
+use Rattle.std.specs.Prelude.{◌≡◌, ℕ, ◌<◌, nat_lt, if◌then◌else◌, List, [], ◌∷◌, Option, slice_index}
 use Rattle.pef_model.specs.declared.command.Cmd.{Cmd}
-use Rattle.pef_model.specs.declared.command.Cmd.TheVariants.{HSt, Go}
 use Rattle.pef_model.specs.Plan.{Plan}
 use Rattle.pef_model.specs.Event.{Event, Mark, mark_of, newest, value_after}
 use Rattle.pef_model.specs.Doubleword.{doubleword}
-use Rattle.pef_model.specs.Target.{Ask, Target, Alone, AtGuest, AtFrame, frame_of, uses_hand, target_in, touches_cpu, touches_guest, touches_pool, touches_frame}
+use Rattle.pef_model.specs.Target.{Ask, Target, Alone, AtGuest, AtFrame, uses_hand, target_in, touches_cpu, touches_guest, touches_pool, touches_frame}
 use Rattle.pef_model.specs.Cpu.{CpuPart, start_cpu, next_cpu}
 use Rattle.pef_model.specs.GuestPart.{GuestPart}
-use Rattle.pef_model.specs.Guest.{Guest, start_guest, next_guest, private_doubleword}
-use Rattle.pef_model.specs.Memory.{offset_of, start_pool, next_pool, start_frame, next_frame}
+use Rattle.pef_model.specs.Guest.{Guest, start_guest, next_guest}
+use Rattle.pef_model.specs.Memory.{start_pool, next_pool, start_frame, next_frame, writes_of, written_at}
 use Rattle.pef_model.specs.Deed.{Deed, deed_alone, deed_guest, deed_frame}
 
 -- a CPU after a history
@@ -31,7 +25,11 @@ pool_after plan past = value_after touches_pool next_pool (start_pool plan) past
 
 -- a normal frame after a history
 abbrev pub frame_after : Plan → ℕ → List Event → List ℕ
-frame_after plan n past = value_after (touches_frame n) (next_frame plan) (start_frame plan) past
+frame_after plan n past = value_after (touches_frame n) (next_frame plan n) (start_frame plan) past
+
+-- the doubleword at an offset of a normal frame after a history
+abbrev pub found_after : Plan → List Event → ℕ → ℕ → ℕ
+found_after plan past n offset = doubleword (frame_after plan n past) offset
 
 -- all that the hypervisor could know; of secrets it has what the sealed bytes of page-outs tell
 pub record PublicState : Type 0 where
@@ -51,16 +49,11 @@ public_state plan past = record {
 
 -- the value last stored at an address of a guest's private page; 0 where the page is Invalid
 abbrev pub last_store : Plan → List Event → ℕ → ℕ → ℕ
-last_store plan past lpid gpa = private_doubleword plan (guest_after plan lpid past) gpa
+last_store plan past lpid gpa = (guest_after plan lpid past).content gpa
 
--- the value that an entry writes at a real address: a store of the hypervisor its own, the copy of a page-out the hand's doubleword at the address
-abbrev pub norm_by : Plan → ℕ → Ctx → Cmd → Answer → List ℕ → Option ℕ
-norm_by plan ra ctx.Hv (HSt at value) answer.Done bytes = if at == ra then Some value else None
-norm_by plan ra (ctx.Uv (Outward move)) Go answer.Step bytes = if move.frame == frame_of plan ra then Some (doubleword bytes (offset_of plan ra)) else None
-norm_by plan ra before cmd a bytes = None
-
+-- the value that an entry writes at a real address
 abbrev pub decides_norm : Plan → ℕ → List Event → Event → Option ℕ
-decides_norm plan ra past e = norm_by plan ra e.saw.before e.trace.cmd e.trace.answer e.bytes
+decides_norm plan ra past e = written_at plan ra (writes_of plan e)
 
 -- the value last written at a real address
 abbrev pub last_norm : Plan → List Event → ℕ → ℕ
@@ -84,8 +77,8 @@ entry_of ask mark cmd deed = record {
 
 -- what a step does after a history
 abbrev pub deed_after : Plan → List Event → Ask → Cmd → Target → Deed
-deed_after plan past ask cmd Alone = deed_alone ask cmd
-deed_after plan past ask cmd (AtGuest lpid) = deed_guest plan (guest_after plan lpid past) (nat_lt 0 (pool_after plan past)) ask cmd
+deed_after plan past ask cmd Alone = deed_alone plan ask cmd
+deed_after plan past ask cmd (AtGuest lpid) = deed_guest plan (guest_after plan lpid past) (found_after plan past) (nat_lt 0 (pool_after plan past)) ask cmd
 deed_after plan past ask cmd (AtFrame n) = deed_frame plan n (frame_after plan n past) ask cmd
 
 -- the entry that a step adds to a history, once it is known what the step learns of its CPU

@@ -26,6 +26,7 @@ pub mod SearchLaw
 pub mod StepLaw
 pub mod Authority
 pub mod MoveLaw
+pub mod Clash
 pub mod Sound
 pub mod FreshLaw
 pub mod TransitionLaw
@@ -39,3 +40,9 @@ pub mod Alike
 pub mod SeenReport
 pub mod PairLaw
 pub mod NameLaw
+pub mod CauseLaw
+pub mod OldMoveLaw
+pub mod ToldLaw
+pub mod GuestLaw
+pub mod TagLaw
+pub mod StartLaw

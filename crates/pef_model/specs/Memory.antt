@@ -1,6 +1,5 @@
 -- The pool of secure frames, and the normal frames.
-use Rattle.std.specs.Prelude.{ℕ, ◌+◌, ◌-◌, ◌%◌, ◌^◌, List, Option, Some, None, replicate}
-use Rattle.pef_model.specs.declared.state.Work.{Work}
+use Rattle.std.specs.Prelude.{ℕ, ◌+◌, ◌-◌, ◌%◌, ◌^◌, ◌==◌, if◌then◌else◌, List, [], ◌∷◌, ◌++◌, take, drop, length, Option, Some, None, replicate, Bool, ◌&&◌, nat_le, nat_lt}
 use Rattle.pef_model.specs.declared.state.Work.TheVariants.{Outward}
 use Rattle.pef_model.specs.declared.state.Ctx.{Ctx}
 use Rattle.pef_model.specs.declared.state.Ctx.TheVariants as ctx
@@ -11,7 +10,9 @@ use Rattle.pef_model.specs.declared.entry.Answer.TheVariants as answer
 use Rattle.pef_model.specs.declared.entry.PoolSaw.{PoolSaw}
 use Rattle.pef_model.specs.Plan.{Plan}
 use Rattle.pef_model.specs.Event.{Event}
-use Rattle.pef_model.specs.Doubleword.{with_doubleword}
+use Rattle.pef_model.specs.Doubleword.{doubleword}
+use Rattle.pef_model.specs.Target.{frame_of}
+use Rattle.byteorder.specs.Endian.{big_bytes}
 
 -- the number of free frames after what a step took and gave back
 abbrev pub pool_with : ℕ → Option PoolSaw → ℕ
@@ -30,25 +31,54 @@ start_pool plan = plan.secure
 abbrev pub offset_of : Plan → ℕ → ℕ
 offset_of plan address = address % 2 ^ plan.shift
 
--- a frame after a command of the hypervisor: a store that was done writes it
-abbrev pub written : Plan → List ℕ → Cmd → Answer → List ℕ
-written plan bytes (HSt ra value) answer.Done = with_doubleword bytes (offset_of plan ra) value
-written plan bytes cmd a = bytes
+-- a write into normal memory
+pub record Write : Type 0 where
+  pub frame : ℕ
+  pub offset : ℕ
+  pub bytes : List ℕ
 
--- a frame after a step of a call in progress: the copy of a page-out writes the whole hand
-abbrev pub copied : Work → List ℕ → Cmd → Answer → List ℕ → List ℕ
-copied (Outward move) bytes Go answer.Step hand = hand
-copied work bytes cmd a hand = bytes
+-- what a step at this normal frame writes there: a store its doubleword, a copy the entry's bytes
+abbrev pub write_in : Plan → Ctx → Cmd → Answer → List ℕ → ℕ → List Write
+write_in plan ctx.Hv (HSt ra value) answer.Done bytes n = record { frame = n; offset = offset_of plan ra; bytes = big_bytes 8 value } ∷ []
+write_in plan (ctx.Uv (Outward move)) Go answer.Step bytes n = record { frame = n; offset = 0; bytes = bytes } ∷ []
+write_in plan before cmd a bytes n = []
 
--- by the context before the entry
-abbrev pub written_in : Ctx → Plan → List ℕ → Cmd → Answer → List ℕ → List ℕ
-written_in ctx.Hv plan bytes cmd a hand = written plan bytes cmd a
-written_in (ctx.Uv work) plan bytes cmd a hand = copied work bytes cmd a hand
-written_in (ctx.Guest run) plan bytes cmd a hand = bytes
+-- what a step writes into the normal frame that it tells
+abbrev pub writes_in : Plan → Ctx → Cmd → Answer → List ℕ → Option ℕ → List Write
+writes_in plan c cmd a bytes None = []
+writes_in plan c cmd a bytes (Some n) = write_in plan c cmd a bytes n
 
--- a normal frame's bytes after an entry that touches it
-abbrev pub next_frame : Plan → List ℕ → Event → List ℕ
-next_frame plan bytes e = written_in e.saw.before plan bytes e.trace.cmd e.trace.answer e.bytes
+-- what an entry writes into normal memory
+abbrev pub writes_of : Plan → Event → List Write
+writes_of plan e = writes_in plan e.saw.before e.trace.cmd e.trace.answer e.bytes e.saw.frame
+
+-- bytes with others written over them, from an offset on
+abbrev pub overwritten : List ℕ → ℕ → List ℕ → List ℕ
+overwritten old offset bytes = take offset old ++ (bytes ++ drop (offset + length bytes) old)
+
+-- a frame's bytes after writes, one after another
+abbrev pub after_writes : ℕ → List ℕ → List Write → List ℕ
+after_writes n old [] = old
+after_writes n old (write ∷ more) = after_writes n (if write.frame == n then overwritten old write.offset write.bytes else old) more
+
+-- the first of two values that is there
+abbrev pub either_of : {A : Type 0} → Option A → Option A → Option A
+either_of (Some x) other = Some x
+either_of None other = other
+
+-- whether a write covers the doubleword at a real address
+abbrev pub covers : Plan → Write → ℕ → Bool
+covers plan write ra = (write.frame == frame_of plan ra) && nat_le write.offset (offset_of plan ra) && nat_lt (offset_of plan ra) (write.offset + length write.bytes)
+
+-- the doubleword that writes leave at a real address: that of the last one that covers it
+abbrev pub written_at : Plan → ℕ → List Write → Option ℕ
+written_at plan ra [] = None
+written_at plan ra (write ∷ more) =
+    either_of (written_at plan ra more) (if covers plan write ra then Some (doubleword write.bytes (offset_of plan ra - write.offset)) else None)
+
+-- a normal frame's bytes after an entry
+abbrev pub next_frame : Plan → ℕ → List ℕ → Event → List ℕ
+next_frame plan n bytes e = after_writes n bytes (writes_of plan e)
 
 -- at the start each normal frame is zero
 abbrev pub start_frame : Plan → List ℕ

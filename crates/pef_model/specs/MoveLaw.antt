@@ -3,6 +3,7 @@ use Rattle.std.specs.Prelude.{◌≡◌, ◌≢◌, ℕ, ◌+◌, ◌/◌, ◌%�
 use Rattle.std.specs.List.{count_by}
 use Rattle.pef_model.specs.declared.config.Config.{Config}
 use Rattle.pef_model.specs.declared.state.Tag.{Tag}
+use Rattle.pef_model.specs.declared.state.Phase.TheVariants as phase
 use Rattle.pef_model.specs.declared.state.Kind.TheVariants.{Secure, Out}
 use Rattle.pef_model.specs.declared.state.Way.{Way}
 use Rattle.pef_model.specs.declared.state.Way.TheVariants as way
@@ -43,9 +44,9 @@ EachCpuMovesItsPage =
     (plan : Plan) (past : List Event) (n : ℕ) (move : Move) → IsLegal plan past → (cpu_after plan n past).ctx ≡ ctx.Uv (Outward move) →
     move.generation ≡ (guest_after plan move.lpid past).part.generation → MovesItsPage plan past n move
 
--- a CPU moves the page inward that its call in progress names: the page is still Out
+-- a CPU moves the page inward that its call in progress names: a page of a secure guest is still Out
 pub record MovesItsPageIn (plan : Plan) (past : List Event) (n : ℕ) (move : Move) : Type 0 where
-  pub kind : (page_after plan past move.lpid move.gfn).kind ≡ Out
+  pub kind : (guest_after plan move.lpid past).part.phase ≡ phase.Secure → (page_after plan past move.lpid move.gfn).kind ≡ Out
   pub mover : (page_after plan past move.lpid move.gfn).mover ≡ Some (record { cpu = n; way = way.Inward })
 
 abbrev pub EachCpuMovesItsPageIn : Type 0
@@ -99,9 +100,11 @@ abbrev pub LastSealedIsBegun : Type 0
 LastSealedIsBegun =
     (plan : Plan) (past : List Event) (lpid gfn : ℕ) → IsLegal plan past → (page_after plan past lpid gfn).kind ≡ Out → (page_after plan past lpid gfn).sealed ≡ last_begun plan lpid gfn past
 
--- a page's version is how many page-outs of it began
+-- as long as a guest stays in one generation a page's version rises by how many page-outs of it began; at the start it is 0
 abbrev pub VersionsCountPageOuts : Type 0
-VersionsCountPageOuts = (plan : Plan) (past : List Event) (lpid gfn : ℕ) → IsLegal plan past → (page_after plan past lpid gfn).version ≡ count_by (begins_out plan lpid gfn) past
+VersionsCountPageOuts =
+    (plan : Plan) (past since : List Event) (lpid gfn : ℕ) → IsLegal plan (since ++ past) → (guest_after plan lpid (since ++ past)).part.generation ≡ (guest_after plan lpid past).part.generation →
+    (page_after plan (since ++ past) lpid gfn).version ≡ (page_after plan past lpid gfn).version + count_by (begins_out plan lpid gfn) since
 
 -- the tag under which the next page-out of a page seals it: that of its next version
 abbrev pub sealing_tag : Plan → List Event → ℕ → ℕ → Tag
@@ -114,11 +117,12 @@ NoTagTwice =
     IsLegal plan (f ∷ (since ++ e ∷ past)) → begins_out plan lpid gfn e ≡ true → begins_out plan other_lpid other_gfn f ≡ true →
     sealing_tag plan past lpid gfn ≢ sealing_tag plan (since ++ e ∷ past) other_lpid other_gfn
 
--- what a page-out that begins seals is the image of the page of last_store, under the tag of the page's next version
+-- what a page-out that begins seals, of a guest that is to stay secure, is the image of the page of last_store, under the tag of the page's next version
 abbrev pub PageOutSealsLastStore : Type 0
 PageOutSealsLastStore =
     (config : Config) (past : List Event) (e : Event) (lpid dest gpa flags order : ℕ) →
     Extends (plan_of config) past e → e.saw.before ≡ ctx.Hv → e.trace.cmd ≡ UPageout lpid dest gpa flags order → e.trace.answer ≡ answer.Step →
+    (guest_after (plan_of config) lpid past).part.phase ≡ phase.Secure →
     e.bytes ≡ image config (sealing_tag (plan_of config) past lpid (page_of (plan_of config) gpa))
     (page_bytes config.shift (last_store (plan_of config) past lpid) (page_of (plan_of config) gpa))
 

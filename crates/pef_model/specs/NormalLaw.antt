@@ -1,12 +1,12 @@
 -- Laws of normal memory.
-use Rattle.std.specs.Prelude.{◌≡◌, ℕ, ◌<◌, true, false, List, ◌∷◌}
-use Rattle.std.specs.List.{AllByRecursion}
+use Rattle.std.specs.Prelude.{◌≡◌, ◌≢◌, Some, ℕ, ◌<◌, true, false, List, ◌∷◌, ◌^◌}
 use Rattle.pef_model.specs.declared.config.Config.{Config}
 use Rattle.pef_model.specs.declared.state.Run.{Run}
 use Rattle.pef_model.specs.declared.state.Ctx.TheVariants as ctx
 use Rattle.pef_model.specs.declared.state.Move.{Move}
-use Rattle.pef_model.specs.declared.state.Work.{Work}
-use Rattle.pef_model.specs.declared.state.Work.TheVariants.{Inward, Outward}
+use Rattle.pef_model.specs.declared.state.Way.{Way}
+use Rattle.pef_model.specs.declared.state.Work.TheVariants.{Inward}
+use Rattle.pef_model.specs.declared.command.Code.TheVariants.{USuccess}
 use Rattle.pef_model.specs.declared.command.Cmd.TheVariants.{HLd, HSt, UPagein, UPageout}
 use Rattle.pef_model.specs.declared.entry.Answer.TheVariants as answer
 use Rattle.pef_model.specs.Plan.{Plan, plan_of, IsInRange}
@@ -15,20 +15,20 @@ use Rattle.pef_model.specs.Doubleword.{doubleword}
 use Rattle.pef_model.specs.Target.{frame_of, has_real_place}
 use Rattle.pef_model.specs.Memory.{offset_of}
 use Rattle.pef_model.specs.History.{frame_after, guest_after, last_norm, Extends, IsLegal}
-use Rattle.pef_model.specs.SearchLaw.{IsCommand}
 use Rattle.pef_model.specs.View.{view, memory_seen}
+use Rattle.pef_model.specs.MoveLaw.{work_by}
 
 -- the frames of the public state hold last_norm everywhere
 abbrev pub FramesHoldLastNorm : Type 0
 FramesHoldLastNorm =
-    (config : Config) (past : List Event) (ra : ℕ) → IsInRange config → IsLegal (plan_of config) past → AllByRecursion (λ (e : Event). IsCommand e.trace.cmd) past →
+    (config : Config) (past : List Event) (ra : ℕ) → IsInRange config → IsLegal (plan_of config) past →
     has_real_place (plan_of config) ra ≡ true →
     doubleword (frame_after (plan_of config) (frame_of (plan_of config) ra) past) (offset_of (plan_of config) ra) ≡ last_norm (plan_of config) past ra
 
--- a guest's step changes no normal frame
+-- a guest's step changes no normal frame but the one that it tells
 abbrev pub GuestLeavesFrames : Type 0
 GuestLeavesFrames =
-    (plan : Plan) (past : List Event) (e : Event) (run : Run) (n : ℕ) → e.saw.before ≡ ctx.Guest run →
+    (plan : Plan) (past : List Event) (e : Event) (run : Run) (n : ℕ) → e.saw.before ≡ ctx.Guest run → e.saw.frame ≢ Some n →
     frame_after plan n (e ∷ past) ≡ frame_after plan n past
 
 -- the hypervisor's store changes no guest
@@ -39,22 +39,16 @@ StoreLeavesGuests =
 
 -- the hypervisor sees each change of normal memory: the frames of the public state are what the writes of the view leave
 abbrev pub WritesMakeFrames : Type 0
-WritesMakeFrames =
-    (config : Config) (past : List Event) (n : ℕ) → IsInRange config → IsLegal (plan_of config) past → AllByRecursion (λ (e : Event). IsCommand e.trace.cmd) past →
-    n < config.normal → memory_seen (plan_of config) (view (plan_of config) past) n ≡ frame_after (plan_of config) n past
-
--- the move of a call in progress
-abbrev pub move_of : Work → Move
-move_of (Inward move) = move
-move_of (Outward move) = move
+WritesMakeFrames = (plan : Plan) (past : List Event) (n : ℕ) → memory_seen plan (view plan past) n ≡ frame_after plan n past
 
 -- the steps of a page's move keep to their objects: begins and ends change no normal frame, and copies no guest; the copy of a page-in only reads
 pub record KeepsToItsObjects (plan : Plan) (past : List Event) (e : Event) : Type 0 where
   pub begin_out : (lpid dest gpa flags order n : ℕ) → e.trace.cmd ≡ UPageout lpid dest gpa flags order → frame_after plan n (e ∷ past) ≡ frame_after plan n past
-  pub begin_in : (lpid src gpa flags order n : ℕ) → e.trace.cmd ≡ UPagein lpid src gpa flags order → frame_after plan n (e ∷ past) ≡ frame_after plan n past
-  pub copy : (work : Work) (lpid : ℕ) → e.saw.before ≡ ctx.Uv work → (move_of work).copied ≡ false → guest_after plan lpid (e ∷ past) ≡ guest_after plan lpid past
+  -- a call that comes back at once with U_SUCCESS moved nothing
+  pub begin_in : (lpid src gpa flags order n : ℕ) → e.trace.cmd ≡ UPagein lpid src gpa flags order → e.trace.answer ≢ answer.Ret USuccess → frame_after plan n (e ∷ past) ≡ frame_after plan n past
+  pub copy : (way : Way) (move : Move) (lpid : ℕ) → e.saw.before ≡ ctx.Uv (work_by way move) → move.copied ≡ false → guest_after plan lpid (e ∷ past) ≡ guest_after plan lpid past
   pub read : (move : Move) (n : ℕ) → e.saw.before ≡ ctx.Uv (Inward move) → frame_after plan n (e ∷ past) ≡ frame_after plan n past
-  pub end : (work : Work) (n : ℕ) → e.saw.before ≡ ctx.Uv work → (move_of work).copied ≡ true → frame_after plan n (e ∷ past) ≡ frame_after plan n past
+  pub end : (way : Way) (move : Move) (n : ℕ) → e.saw.before ≡ ctx.Uv (work_by way move) → move.copied ≡ true → frame_after plan n (e ∷ past) ≡ frame_after plan n past
 
 abbrev pub EachMoveKeepsToItsObjects : Type 0
 EachMoveKeepsToItsObjects = (plan : Plan) (past : List Event) (e : Event) → Extends plan past e → KeepsToItsObjects plan past e
@@ -62,5 +56,11 @@ EachMoveKeepsToItsObjects = (plan : Plan) (past : List Event) (e : Event) → Ex
 -- a load of the hypervisor that is done gives what was last written at its real address
 abbrev pub LoadGivesLastNorm : Type 0
 LoadGivesLastNorm =
-    (config : Config) (past : List Event) (e : Event) (ra value : ℕ) → IsInRange config → IsLegal (plan_of config) (e ∷ past) → AllByRecursion (λ (f : Event). IsCommand f.trace.cmd) past →
+    (config : Config) (past : List Event) (e : Event) (ra value : ℕ) → IsInRange config → IsLegal (plan_of config) (e ∷ past) →
     e.saw.before ≡ ctx.Hv → e.trace.cmd ≡ HLd ra → e.trace.answer ≡ answer.Val value → value ≡ last_norm (plan_of config) past ra
+
+-- after a store of the hypervisor that is done, the value last written at its real address is the one that it stored
+abbrev pub StoreIsLastNorm : Type 0
+StoreIsLastNorm =
+    (config : Config) (past : List Event) (e : Event) (ra value : ℕ) → IsInRange config → IsLegal (plan_of config) (e ∷ past) →
+    e.saw.before ≡ ctx.Hv → e.trace.cmd ≡ HSt ra value → e.trace.answer ≡ answer.Done → value < 2 ^ 64 → last_norm (plan_of config) (e ∷ past) ra ≡ value

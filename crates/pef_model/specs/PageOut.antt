@@ -1,5 +1,5 @@
 -- UV_PAGE_OUT: with which code it comes back at once, and what it seals.
-use Rattle.std.specs.Prelude.{ℕ, ◌+◌, ◌*◌, ◌/◌, ◌%◌, ◌^◌, ◌==◌, nat_lt, Bool, true, false, not, ◌&&◌, ◌||◌, if◌then◌else◌, List, map, Option, Some, None, is_some}
+use Rattle.std.specs.Prelude.{ℕ, ◌+◌, ◌*◌, ◌/◌, ◌%◌, ◌^◌, ◌==◌, nat_lt, Bool, true, false, not, ◌&&◌, ◌||◌, if◌then◌else◌, List, map, Option, Some, None, is_some, unwrap_or, []}
 use Rattle.std.specs.List.{range_with_len}
 use Rattle.pef_model.specs.declared.state.Phase.{Phase}
 use Rattle.pef_model.specs.declared.state.Phase.TheVariants as phase
@@ -13,7 +13,7 @@ use Rattle.pef_model.specs.Plan.{Plan}
 use Rattle.pef_model.specs.Seal.{doublewords}
 use Rattle.pef_model.specs.Target.{frame_of}
 use Rattle.pef_model.specs.GuestPart.{GuestPart, page_of}
-use Rattle.pef_model.specs.Guest.{Guest, private_doubleword}
+use Rattle.pef_model.specs.Guest.{Guest}
 
 -- whether UV_PAGE_OUT is for a guest in this phase
 abbrev pub may_page_out_in : Phase → Bool
@@ -76,8 +76,13 @@ page_bytes shift value gfn = doublewords (map (λ i. value (gfn * 2 ^ shift + 8 
 
 -- a page of a guest: the doublewords last stored there
 abbrev pub private_page : Plan → Guest → ℕ → List ℕ
-private_page plan g gfn = page_bytes plan.shift (private_doubleword plan g) gfn
+private_page plan g gfn = page_bytes plan.shift g.content gfn
 
 -- the sealed page that a page-out of a page makes: its image under the tag of its next version
 abbrev pub sealed_page : Plan → Guest → ℕ → ℕ → List ℕ
 sealed_page plan g lpid gfn = plan.image (tag_of g.part lpid gfn ((g.part.pages gfn).version + 1)) (private_page plan g gfn)
+
+-- what a page-out of a page puts into the hand: its sealed page; of a guest that isn't to be secure its bytes, which are public
+abbrev pub bytes_out : Phase → Plan → Guest → ℕ → ℕ → List ℕ
+bytes_out phase.Aborting plan g lpid gfn = unwrap_or (g.part.pages gfn).plain []
+bytes_out other plan g lpid gfn = sealed_page plan g lpid gfn

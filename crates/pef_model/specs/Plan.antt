@@ -1,5 +1,5 @@
--- A configuration, and what of it runs that differ in secrets have in common.
-use Rattle.std.specs.Prelude.{ℕ, ◌≤◌, ◌==◌, Bool, false, List, [], replicate, map, All}
+-- A configuration, and what the definitions read of it.
+use Rattle.std.specs.Prelude.{ℕ, ◌≤◌, ◌==◌, Bool, false, List, [], replicate, map, filter, All}
 use Rattle.std.specs.List.Sorted.{IsNonDecreasing, IsStrictlyIncreasing}
 use Rattle.std.specs.List.{list_any, count_by}
 use Rattle.pef_model.specs.declared.config.Config.{Config}
@@ -7,7 +7,7 @@ use Rattle.pef_model.specs.declared.config.EntropyWord.{EntropyWord}
 use Rattle.pef_model.specs.declared.state.Tag.{Tag}
 use Rattle.pef_model.specs.Seal.{image as image_by}
 
--- what a configuration has in common with those that differ from it in secrets alone: the sizes, who is born secure, the seal and the sealed page of each page, and how many entropy words each guest has
+-- what the definitions read of a configuration: the sizes, who is born secure, the sealed page of each page, and how many entropy words each guest has; of secrets the entropy words alone, in which runs that differ in secrets differ
 pub record Plan : Type 0 where
   pub shift : ℕ
   pub normal : ℕ
@@ -19,6 +19,11 @@ pub record Plan : Type 0 where
   pub image : Tag → List ℕ → List ℕ
   pub is_born : ℕ → Bool
   pub words : ℕ → ℕ
+  pub entropy : ℕ → List ℕ
+
+-- a plan with other entropy words
+abbrev pub with_entropy : Plan → (ℕ → List ℕ) → Plan
+with_entropy plan words = record plan { entropy = words }
 
 -- the plan of a configuration
 abbrev pub plan_of : Config → Plan
@@ -33,6 +38,7 @@ plan_of config = record {
   image = image_by config;
   is_born = λ lpid. list_any (λ born. born == lpid) config.born;
   words = λ lpid. count_by (λ (word : EntropyWord). word.lpid == lpid) config.entropy;
+  entropy = λ lpid. map (λ (word : EntropyWord). word.left) (filter (λ (word : EntropyWord). word.lpid == lpid) config.entropy);
 }
 
 -- a number from a least one to a greatest one

@@ -1,9 +1,9 @@
 -- Laws of what an object's next value reads of an entry, and which entries it reads at all.
-use Rattle.std.specs.Prelude.{◌≡◌, ℕ, Bool, true, false, if◌then◌else◌, List, Option, Some, None}
+use Rattle.std.specs.Prelude.{◌≡◌, ℕ, Bool, true, false, if◌then◌else◌, List, Option, Some, None, ◌==◌}
 use Rattle.std.specs.List.{filter}
 use Rattle.pef_model.specs.declared.command.Cmd.{Cmd}
-use Rattle.pef_model.specs.declared.command.Cmd.TheVariants.{HLd, HSt, UPagein, UPageout, UReturn, GLi, GLd, GSt, GIrq, Go}
-use Rattle.pef_model.specs.declared.state.Work.TheVariants.{Outward}
+use Rattle.pef_model.specs.declared.command.Cmd.TheVariants.{UReturn}
+use Rattle.pef_model.specs.declared.state.Work.TheVariants.{Inward}
 use Rattle.pef_model.specs.declared.state.Ctx.{Ctx}
 use Rattle.pef_model.specs.declared.state.Ctx.TheVariants as ctx
 use Rattle.pef_model.specs.declared.entry.Answer.{Answer}
@@ -11,14 +11,13 @@ use Rattle.pef_model.specs.declared.entry.Answer.TheVariants.{Step, Enter}
 use Rattle.pef_model.specs.declared.entry.PoolSaw.{PoolSaw}
 use Rattle.pef_model.specs.Plan.{Plan}
 use Rattle.pef_model.specs.Event.{Event}
-use Rattle.pef_model.specs.Target.{Ask, touches_cpu, touches_guest, touches_pool, touches_frame}
+use Rattle.pef_model.specs.Target.{Ask, touches_cpu, touches_guest, touches_pool, touches_frame, is_sealing, takes_bytes, is_copying}
 use Rattle.pef_model.specs.Cpu.{CpuPart, next_cpu}
 use Rattle.pef_model.specs.GuestPart.{GuestPart, next_part}
 use Rattle.pef_model.specs.Guest.{Guest, next_guest}
 use Rattle.pef_model.specs.Memory.{next_pool, next_frame}
 use Rattle.pef_model.specs.Deed.{deed_guest}
 use Rattle.pef_model.specs.History.{cpu_after, guest_after, pool_after, frame_after, last_store, reg, Extends}
-use Rattle.pef_model.specs.SecretLaw.{is_sealing, takes_bytes}
 
 -- the entries of a history that touch an object decide its value; so last_store and reg read only their guest's entries
 pub record OwnEntriesDecide (plan : Plan) (past : List Event) : Type 0 where
@@ -35,16 +34,8 @@ EachOwnEntriesDecide = (plan : Plan) (past : List Event) → OwnEntriesDecide pl
 
 -- whether a command is UV_RETURN
 abbrev pub IsReturn : Cmd → Type 0
-IsReturn (HLd ra) = ⊥
-IsReturn (HSt ra value) = ⊥
-IsReturn (UPagein lpid src gpa flags order) = ⊥
-IsReturn (UPageout lpid dest gpa flags order) = ⊥
 IsReturn (UReturn r0 r2 outs) = Unit {0}
-IsReturn (GLi rd value) = ⊥
-IsReturn (GLd rd gpa) = ⊥
-IsReturn (GSt rs gpa) = ⊥
-IsReturn GIrq = ⊥
-IsReturn Go = ⊥
+IsReturn cmd = ⊥
 
 -- whether an answer gives a page or a vCPU to a CPU
 abbrev pub GivesCpu : Answer → Type 0
@@ -58,36 +49,40 @@ pub record AgreeForCpu (e f : Event) : Type 0 where
   pub answer : e.trace.answer ≡ f.trace.answer
   pub before : e.saw.before ≡ f.saw.before
   pub after : e.saw.after ≡ f.saw.after
+  pub shown : e.saw.shown ≡ f.saw.shown
   pub bytes : takes_bytes e.saw.before e.trace.cmd e.trace.answer ≡ true → e.bytes ≡ f.bytes
 
--- two entries agree in what a guest reads of them: the vCPU at UV_RETURN alone, the CPU where a vCPU runs or a page moves from then on, the bytes where a page-out begins
-pub record AgreeForGuest (e f : Event) : Type 0 where
+-- whether a guest reads a step's bytes: where a page-out begins, and where a page-in ends
+abbrev pub tells_guest : Ctx → Cmd → Answer → Bool
+tells_guest (ctx.Uv (Inward move)) cmd a = true
+tells_guest before cmd a = is_sealing before cmd a
+
+-- two entries agree in what a guest reads of them: the vCPU at UV_RETURN alone, the CPU where a vCPU runs or a page moves from then on, the bytes where they tell it something
+pub record AgreeForGuest (plan : Plan) (e f : Event) : Type 0 where
   pub cmd : e.trace.cmd ≡ f.trace.cmd
   pub answer : e.trace.answer ≡ f.trace.answer
   pub before : e.saw.before ≡ f.saw.before
+  pub pool : e.saw.pool ≡ f.saw.pool
+  pub frame : e.saw.frame ≡ f.saw.frame
   pub vid : IsReturn e.trace.cmd → e.saw.vid ≡ f.saw.vid
   pub cpu : GivesCpu e.trace.answer → e.trace.cpu ≡ f.trace.cpu
-  pub bytes : is_sealing e.saw.before e.trace.cmd e.trace.answer ≡ true → e.bytes ≡ f.bytes
-
--- whether a step is the copy of a page-out
-abbrev pub is_copying : Ctx → Cmd → Answer → Bool
-is_copying (ctx.Uv (Outward move)) Go Step = true
-is_copying before cmd a = false
+  pub bytes : tells_guest e.saw.before e.trace.cmd e.trace.answer ≡ true → e.bytes ≡ f.bytes
 
 -- two entries agree in what a normal frame reads of them: the bytes where a page is copied into it
 pub record AgreeForFrame (e f : Event) : Type 0 where
   pub cmd : e.trace.cmd ≡ f.trace.cmd
   pub answer : e.trace.answer ≡ f.trace.answer
   pub before : e.saw.before ≡ f.saw.before
+  pub frame : e.saw.frame ≡ f.saw.frame
   pub bytes : is_copying e.saw.before e.trace.cmd e.trace.answer ≡ true → e.bytes ≡ f.bytes
 
 -- entries that agree in these fields give equal next values
 pub record NextValuesAgree (plan : Plan) (e f : Event) : Type 0 where
   pub cpu : (cpu : CpuPart) → AgreeForCpu e f → next_cpu cpu e ≡ next_cpu cpu f
-  pub part : (g : GuestPart) → AgreeForGuest e f → next_part plan g e ≡ next_part plan g f
-  pub guest : (g : Guest) → AgreeForGuest e f → next_guest plan g e ≡ next_guest plan g f
+  pub part : (g : GuestPart) → AgreeForGuest plan e f → next_part plan g e ≡ next_part plan g f
+  pub guest : (g : Guest) → AgreeForGuest plan e f → next_guest plan g e ≡ next_guest plan g f
   pub pool : (free : ℕ) → e.saw.pool ≡ f.saw.pool → next_pool free e ≡ next_pool free f
-  pub frame : (bytes : List ℕ) → AgreeForFrame e f → next_frame plan bytes e ≡ next_frame plan bytes f
+  pub frame : (n : ℕ) (bytes : List ℕ) → AgreeForFrame e f → next_frame plan n bytes e ≡ next_frame plan n bytes f
 
 -- no other field of an entry counts
 abbrev pub TheseFieldsDecide : Type 0
@@ -112,14 +107,12 @@ tells_free (Some saw) = saw.any
 -- whether a frame is free makes no difference to a step that doesn't tell it
 abbrev pub UnaskedMakesNoDifference : Type 0
 UnaskedMakesNoDifference =
-    (plan : Plan) (g : Guest) (ask : Ask) (cmd : Cmd) → tells_free (deed_guest plan g true ask cmd).pool ≡ false → deed_guest plan g false ask cmd ≡ deed_guest plan g true ask cmd
+    (plan : Plan) (g : Guest) (found : ℕ → ℕ → ℕ) (ask : Ask) (cmd : Cmd) → tells_free (deed_guest plan g found true ask cmd).pool ≡ false → deed_guest plan g found false ask cmd ≡ deed_guest plan g found true ask cmd
 
--- whether a step may need a free frame: the steps of a call in progress don't
-abbrev pub asks_pool : Ctx → Bool
-asks_pool ctx.Hv = true
-asks_pool (ctx.Uv work) = false
-asks_pool (ctx.Guest run) = true
+-- what a step saw of the pool has whether a frame was free, but where it gave frames back: then it didn't ask
+abbrev pub IsTold : Bool → PoolSaw → Type 0
+IsTold any saw = saw.any ≡ (if saw.given == 0 then any else false)
 
--- a step that tells of the pool tells whether a frame was free where it may need one, and nothing of it where it only gives one back
+-- a step that tells of the pool tells whether a frame was free where it may need one, and nothing of it where it gives frames back
 abbrev pub AskedIsTold : Type 0
-AskedIsTold = (plan : Plan) (g : Guest) (any : Bool) (ask : Ask) (cmd : Cmd) (saw : PoolSaw) → (deed_guest plan g any ask cmd).pool ≡ Some saw → saw.any ≡ (if asks_pool ask.before then any else false)
+AskedIsTold = (plan : Plan) (g : Guest) (found : ℕ → ℕ → ℕ) (any : Bool) (ask : Ask) (cmd : Cmd) (saw : PoolSaw) → (deed_guest plan g found any ask cmd).pool ≡ Some saw → IsTold any saw

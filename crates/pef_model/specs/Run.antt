@@ -1,6 +1,6 @@
 -- Which histories a script can give, and the one that its serial run gives.
-use Rattle.std.specs.Prelude.{◌≡◌, ℕ, zero, suc, ◌+◌, ◌==◌, Bool, true, false, not, ◌||◌, if◌then◌else◌, List, [], ◌∷◌, length, reverse}
-use Rattle.std.specs.List.{filter, flat_map, AllByRecursion}
+use Rattle.std.specs.Prelude.{◌≡◌, ℕ, zero, suc, ◌+◌, ◌≤◌, ◌==◌, nat_lt, Bool, true, false, not, ◌||◌, if◌then◌else◌, List, [], ◌∷◌, length, reverse, Option, Some, None, option_map, slice_get}
+use Rattle.std.specs.List.{filter, filter_map, AllByRecursion}
 use Rattle.pef_model.specs.declared.state.Ctx.{Ctx}
 use Rattle.pef_model.specs.declared.state.Ctx.TheVariants as ctx
 use Rattle.pef_model.specs.declared.command.Directive.{Directive}
@@ -23,10 +23,6 @@ is_line_of n line = line.cpu == n
 abbrev pub entries_of : ℕ → List Event → ℕ
 entries_of n past = length (filter (touches_cpu n) past)
 
--- the entries of a line of a script, by the line's number
-abbrev pub entries_at : List Event → Line → List Event
-entries_at past line = filter (λ (e : Event). e.trace.line == line.number) past
-
 -- whether a call is in progress
 abbrev pub is_in_progress : Ctx → Bool
 is_in_progress ctx.Hv = false
@@ -47,38 +43,70 @@ pub record GoesOn (e : Event) : Type 0 where
   pub cmd : e.trace.cmd ≡ Go
   pub goes_on : ends_go e ≡ false
 
--- entries, the newest first, are those that a directive gives: one of its command; or entries of `go`, up to the first with which go* ends
-abbrev pub Gives : Directive → List Event → Type 0
-Gives (Once cmd) (e ∷ []) = e.trace.cmd ≡ cmd
-Gives (Once cmd) es = ⊥
-Gives GoAll [] = ⊥
-Gives GoAll (e ∷ earlier) = (e.trace.cmd ≡ Go) × (ends_go e ≡ true) × AllByRecursion GoesOn earlier
+-- a step that a script gives: its line's number, and its command
+pub record NextStep : Type 0 where
+  pub line : ℕ
+  pub cmd : Cmd
 
--- entries are those that a line gives, on its CPU
-pub record AreGivenBy (line : Line) (es : List Event) : Type 0 where
-  pub cpu : AllByRecursion (λ (e : Event). e.trace.cpu ≡ line.cpu) es
-  pub gives : Gives line.directive es
+-- the step of an entry
+abbrev pub step_of : Event → NextStep
+step_of e = record { line = e.trace.line; cmd = e.trace.cmd }
 
--- each entry's place is the number of its CPU's entries before it
-abbrev pub IsPlaced : List Event → Type 0
-IsPlaced [] = Unit {0}
-IsPlaced (e ∷ past) = (e.trace.place ≡ entries_of e.trace.cpu past) × IsPlaced past
+-- the first command that a directive gives
+abbrev pub first_command : Directive → Cmd
+first_command (Once cmd) = cmd
+first_command GoAll = Go
+
+-- the command that a directive gives after an entry of it; None where it is done
+abbrev pub command_after : Directive → Event → Option Cmd
+command_after (Once cmd) e = None
+command_after GoAll e = if ends_go e then None else Some Go
+
+-- the command that a line gives after its CPU's entries: its first after one of an earlier line, one more after one of its own; None where it is done
+abbrev pub command_at : List Event → Line → Option Cmd
+command_at [] line = Some (first_command line.directive)
+command_at (e ∷ earlier) line =
+    if nat_lt e.trace.line line.number then Some (first_command line.directive)
+    else if e.trace.line == line.number then command_after line.directive e
+    else None
+
+-- the step that a line gives after its CPU's entries
+abbrev pub step_at : List Event → Line → Option NextStep
+step_at own line = option_map (λ (cmd : Cmd). record { line = line.number; cmd = cmd }) (command_at own line)
+
+-- the step that a script gives a CPU after a history: the first that the CPU's lines give after its entries; None where all are done
+abbrev pub next_of : Script → List Event → ℕ → Option NextStep
+next_of script past n = slice_get (filter_map (step_at (filter (touches_cpu n) past)) (filter (is_line_of n) script.lines)) 0
+
+-- an entry is the next of its CPU: the script gives its step, and its place is the number of its CPU's entries before it
+pub record IsNext (script : Script) (past : List Event) (e : Event) : Type 0 where
+  pub step : next_of script past e.trace.cpu ≡ Some (step_of e)
+  pub place : e.trace.place ≡ entries_of e.trace.cpu past
+
+-- a history is a part of a schedule: each entry is the next of its CPU
+abbrev pub IsPart : Script → List Event → Type 0
+IsPart script [] = Unit {0}
+IsPart script (e ∷ past) = IsNext script past e × IsPart script past
+
+-- the line numbers never fall from older to newer entries
+abbrev pub NeverFall : List Event → Type 0
+NeverFall [] = Unit {0}
+NeverFall (e ∷ past) = AllByRecursion (λ (earlier : Event). earlier.trace.line ≤ e.trace.line) past × NeverFall past
 
 -- each entry's stamp is its number from 1
 abbrev pub IsStamped : List Event → Type 0
 IsStamped [] = Unit {0}
 IsStamped (e ∷ past) = (e.trace.stamp ≡ length past + 1) × IsStamped past
 
--- each line gives its entries, and the entries of each CPU are those of its lines, in their order
+-- a history is a schedule: a part of one, after which no CPU has a next step
 pub record IsScheduled (script : Script) (past : List Event) : Type 0 where
-  pub given : AllByRecursion (λ (line : Line). AreGivenBy line (entries_at past line)) script.lines
-  pub lines : (n : ℕ) → filter (touches_cpu n) past ≡ flat_map (entries_at past) (filter (is_line_of n) (reverse script.lines))
-  pub placed : IsPlaced past
+  pub part : IsPart script past
+  pub ended : (n : ℕ) → next_of script past n ≡ None
 
--- the entries of all lines stand in the order of the lines
+-- a schedule that does the lines in their order
 pub record IsSerial (script : Script) (past : List Event) : Type 0 where
   pub scheduled : IsScheduled script past
-  pub lines : past ≡ flat_map (entries_at past) (reverse script.lines)
+  pub order : NeverFall past
   pub stamped : IsStamped past
 
 -- a history is a run of a script: each entry extends those before it, and the lines are done in their order

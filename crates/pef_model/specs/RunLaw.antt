@@ -13,7 +13,7 @@ use Rattle.pef_model.specs.Plan.{Plan, plan_of, default_config}
 use Rattle.pef_model.specs.Event.{Event}
 use Rattle.pef_model.specs.Script.{Line, Script, IsScript, script_of}
 use Rattle.pef_model.specs.History.{IsLegal}
-use Rattle.pef_model.specs.Run.{IsRun, ends_go, GoesOn, with_gos, most_gos, run_of}
+use Rattle.pef_model.specs.Run.{NextStep, next_of, IsPart, IsRun, ends_go, GoesOn, entry_after, with_gos, most_gos, run_after, run_of}
 use Rattle.pef_model.specs.Report.{report}
 
 -- a fact holds of a value, and of no other
@@ -159,3 +159,38 @@ abbrev pub EachGoAllEnds : Type 0
 EachGoAllEnds =
     (plan : Plan) (past : List Event) (line : Line) → IsLegal plan past →
     (earlier : List Event) × (e : Event) × (with_gos plan (most_gos plan) past line ≡ e ∷ (earlier ++ past)) × (ends_go e ≡ true) × AllByRecursion GoesOn earlier × (length earlier < most_gos plan)
+
+-- the guest stores and leaves, and CPU 0 begins to page its page out
+abbrev pub begin_lines : List Line
+begin_lines = line_at 1 0 (return_with 0) ∷ line_at 2 0 (GSt 20 0x0) ∷ line_at 3 0 GIrq ∷ line_at 4 0 (UPageout 1 0x100 0x0 0 8) ∷ []
+
+-- CPU 0 goes on by go*, and CPU 1 loads
+abbrev pub two_cpu_script : Script
+two_cpu_script = record { config = small_config; lines = begin_lines ++ (go_all_at 5 0 ∷ line_at 6 1 (HLd 0x100) ∷ line_at 7 0 (HLd 0x0) ∷ []) }
+
+-- its entries up to the end of go*, where the load of CPU 1 comes between the two that go* gives
+abbrev pub two_cpu_part : List Event
+two_cpu_part =
+    let plan = plan_of small_config in
+    let begun = run_after plan (reverse begin_lines) in
+    let copied = entry_after plan begun (go_all_at 5 0) Go ∷ begun in
+    let loaded = entry_after plan copied (line_at 6 1 (HLd 0x100)) (HLd 0x100) ∷ copied in
+    entry_after plan loaded (go_all_at 5 0) Go ∷ loaded
+
+-- what a script gives a CPU after a history, and after each older part of it
+abbrev pub nexts_of : Script → ℕ → List Event → List (Option NextStep)
+nexts_of script n [] = next_of script [] n ∷ []
+nexts_of script n (e ∷ past) = next_of script (e ∷ past) n ∷ nexts_of script n past
+
+abbrev pub some_next : ℕ → Cmd → Option NextStep
+some_next line cmd = Some (record { line = line; cmd = cmd })
+
+-- such a part of a schedule, and what is next on CPU 0, which comes back to its go*, and on CPU 1, which has one line
+pub record NextsOfTwoCpus : Type 0 where
+  pub part : IsPart two_cpu_script two_cpu_part
+  pub first :
+      nexts_of two_cpu_script 0 two_cpu_part
+      ≡ some_next 7 (HLd 0x0) ∷ some_next 5 Go ∷ some_next 5 Go ∷ some_next 5 Go ∷ some_next 4 (UPageout 1 0x100 0x0 0 8) ∷ some_next 3 GIrq ∷ some_next 2 (GSt 20 0x0) ∷ some_next 1 (return_with 0) ∷ []
+  pub second :
+      let load = some_next 6 (HLd 0x100) in
+      nexts_of two_cpu_script 1 two_cpu_part ≡ None ∷ None ∷ load ∷ load ∷ load ∷ load ∷ load ∷ load ∷ []

@@ -1,48 +1,37 @@
 -- Laws of what a guest loads: the last store, as a search from the newest entry on.
-use Rattle.std.specs.Prelude.{◌≡◌, ℕ, ◌-◌, ◌/◌, ◌%◌, ◌^◌, ◌<◌, ◌==◌, nat_lt, nat_le, Bool, false, ◌&&◌, if◌then◌else◌, List, ◌∷◌, ◌++◌, length, Option, Some, None, slice_index}
+use Rattle.std.specs.Prelude.{◌≡◌, ℕ, ◌-◌, ◌/◌, ◌%◌, ◌^◌, ◌<◌, ◌==◌, nat_lt, nat_le, ◌&&◌, if◌then◌else◌, List, [], ◌∷◌, ◌++◌, length, Option, Some, None, slice_index}
 use Rattle.std.specs.List.{AllByRecursion}
+use Rattle.pef_model.specs.declared.state.Phase.TheVariants as phase
 use Rattle.pef_model.specs.declared.state.Kind.TheVariants.{Secure}
 use Rattle.pef_model.specs.declared.state.Run.{Run}
 use Rattle.pef_model.specs.declared.state.Ctx.{Ctx}
 use Rattle.pef_model.specs.declared.state.Ctx.TheVariants as ctx
 use Rattle.pef_model.specs.declared.command.Cmd.{Cmd}
-use Rattle.pef_model.specs.declared.command.Cmd.TheVariants.{HLd, HSt, UPagein, UPageout, UReturn, GLi, GLd, GSt, GIrq, Go}
+use Rattle.pef_model.specs.declared.command.Cmd.TheVariants.{HSt, UPagein, UPageout, UReturn, GLi, GLd, GSt}
 use Rattle.pef_model.specs.declared.entry.Answer.{Answer}
 use Rattle.pef_model.specs.declared.entry.Answer.TheVariants as answer
 use Rattle.pef_model.specs.Plan.{Plan}
 use Rattle.pef_model.specs.Event.{Event, newest}
 use Rattle.pef_model.specs.Registers.{number_of}
-use Rattle.pef_model.specs.Target.{touches_guest}
-use Rattle.pef_model.specs.GuestPart.{is_invalid, page_of}
+use Rattle.pef_model.specs.Target.{caller, touches_guest}
+use Rattle.pef_model.specs.GuestPart.{page_of}
+use Rattle.pef_model.specs.Guest.{Guest}
 use Rattle.pef_model.specs.History.{guest_after, last_store, reg, Extends}
 
--- an access of a guest backs the page of an address where that page was Invalid, and its doublewords are 0 then
-abbrev pub zero_where_backed : Plan → ℕ → ℕ → List Event → ℕ → Option ℕ
-zero_where_backed plan lpid gpa past at =
-    if (page_of plan at == page_of plan gpa) && is_invalid ((guest_after plan lpid past).part.pages (page_of plan gpa)) then Some 0 else None
-
--- what a step of a guest's vCPU decides: a store to the address what was in its register, another access a backing
-abbrev pub access_decides : Plan → ℕ → ℕ → List Event → ℕ → Cmd → Answer → Option ℕ
-access_decides plan lpid gpa past vid (GSt rs at) answer.Done = if at == gpa then Some (reg plan past lpid vid rs) else zero_where_backed plan lpid gpa past at
-access_decides plan lpid gpa past vid (GLd rd at) (answer.Val value) = zero_where_backed plan lpid gpa past at
-access_decides plan lpid gpa past vid cmd a = None
-
--- only the guest's own steps decide its doublewords
-abbrev pub step_decides : Plan → ℕ → ℕ → List Event → Ctx → Cmd → Answer → Option ℕ
-step_decides plan lpid gpa past ctx.Hv cmd a = None
-step_decides plan lpid gpa past (ctx.Uv work) cmd a = None
-step_decides plan lpid gpa past (ctx.Guest run) cmd a = if run.lpid == lpid then access_decides plan lpid gpa past run.vid cmd a else None
+-- what a step decides, by the normal frame and the bytes that it tells: a store of the guest to the address, in no frame, what was in its register
+abbrev pub step_decides : Plan → ℕ → ℕ → List Event → Ctx → Cmd → Answer → Option ℕ → List ℕ → Option ℕ
+step_decides plan lpid gpa past (ctx.Guest run) (GSt rs at) answer.Done None bytes = if (run.lpid == lpid) && (at == gpa) then Some (reg plan past lpid run.vid rs) else None
+step_decides plan lpid gpa past before cmd a frame bytes = None
 
 -- the value that an entry gives the doubleword at an address of a guest
 abbrev pub decides_doubleword : Plan → ℕ → ℕ → List Event → Event → Option ℕ
-decides_doubleword plan lpid gpa past e = step_decides plan lpid gpa past e.saw.before e.trace.cmd e.trace.answer
+decides_doubleword plan lpid gpa past e = step_decides plan lpid gpa past e.saw.before e.trace.cmd e.trace.answer e.saw.frame e.bytes
 
--- last_store is what the newest entry says that stored there or backed the page, and 0 where the page is Invalid now
+-- last_store is what the newest entry says that gave the doubleword a value, and 0 where none did
 abbrev pub LastStoreIsNewest : Type 0
 LastStoreIsNewest =
     (plan : Plan) (past : List Event) (lpid gpa : ℕ) →
-    last_store plan past lpid gpa
-    ≡ (if is_invalid ((guest_after plan lpid past).part.pages (page_of plan gpa)) then 0 else newest (decides_doubleword plan lpid gpa) 0 past)
+    last_store plan past lpid gpa ≡ newest (decides_doubleword plan lpid gpa) 0 past
 
 -- the value that UV_RETURN of a guest, which is refused, gives a register
 abbrev pub loaded_value : ℕ → ℕ → List ℕ → ℕ → ℕ → Option ℕ
@@ -64,37 +53,38 @@ value_of_page_call lpid ra gpa flags order code r =
     else if r == 8 then Some order
     else None
 
--- the value that a command of a vCPU gives one of its registers
-abbrev pub assigned_by_command : Cmd → Answer → ℕ → Option ℕ
-assigned_by_command (UPagein lpid src gpa flags order) (answer.Ret code) r = value_of_page_call lpid src gpa flags order (number_of code) r
-assigned_by_command (UPageout lpid dest gpa flags order) (answer.Ret code) r = value_of_page_call lpid dest gpa flags order (number_of code) r
-assigned_by_command (UReturn r0 r2 outs) (answer.Ret code) r = loaded_value r0 r2 outs (number_of code) r
-assigned_by_command (GLi rd value) answer.Done r = if r == rd then Some value else None
-assigned_by_command (GLd rd gpa) (answer.Val value) r = if r == rd then Some value else None
-assigned_by_command cmd a r = None
+-- the value that a command of a vCPU gives one of its registers, by the guest that it finds
+abbrev pub assigned_by_command : Guest → Cmd → Answer → ℕ → Option ℕ
+assigned_by_command g (UPagein lpid src gpa flags order) (answer.Ret code) r = value_of_page_call lpid src gpa flags order (number_of code) r
+assigned_by_command g (UPageout lpid dest gpa flags order) (answer.Ret code) r = value_of_page_call lpid dest gpa flags order (number_of code) r
+assigned_by_command g (UReturn r0 r2 outs) (answer.Ret code) r = loaded_value r0 r2 outs (number_of code) r
+assigned_by_command g (GLi rd value) answer.Done r = if r == rd then Some value else None
+assigned_by_command g (GLd rd gpa) (answer.Val value) r = if r == rd then Some value else None
+assigned_by_command g cmd a r = None
 
--- the value that an entry gives a register of a vCPU
-abbrev pub assigned_in : Ctx → ℕ → Cmd → Answer → ℕ → Option ℕ
-assigned_in ctx.Hv vid cmd a r = None
-assigned_in (ctx.Uv work) vid cmd a r = None
-assigned_in (ctx.Guest run) vid cmd a r = if vid == run.vid then assigned_by_command cmd a r else None
+-- a call that comes back to a vCPU gives R3 its code
+abbrev pub assigned_by_work : Option Run → ℕ → Answer → ℕ → Option ℕ
+assigned_by_work (Some run) vid (answer.Ret code) r = if (vid == run.vid) && (r == 3) then Some (number_of code) else None
+assigned_by_work caller vid a r = None
+
+-- the value that an entry gives a register of a vCPU of a guest
+abbrev pub assigned_in : Ctx → Guest → ℕ → Cmd → Answer → ℕ → Option ℕ
+assigned_in ctx.Hv g vid cmd a r = None
+assigned_in (ctx.Uv work) g vid cmd a r = assigned_by_work (caller work) vid a r
+assigned_in (ctx.Guest run) g vid cmd a r = if vid == run.vid then assigned_by_command g cmd a r else None
 
 -- the value that an entry of a guest gives a register of its vCPU
 abbrev pub decides_register : Plan → ℕ → ℕ → ℕ → List Event → Event → Option ℕ
-decides_register plan lpid vid r past e = if touches_guest plan lpid e then assigned_in e.saw.before vid e.trace.cmd e.trace.answer r else None
+decides_register plan lpid vid r past e = if touches_guest plan lpid e then assigned_in e.saw.before (guest_after plan lpid past) vid e.trace.cmd e.trace.answer r else None
 
 -- a command that a script can have: its registers are R0 to R31, UV_RETURN has nine outputs, and what the hypervisor stores has 64 bits
 abbrev pub IsCommand : Cmd → Type 0
-IsCommand (HLd ra) = Unit {0}
 IsCommand (HSt ra value) = value < 2 ^ 64
-IsCommand (UPagein lpid src gpa flags order) = Unit {0}
-IsCommand (UPageout lpid dest gpa flags order) = Unit {0}
 IsCommand (UReturn r0 r2 outs) = length outs ≡ 9
 IsCommand (GLi rd value) = rd < 32
 IsCommand (GLd rd gpa) = rd < 32
 IsCommand (GSt rs gpa) = rs < 32
-IsCommand GIrq = Unit {0}
-IsCommand Go = Unit {0}
+IsCommand cmd = Unit {0}
 
 -- reg is what the newest entry says that assigned the register
 abbrev pub RegIsNewest : Type 0
@@ -102,18 +92,10 @@ RegIsNewest =
     (plan : Plan) (past : List Event) (lpid vid r : ℕ) → r < 32 → AllByRecursion (λ (e : Event). IsCommand e.trace.cmd) past →
     reg plan past lpid vid r ≡ newest (decides_register plan lpid vid r) 0 past
 
--- whether a step is a store to an address of a guest that was done
-abbrev pub is_store_by : ℕ → ℕ → Ctx → Cmd → Answer → Bool
-is_store_by lpid gpa (ctx.Guest run) (GSt rs at) answer.Done = (run.lpid == lpid) && (at == gpa)
-is_store_by lpid gpa before cmd a = false
-
--- whether an entry is such a store
-abbrev pub is_store : ℕ → ℕ → Event → Bool
-is_store lpid gpa e = is_store_by lpid gpa e.saw.before e.trace.cmd e.trace.answer
-
--- no entry of a history stored to the address
-abbrev pub HasNoStore : ℕ → ℕ → List Event → Type 0
-HasNoStore lpid gpa past = AllByRecursion (λ (e : Event). is_store lpid gpa e ≡ false) past
+-- of a history and its entries since then, none of these gave the doubleword at the address a value
+abbrev pub HasNoStore : Plan → ℕ → ℕ → List Event → List Event → Type 0
+HasNoStore plan lpid gpa past [] = Unit {0}
+HasNoStore plan lpid gpa past (e ∷ since) = (decides_doubleword plan lpid gpa (since ++ past) e ≡ None) × HasNoStore plan lpid gpa past since
 
 -- an entry is this command of a vCPU, with this answer
 pub record IsStep (run : Run) (cmd : Cmd) (a : Answer) (e : Event) : Type 0 where
@@ -121,22 +103,22 @@ pub record IsStep (run : Run) (cmd : Cmd) (a : Answer) (e : Event) : Type 0 wher
   pub cmd_is : e.trace.cmd ≡ cmd
   pub answer_is : e.trace.answer ≡ a
 
--- a load that is done gives the last store
+-- a load that is done in no normal frame gives the last store
 abbrev pub LoadGivesLastStore : Type 0
 LoadGivesLastStore =
     (plan : Plan) (past : List Event) (e : Event) (run : Run) (rd gpa value : ℕ) →
-    Extends plan past e → IsStep run (GLd rd gpa) (answer.Val value) e → value ≡ last_store plan past run.lpid gpa
+    Extends plan past e → IsStep run (GLd rd gpa) (answer.Val value) e → e.saw.frame ≡ None → value ≡ last_store plan past run.lpid gpa
 
--- the last store after a store, and other entries that don't store there, is what was in the register
+-- the last store after a store, and entries that give the doubleword no value, is what was in the register
 abbrev pub LastStoreIsStored : Type 0
 LastStoreIsStored =
     (plan : Plan) (past since : List Event) (e : Event) (run : Run) (rs gpa : ℕ) →
-    IsStep run (GSt rs gpa) answer.Done e → HasNoStore run.lpid gpa since →
+    IsStep run (GSt rs gpa) answer.Done e → e.saw.frame ≡ None → HasNoStore plan run.lpid gpa (e ∷ past) since →
     last_store plan (since ++ e ∷ past) run.lpid gpa ≡ reg plan past run.lpid run.vid rs
 
 -- where nothing was stored the last store is 0
 abbrev pub LastStoreIsZero : Type 0
-LastStoreIsZero = (plan : Plan) (past : List Event) (lpid gpa : ℕ) → HasNoStore lpid gpa past → last_store plan past lpid gpa ≡ 0
+LastStoreIsZero = (plan : Plan) (past : List Event) (lpid gpa : ℕ) → HasNoStore plan lpid gpa [] past → last_store plan past lpid gpa ≡ 0
 
 -- an access to an address in a page of the guest that is Secure and at rest is done
 pub record AccessIsDone (plan : Plan) (past : List Event) (e : Event) (run : Run) (gpa : ℕ) : Type 0 where
@@ -145,6 +127,6 @@ pub record AccessIsDone (plan : Plan) (past : List Event) (e : Event) (run : Run
 
 abbrev pub SecurePageIsReached : Type 0
 SecurePageIsReached =
-    (plan : Plan) (past : List Event) (e : Event) (run : Run) (gpa : ℕ) → Extends plan past e → e.saw.before ≡ ctx.Guest run → run.generation ≡ (guest_after plan run.lpid past).part.generation →
+    (plan : Plan) (past : List Event) (e : Event) (run : Run) (gpa : ℕ) → Extends plan past e → e.saw.before ≡ ctx.Guest run → run.generation ≡ (guest_after plan run.lpid past).part.generation → (guest_after plan run.lpid past).part.phase ≡ phase.Secure →
     gpa % 8 ≡ 0 → gpa / 2 ^ plan.shift < plan.pages → ((guest_after plan run.lpid past).part.pages (page_of plan gpa)).kind ≡ Secure → ((guest_after plan run.lpid past).part.pages (page_of plan gpa)).mover ≡ None →
     AccessIsDone plan past e run gpa

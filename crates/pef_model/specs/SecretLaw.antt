@@ -1,17 +1,17 @@
 -- The law that the public state has no secret but what the sealed bytes of page-outs tell.
-use Rattle.std.specs.Prelude.{◌≡◌, ℕ, Bool, true, false, List, map}
-use Rattle.pef_model.specs.declared.state.Work.TheVariants.{Inward, Outward}
+use Rattle.std.specs.Prelude.{◌≡◌, ℕ, Bool, false, List, map}
+use Rattle.pef_model.specs.declared.state.Phase.TheVariants.{Aborting}
 use Rattle.pef_model.specs.declared.state.Ctx.{Ctx}
 use Rattle.pef_model.specs.declared.state.Ctx.TheVariants as ctx
 use Rattle.pef_model.specs.declared.command.Directive.{Directive}
 use Rattle.pef_model.specs.declared.command.Directive.TheVariants.{Once, GoAll}
 use Rattle.pef_model.specs.declared.command.Cmd.{Cmd}
-use Rattle.pef_model.specs.declared.command.Cmd.TheVariants.{HLd, HSt, UPagein, UPageout, UReturn, GLi, GLd, GSt, GIrq, Go}
+use Rattle.pef_model.specs.declared.command.Cmd.TheVariants.{GLi}
 use Rattle.pef_model.specs.declared.entry.Answer.{Answer}
 use Rattle.pef_model.specs.declared.entry.Answer.TheVariants as answer
 use Rattle.pef_model.specs.Plan.{Plan}
 use Rattle.pef_model.specs.Event.{Event}
-use Rattle.pef_model.specs.Target.{Ask, touches_cpu, touches_guest, touches_pool, touches_frame}
+use Rattle.pef_model.specs.Target.{Ask, is_sealing, touches_cpu, touches_guest, touches_pool, touches_frame}
 use Rattle.pef_model.specs.Cpu.{CpuPart, next_cpu}
 use Rattle.pef_model.specs.GuestPart.{GuestPart, next_part}
 use Rattle.pef_model.specs.Guest.{Guest}
@@ -21,32 +21,13 @@ use Rattle.pef_model.specs.Memory.{next_pool, next_frame}
 
 -- a command without the value that a guest alone knows
 abbrev pub open_cmd : Cmd → Cmd
-open_cmd (HLd ra) = HLd ra
-open_cmd (HSt ra value) = HSt ra value
-open_cmd (UPagein lpid src gpa flags order) = UPagein lpid src gpa flags order
-open_cmd (UPageout lpid dest gpa flags order) = UPageout lpid dest gpa flags order
-open_cmd (UReturn r0 r2 outs) = UReturn r0 r2 outs
 open_cmd (GLi rd value) = GLi rd 0
-open_cmd (GLd rd gpa) = GLd rd gpa
-open_cmd (GSt rs gpa) = GSt rs gpa
-open_cmd GIrq = GIrq
-open_cmd Go = Go
+open_cmd cmd = cmd
 
 -- a directive without that value
 abbrev pub open_directive : Directive → Directive
 open_directive (Once cmd) = Once (open_cmd cmd)
 open_directive GoAll = GoAll
-
--- whether a step begins a page-out, which seals the page
-abbrev pub is_sealing : Ctx → Cmd → Answer → Bool
-is_sealing ctx.Hv (UPageout lpid dest gpa flags order) answer.Step = true
-is_sealing before cmd a = false
-
--- whether a step puts its bytes into the CPU's hand: the begin of a page-out, and the copy of a page-in
-abbrev pub takes_bytes : Ctx → Cmd → Answer → Bool
-takes_bytes (ctx.Uv (Inward move)) cmd answer.Step = true
-takes_bytes (ctx.Uv (Outward move)) cmd a = false
-takes_bytes before cmd a = is_sealing before cmd a
 
 -- a guest's answer without the value that it alone knows
 abbrev pub open_answer_of_guest : Answer → Answer
@@ -72,7 +53,7 @@ pub record SecretsStayIn (plan : Plan) (e f : Event) : Type 0 where
   pub cpu : (cpu : CpuPart) → next_cpu cpu e ≡ next_cpu cpu f
   pub guest : (g : GuestPart) → next_part plan g e ≡ next_part plan g f
   pub pool : (free : ℕ) → next_pool free e ≡ next_pool free f
-  pub frame : (bytes : List ℕ) → next_frame plan bytes e ≡ next_frame plan bytes f
+  pub frame : (n : ℕ) (bytes : List ℕ) → next_frame plan n bytes e ≡ next_frame plan n bytes f
 
 -- one entry lets no secret into the public state
 abbrev pub NoSecretInOneEntry : Type 0
@@ -82,17 +63,22 @@ NoSecretInOneEntry = (plan : Plan) (e f : Event) → open_entry e ≡ open_entry
 abbrev pub NoSecretInPublicState : Type 0
 NoSecretInPublicState = (plan : Plan) (past other : List Event) → map open_entry past ≡ map open_entry other → public_state plan past ≡ public_state plan other
 
--- two deeds agree but for the value that a guest alone knows, and for the page that is sealed where a page-out begins
+-- two deeds agree but for what they let out, the value that a guest alone knows, and the page that is sealed where a page-out begins
 pub record AgreeButValue (before : Ctx) (cmd : Cmd) (one other : Deed) : Type 0 where
   pub answer : open_answer before one.answer ≡ open_answer before other.answer
   pub after : one.after ≡ other.after
-  pub shown : one.shown ≡ other.shown
   pub pool : one.pool ≡ other.pool
   pub frame : one.frame ≡ other.frame
   pub bytes : is_sealing before cmd one.answer ≡ false → one.bytes ≡ other.bytes
 
--- what a step does at a guest is decided by the guest's public part and the command without the value of a g.li, but for the value of a load and the page that is sealed
+-- what a step does at two guests of one public part, by commands that differ in a g.li's value at most, where it lets out the same
+pub record GuestsAgree (plan : Plan) (one other : Guest) (found : ℕ → ℕ → ℕ) (any : Bool) (ask : Ask) (cmd with_ : Cmd) : Type 0 where
+  pub deeds : AgreeButValue ask.before cmd (deed_guest plan one found any ask cmd) (deed_guest plan other found any ask with_)
+  -- a guest that isn't to be secure has nothing to seal
+  pub aborting : one.part.phase ≡ Aborting → (deed_guest plan one found any ask cmd).bytes ≡ (deed_guest plan other found any ask with_).bytes
+
+-- what a step does at a guest is decided by the guest's public part, the command without the value of a g.li and what is let out, but for the value of a load and the page that is sealed
 abbrev pub NoSecretInDeeds : Type 0
 NoSecretInDeeds =
-    (plan : Plan) (one other : Guest) (any : Bool) (ask : Ask) (cmd with_ : Cmd) → one.part ≡ other.part → open_cmd cmd ≡ open_cmd with_ →
-    AgreeButValue ask.before cmd (deed_guest plan one any ask cmd) (deed_guest plan other any ask with_)
+    (plan : Plan) (one other : Guest) (found : ℕ → ℕ → ℕ) (any : Bool) (ask : Ask) (cmd with_ : Cmd) → one.part ≡ other.part → open_cmd cmd ≡ open_cmd with_ →
+    (deed_guest plan one found any ask cmd).shown ≡ (deed_guest plan other found any ask with_).shown → GuestsAgree plan one other found any ask cmd with_

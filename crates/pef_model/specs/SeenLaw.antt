@@ -6,10 +6,10 @@ use Rattle.pef_model.specs.Event.{Event}
 use Rattle.pef_model.specs.Registers.{zero_registers}
 use Rattle.pef_model.specs.History.{cpu_after, IsLegal}
 use Rattle.pef_model.specs.Report.{command_name}
-use Rattle.pef_model.specs.View.{Step, Sight, is_seen, sight, view}
+use Rattle.pef_model.specs.View.{SeenStep, Sight, is_seen, sight, view}
 
 -- the registers of a CPU that a sight shows, if it is one of this CPU and shows them
-abbrev pub shown_of : ℕ → Option Step → Option (List ℕ) → Option (List ℕ)
+abbrev pub shown_of : ℕ → Option SeenStep → Option (List ℕ) → Option (List ℕ)
 shown_of n (Some step) registers = if step.cpu == n then registers else None
 shown_of n None registers = None
 

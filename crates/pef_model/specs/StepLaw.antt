@@ -14,11 +14,10 @@ use Rattle.pef_model.specs.declared.entry.Answer.TheVariants as answer
 use Rattle.pef_model.specs.Plan.{Plan}
 use Rattle.pef_model.specs.Event.{Event}
 use Rattle.pef_model.specs.Registers.{number_of}
-use Rattle.pef_model.specs.View.{is_hypervisor}
-use Rattle.pef_model.specs.Target.{told}
+use Rattle.pef_model.specs.Target.{told, caller, vcpu_in, takes_bytes, is_hypervisor}
+use Rattle.pef_model.specs.Guest.{Guest}
 use Rattle.pef_model.specs.History.{cpu_after, guest_after, ask_of, Extends}
 use Rattle.pef_model.specs.SearchLaw.{loaded_value, value_of_page_call, IsCommand}
-use Rattle.pef_model.specs.SecretLaw.{takes_bytes}
 
 -- whether the hypervisor keeps an answer as its last: it isn't Context, and the hypervisor ran before the step or runs after it
 abbrev pub is_kept : Ctx → Answer → Ctx → Bool
@@ -49,42 +48,52 @@ given_by_command (UReturn r0 r2 outs) a r = given_by_return r0 r2 outs a r
 given_by_command cmd a r = None
 
 -- a guest that leaves gives the hypervisor what its exit shows, and the end of one that ran gives zeros
-abbrev pub given_by_leaving : Answer → ℕ → Option ℕ
-given_by_leaving (answer.Exit exit.Irq) r = Some (if r == 3 then EXTERNAL_INTERRUPT else 0)
-given_by_leaving answer.Gone r = Some 0
-given_by_leaving a r = None
+abbrev pub given_by_leaving : Answer → List ℕ → ℕ → Option ℕ
+given_by_leaving (answer.Exit exit.Irq) shown r = Some (if r == 3 then EXTERNAL_INTERRUPT else 0)
+given_by_leaving answer.Gone shown r = Some 0
+given_by_leaving a shown r = None
 
 -- a call in progress that comes back gives R3 its code
 abbrev pub given_by_coming_back : Answer → ℕ → Option ℕ
 given_by_coming_back (answer.Ret code) r = if r == 3 then Some (number_of code) else None
 given_by_coming_back a r = None
 
+-- a call in progress gives the hypervisor its code where it is its own, and else what the vCPU that called gives where it leaves
+abbrev pub given_by_work : Option Run → Answer → List ℕ → ℕ → Option ℕ
+given_by_work None a shown r = given_by_coming_back a r
+given_by_work (Some run) a shown r = given_by_leaving a shown r
+
 -- the value that a step gives one of the hypervisor's registers
-abbrev pub own_given_in : Ctx → Cmd → Answer → ℕ → Option ℕ
-own_given_in ctx.Hv cmd a r = given_by_command cmd a r
-own_given_in (ctx.Uv work) cmd a r = given_by_coming_back a r
-own_given_in (ctx.Guest run) cmd a r = given_by_leaving a r
+abbrev pub own_given_in : Ctx → Cmd → Answer → List ℕ → ℕ → Option ℕ
+own_given_in ctx.Hv cmd a shown r = given_by_command cmd a r
+own_given_in (ctx.Uv work) cmd a shown r = given_by_work (caller work) a shown r
+own_given_in (ctx.Guest run) cmd a shown r = given_by_leaving a shown r
 
 -- the value that an entry gives one of the hypervisor's registers on its CPU
 abbrev pub own_given : Event → ℕ → Option ℕ
-own_given e r = own_given_in e.saw.before e.trace.cmd e.trace.answer r
+own_given e r = own_given_in e.saw.before e.trace.cmd e.trace.answer e.saw.shown r
 
 -- the guest that is selected after a step: the one that ran where it leaves
-abbrev pub selected_lpid : Ctx → Answer → ℕ → ℕ
-selected_lpid (ctx.Guest run) (answer.Exit exit) old = run.lpid
-selected_lpid before a old = old
+abbrev pub selected_lpid : Ctx → Cmd → Answer → ℕ → ℕ
+selected_lpid (ctx.Guest run) cmd (answer.Exit exit) old = run.lpid
+selected_lpid before cmd a old = old
 
 -- the vCPU that is selected after a step
-abbrev pub selected_vid : Ctx → Answer → ℕ → ℕ
-selected_vid (ctx.Guest run) (answer.Exit exit) old = run.vid
-selected_vid before a old = old
+abbrev pub selected_vid : Ctx → Cmd → Answer → ℕ → ℕ
+selected_vid (ctx.Guest run) cmd (answer.Exit exit) old = run.vid
+selected_vid before cmd a old = old
 
--- what a step lets out: a guest's call that came back its operands, every other step nothing
-abbrev pub let_out : Ctx → Cmd → Answer → List ℕ
-let_out (ctx.Guest run) (UPagein lpid src gpa flags order) (answer.Ret code) = lpid ∷ src ∷ gpa ∷ flags ∷ order ∷ []
-let_out (ctx.Guest run) (UPageout lpid dest gpa flags order) (answer.Ret code) = lpid ∷ dest ∷ gpa ∷ flags ∷ order ∷ []
-let_out (ctx.Guest run) (UReturn r0 r2 outs) (answer.Ret code) = r0 ∷ r2 ∷ outs
-let_out before cmd a = []
+-- what a step of a vCPU with these registers lets out, by the normal frame that it tells: a call that came back its operands, and every other step nothing
+abbrev pub let_out_running : List ℕ → Cmd → Answer → Option ℕ → List ℕ
+let_out_running gpr (UPagein lpid src gpa flags order) (answer.Ret code) frame = lpid ∷ src ∷ gpa ∷ flags ∷ order ∷ []
+let_out_running gpr (UPageout lpid dest gpa flags order) (answer.Ret code) frame = lpid ∷ dest ∷ gpa ∷ flags ∷ order ∷ []
+let_out_running gpr (UReturn r0 r2 outs) (answer.Ret code) frame = r0 ∷ r2 ∷ outs
+let_out_running gpr cmd a frame = []
+
+-- what a step lets out, by the guests that it finds: nothing where no vCPU runs
+abbrev pub let_out : Plan → (ℕ → Guest) → Ctx → Cmd → Answer → Option ℕ → List ℕ
+let_out plan guests (ctx.Guest run) cmd a frame = let_out_running ((guests run.lpid).registers run.vid).gpr cmd a frame
+let_out plan guests before cmd a frame = []
 
 -- what an entry makes of its CPU, and what it lets out
 pub record LeavesCpu (plan : Plan) (past : List Event) (e : Event) : Type 0 where
@@ -97,21 +106,21 @@ pub record LeavesCpu (plan : Plan) (past : List Event) (e : Event) : Type 0 wher
   -- each of the hypervisor's registers has what the entry gives it, and else is as it was
   pub own : (r : ℕ) → r < 32 → slice_index (cpu_after plan e.trace.cpu (e ∷ past)).own r ≡ unwrap_or (own_given e r) (slice_index (cpu_after plan e.trace.cpu past).own r)
   -- the selected guest stays, but where one leaves
-  pub lpid : (cpu_after plan e.trace.cpu (e ∷ past)).lpid ≡ selected_lpid e.saw.before e.trace.answer (cpu_after plan e.trace.cpu past).lpid
+  pub lpid : (cpu_after plan e.trace.cpu (e ∷ past)).lpid ≡ selected_lpid e.saw.before e.trace.cmd e.trace.answer (cpu_after plan e.trace.cpu past).lpid
   -- and so does the selected vCPU
-  pub vid : (cpu_after plan e.trace.cpu (e ∷ past)).vid ≡ selected_vid e.saw.before e.trace.answer (cpu_after plan e.trace.cpu past).vid
+  pub vid : (cpu_after plan e.trace.cpu (e ∷ past)).vid ≡ selected_vid e.saw.before e.trace.cmd e.trace.answer (cpu_after plan e.trace.cpu past).vid
   -- the hand has the entry's bytes where a page-out begins or a page-in copies, and else stays
   pub hand : (cpu_after plan e.trace.cpu (e ∷ past)).hand ≡ (if takes_bytes e.saw.before e.trace.cmd e.trace.answer then e.bytes else (cpu_after plan e.trace.cpu past).hand)
   -- the entry shows what the step lets out
-  pub shown : e.saw.shown ≡ let_out e.saw.before e.trace.cmd e.trace.answer
+  pub shown : e.saw.shown ≡ let_out plan (λ lpid. guest_after plan lpid past) e.saw.before e.trace.cmd e.trace.answer e.saw.frame
 
 abbrev pub EachEntryLeavesCpu : Type 0
 EachEntryLeavesCpu =
     (plan : Plan) (past : List Event) (e : Event) → IsCommand e.trace.cmd → AllByRecursion (λ (f : Event). IsCommand f.trace.cmd) past → Extends plan past e → LeavesCpu plan past e
 
--- an entry is a step of a vCPU
+-- an entry is a step of a vCPU, or of its call in progress
 pub record IsStepOf (lpid vid : ℕ) (run : Run) (e : Event) : Type 0 where
-  pub before : e.saw.before ≡ ctx.Guest run
+  pub before : vcpu_in e.saw.before ≡ Some run
   pub guest_is : run.lpid ≡ lpid
   pub vcpu_is : run.vid ≡ vid
 
@@ -123,17 +132,17 @@ pub record TakesUp (lpid vid r0 r2 : ℕ) (outs : List ℕ) (e : Event) : Type 0
   pub guest_is : e.saw.lpid ≡ lpid
   pub vcpu_is : e.saw.vid ≡ vid
 
--- whether a vCPU goes on to its next instruction after an answer
-abbrev pub goes_on : Answer → Bool
-goes_on answer.Done = true
-goes_on (answer.Val value) = true
-goes_on (answer.Ret code) = true
-goes_on a = false
+-- whether a vCPU goes on to its next instruction after a command of this answer
+abbrev pub goes_on : Cmd → Answer → Bool
+goes_on cmd answer.Done = true
+goes_on cmd (answer.Val value) = true
+goes_on cmd (answer.Ret code) = true
+goes_on cmd a = false
 
 -- what a step of a vCPU makes of its registers beside R0 to R31
-pub record Steps (a : Answer) (old new : Regs) : Type 0 where
+pub record Steps (cmd : Cmd) (a : Answer) (old new : Regs) : Type 0 where
   -- the next instruction is the one after where the step was done, and else the same
-  pub nip : new.nip ≡ (if goes_on a then (old.nip + 4) % 2 ^ 64 else old.nip)
+  pub nip : new.nip ≡ (if goes_on cmd a then (old.nip + 4) % 2 ^ 64 else old.nip)
   -- SRR0 stays
   pub srr0 : new.srr0 ≡ old.srr0
 
@@ -151,15 +160,19 @@ registers_of plan past lpid vid = (guest_after plan lpid past).registers vid
 -- what an entry makes of a vCPU's registers
 pub record LeavesRegisters (plan : Plan) (past : List Event) (e : Event) (lpid vid : ℕ) : Type 0 where
   -- its own step moves it on
-  pub own : (run : Run) → IsStepOf lpid vid run e → Steps e.trace.answer (registers_of plan past lpid vid) (registers_of plan (e ∷ past) lpid vid)
+  pub own : (run : Run) → IsStepOf lpid vid run e → Steps e.trace.cmd e.trace.answer (registers_of plan past lpid vid) (registers_of plan (e ∷ past) lpid vid)
   -- UV_RETURN that takes it up may interrupt it
   pub taken : (r0 r2 : ℕ) (outs : List ℕ) → TakesUp lpid vid r0 r2 outs e → IsInterrupted r2 (registers_of plan past lpid vid) (registers_of plan (e ∷ past) lpid vid)
-  -- no other entry changes a register of it
+  -- while its guest has one generation no other entry changes a register of it
   pub others :
+      (guest_after plan lpid (e ∷ past)).part.generation ≡ (guest_after plan lpid past).part.generation →
       ((run : Run) → IsStepOf lpid vid run e → ⊥) → ((r0 r2 : ℕ) (outs : List ℕ) → TakesUp lpid vid r0 r2 outs e → ⊥) →
       registers_of plan (e ∷ past) lpid vid ≡ registers_of plan past lpid vid
-  -- no entry that isn't its own step changes one of R0 to R31
-  pub gpr : ((run : Run) → IsStepOf lpid vid run e → ⊥) → (registers_of plan (e ∷ past) lpid vid).gpr ≡ (registers_of plan past lpid vid).gpr
+  -- and no entry that isn't its own step changes one of R0 to R31
+  pub gpr :
+      (guest_after plan lpid (e ∷ past)).part.generation ≡ (guest_after plan lpid past).part.generation →
+      ((run : Run) → IsStepOf lpid vid run e → ⊥) →
+      (registers_of plan (e ∷ past) lpid vid).gpr ≡ (registers_of plan past lpid vid).gpr
 
 abbrev pub EachEntryLeavesRegisters : Type 0
 EachEntryLeavesRegisters = (plan : Plan) (past : List Event) (e : Event) (lpid vid : ℕ) → Extends plan past e → LeavesRegisters plan past e lpid vid

@@ -1,15 +1,49 @@
 -- At what a step aims, and which objects an entry touches.
 use Rattle.std.specs.Prelude.{ℕ, ◌/◌, ◌%◌, ◌^◌, ◌==◌, nat_lt, nat_le, Bool, true, false, ◌&&◌, if◌then◌else◌, List, [], Option, Some, None, is_some}
 use Rattle.pef_model.specs.declared.state.Move.{Move}
+use Rattle.pef_model.specs.declared.state.Run.{Run}
 use Rattle.pef_model.specs.declared.state.Work.{Work}
 use Rattle.pef_model.specs.declared.state.Work.TheVariants.{Inward, Outward}
 use Rattle.pef_model.specs.declared.state.Ctx.{Ctx}
 use Rattle.pef_model.specs.declared.state.Ctx.TheVariants as ctx
 use Rattle.pef_model.specs.declared.command.Cmd.{Cmd}
-use Rattle.pef_model.specs.declared.command.Cmd.TheVariants.{HLd, HSt, UPagein, UPageout, UReturn, GLi, GLd, GSt, GIrq, Go}
+use Rattle.pef_model.specs.declared.command.Cmd.TheVariants.{HLd, HSt, UPagein, UPageout, UReturn, Go}
 use Rattle.pef_model.specs.declared.entry.Answer.{Answer}
+use Rattle.pef_model.specs.declared.entry.Answer.TheVariants as answer
 use Rattle.pef_model.specs.Plan.{Plan}
 use Rattle.pef_model.specs.Event.{Event}
+
+-- whether the hypervisor runs
+abbrev pub is_hypervisor : Ctx → Bool
+is_hypervisor ctx.Hv = true
+is_hypervisor (ctx.Uv work) = false
+is_hypervisor (ctx.Guest run) = false
+
+-- the vCPU whose call is in progress; None where it is one of the hypervisor
+abbrev pub caller : Work → Option Run
+caller (Inward move) = None
+caller (Outward move) = None
+
+-- the vCPU whose step it is: the one that runs, or the one whose call is in progress
+abbrev pub vcpu_in : Ctx → Option Run
+vcpu_in ctx.Hv = None
+vcpu_in (ctx.Uv work) = caller work
+vcpu_in (ctx.Guest run) = Some run
+
+-- whether a step begins a page-out, which seals the page
+abbrev pub is_sealing : Ctx → Cmd → Answer → Bool
+is_sealing ctx.Hv (UPageout lpid dest gpa flags order) answer.Step = true
+is_sealing before cmd a = false
+
+-- whether a step puts its bytes into the CPU's hand: the begin of a page-out, and the copy of a page-in
+abbrev pub takes_bytes : Ctx → Cmd → Answer → Bool
+takes_bytes (ctx.Uv (Inward move)) cmd answer.Step = true
+takes_bytes before cmd a = is_sealing before cmd a
+
+-- whether a step writes its bytes into a normal frame: the copy of a page-out
+abbrev pub is_copying : Ctx → Cmd → Answer → Bool
+is_copying (ctx.Uv (Outward move)) Go answer.Step = true
+is_copying before cmd a = false
 
 -- whether the next step of a call in progress uses the page in its CPU's hand: those of a page-out do, and the end of a page-in
 abbrev pub work_uses_hand : Work → Bool
@@ -68,24 +102,14 @@ target_of_hypervisor plan lpid (HSt ra value) = target_of_address plan ra
 target_of_hypervisor plan lpid (UPagein named src gpa flags order) = target_of_number plan named
 target_of_hypervisor plan lpid (UPageout named dest gpa flags order) = target_of_number plan named
 target_of_hypervisor plan lpid (UReturn r0 r2 outs) = AtGuest lpid
-target_of_hypervisor plan lpid (GLi rd value) = Alone
-target_of_hypervisor plan lpid (GLd rd gpa) = Alone
-target_of_hypervisor plan lpid (GSt rs gpa) = Alone
-target_of_hypervisor plan lpid GIrq = Alone
-target_of_hypervisor plan lpid Go = Alone
+target_of_hypervisor plan lpid cmd = Alone
 
 -- a guest's own commands aim at the guest, whatever they name, and every other command at nothing
 abbrev pub target_of_running : ℕ → Cmd → Target
 target_of_running lpid (HLd ra) = Alone
 target_of_running lpid (HSt ra value) = Alone
-target_of_running lpid (UPagein named src gpa flags order) = AtGuest lpid
-target_of_running lpid (UPageout named dest gpa flags order) = AtGuest lpid
-target_of_running lpid (UReturn r0 r2 outs) = AtGuest lpid
-target_of_running lpid (GLi rd value) = AtGuest lpid
-target_of_running lpid (GLd rd gpa) = AtGuest lpid
-target_of_running lpid (GSt rs gpa) = AtGuest lpid
-target_of_running lpid GIrq = AtGuest lpid
 target_of_running lpid Go = Alone
+target_of_running lpid cmd = AtGuest lpid
 
 -- a page on the move aims at its normal frame until it is copied, and then at its guest
 abbrev pub target_of_move : Move → Target
@@ -93,26 +117,9 @@ target_of_move move = if move.copied then AtGuest move.lpid else AtFrame move.fr
 
 -- the next step of a call in progress aims as its work says, and every other command at nothing
 abbrev pub target_of_work : Work → Cmd → Target
-target_of_work (Outward move) (HLd ra) = Alone
-target_of_work (Outward move) (HSt ra value) = Alone
-target_of_work (Outward move) (UPagein named src gpa flags order) = Alone
-target_of_work (Outward move) (UPageout named dest gpa flags order) = Alone
-target_of_work (Outward move) (UReturn r0 r2 outs) = Alone
-target_of_work (Outward move) (GLi rd value) = Alone
-target_of_work (Outward move) (GLd rd gpa) = Alone
-target_of_work (Outward move) (GSt rs gpa) = Alone
-target_of_work (Outward move) GIrq = Alone
 target_of_work (Outward move) Go = target_of_move move
-target_of_work (Inward move) (HLd ra) = Alone
-target_of_work (Inward move) (HSt ra value) = Alone
-target_of_work (Inward move) (UPagein named src gpa flags order) = Alone
-target_of_work (Inward move) (UPageout named dest gpa flags order) = Alone
-target_of_work (Inward move) (UReturn r0 r2 outs) = Alone
-target_of_work (Inward move) (GLi rd value) = Alone
-target_of_work (Inward move) (GLd rd gpa) = Alone
-target_of_work (Inward move) (GSt rs gpa) = Alone
-target_of_work (Inward move) GIrq = Alone
 target_of_work (Inward move) Go = target_of_move move
+target_of_work work cmd = Alone
 
 -- the target of a step
 abbrev pub target_in : Plan → Ctx → ℕ → Cmd → Target

@@ -51,7 +51,7 @@ pub struct Trace {
     pub cpu: u8,
     /// Which of its CPU's entries it is, from 0.
     pub place: u32,
-    /// Its place in the order of all entries, from 1.
+    /// In a run of a script its place in the order of all entries, from 1.
     pub stamp: u64,
     pub cmd: Cmd,
     pub answer: Answer,

@@ -1,6 +1,6 @@
 //! The laws of the definitions: each is the contract of a function that does nothing.
 
-ghost use Rattle.pef_model.specs.RunLaw.{OneRun, StoreAndLoad, OneFrame, MarksOfOneFrame, StampsOfOneFrame, NoneIsBorn, GoesOut, EachGoAllEnds};
+ghost use Rattle.pef_model.specs.RunLaw.{OneRun, StoreAndLoad, OneFrame, MarksOfOneFrame, StampsOfOneFrame, NoneIsBorn, GoesOut, EachGoAllEnds, NextsOfTwoCpus};
 ghost use Rattle.pef_model.specs.WordLaw.{WordsAtTheEdge};
 ghost use Rattle.pef_model.specs.ReadLaw.{EachOwnEntriesDecide, TheseFieldsDecide, TouchedObjectsDecide, AskedIsTold, UnaskedMakesNoDifference};
 ghost use Rattle.pef_model.specs.SecretLaw.{NoSecretInPublicState, NoSecretInOneEntry, NoSecretInDeeds};
@@ -9,7 +9,7 @@ ghost use Rattle.pef_model.specs.Alike.{AlikeShowTheSame, AlikeClashTogether, Op
 ghost use Rattle.pef_model.specs.SeenReport.{AlikeReportTheSame, AlikeSoundPartsReportTheSame, SecretsGiveAlikeRuns};
 ghost use Rattle.pef_model.specs.PairLaw.{SecretStaysIn, ViewShowsStores, StreamTells, VaultIsShut};
 ghost use Rattle.pef_model.specs.SeenLaw.{RegistersAreSeen, SeenIsShown};
-ghost use Rattle.pef_model.specs.NormalLaw.{FramesHoldLastNorm, LoadGivesLastNorm, GuestLeavesFrames, StoreLeavesGuests, WritesMakeFrames, EachMoveKeepsToItsObjects};
+ghost use Rattle.pef_model.specs.NormalLaw.{FramesHoldLastNorm, StoreIsLastNorm, LoadGivesLastNorm, GuestLeavesFrames, StoreLeavesGuests, WritesMakeFrames, EachMoveKeepsToItsObjects};
 
 /// A secure guest that stores 7 loads 7, and the report says so.
 pub fn store_and_load()
@@ -135,6 +135,11 @@ pub fn frames_hold_last_norm()
     ensures { FramesHoldLastNorm }
 {}
 
+/// After a store of the hypervisor what was last written at its real address is what it stored.
+pub fn store_is_last_norm()
+    ensures { StoreIsLastNorm }
+{}
+
 /// Each load of the hypervisor that is done gives what was last written at its real address.
 pub fn load_gives_last_norm()
     ensures { LoadGivesLastNorm }
@@ -228,4 +233,10 @@ pub fn goes_out()
 /// After a legal history `go*` ends within its most entries.
 pub fn each_go_all_ends()
     ensures { EachGoAllEnds }
+{}
+
+/// What a script gives each of two CPUs next, after each part of a schedule in which the steps of a `go*` and another CPU's
+/// step alternate.
+pub fn nexts_of_two_cpus()
+    ensures { NextsOfTwoCpus }
 {}

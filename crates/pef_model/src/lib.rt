@@ -1,6 +1,7 @@
 //! What a reader of this project has to believe: the types, the definitions and the laws.
 #![tactic(auto)]
 
+pub mod cause_laws;
 pub mod command;
 pub mod config;
 pub mod entry;

@@ -2,7 +2,7 @@
 
 ghost use Rattle.pef_model.specs.StepLaw.{EachEntryLeavesCpu, EachEntryLeavesRegisters, EachEntryTells};
 ghost use Rattle.pef_model.specs.TransitionLaw.{EachEntryLeavesKinds, EachEntryLeavesStates};
-ghost use Rattle.pef_model.specs.CountLaw.{EachCpuRunsItsVcpu, NoVcpuRunsTwice, FramesAreCounted, OrderHasSecurePages, OrderGrows};
+ghost use Rattle.pef_model.specs.CountLaw.{EachCpuRunsItsVcpu, EachRunIsOfAGeneration, NoVcpuRunsTwice, FramesAreCounted, OrderHasSecurePages, OrderGrows};
 
 /// An entry leaves its CPU in the context that it tells, with these registers, last answer, selection and hand, and shows
 /// what its step lets out.
@@ -16,9 +16,15 @@ pub fn each_entry_leaves_registers()
     ensures { EachEntryLeavesRegisters }
 {}
 
-/// A CPU that runs a vCPU is the one that the vCPU's state names, in the generation in which the vCPU was taken up.
+/// A CPU that runs a vCPU of a guest's present generation is the one that the vCPU's state names, in the generation in which
+/// the vCPU was taken up.
 pub fn each_cpu_runs_its_vcpu()
     ensures { EachCpuRunsItsVcpu }
+{}
+
+/// A CPU runs no vCPU of a generation that its guest hasn't reached.
+pub fn each_run_is_of_a_generation()
+    ensures { EachRunIsOfAGeneration }
 {}
 
 /// No vCPU runs on two CPUs.

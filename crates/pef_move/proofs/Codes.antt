@@ -31,7 +31,7 @@ module _ {S : Type 0} (stands : S → Tag → List ℕ → List ℕ → Type 0) 
   by_page false none = no_page plan g.part (page_by guest.pages) call.ra call.gpa call.flags call.order none
   by_page true has =
       let below : page_of plan call.gpa < plan.pages = grind (arith, nat_tests, has) in
-      λ i. page_out_code plan (record g.part { pages = λ gfn. record { kind = shows.pages.kinds (page_of plan call.gpa) below i; mover = shows.pages.movers (page_of plan call.gpa) below i; version = 0; sealed = None; pending = None } })
+      λ i. page_out_code plan (record g.part { pages = λ gfn. record { kind = shows.pages.kinds (page_of plan call.gpa) below i; mover = shows.pages.movers (page_of plan call.gpa) below i; version = 0; sealed = None; pending = None; plain = None } })
       call.ra call.gpa call.flags call.order
 
   -- the guest's code is the model's

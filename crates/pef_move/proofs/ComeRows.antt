@@ -1,8 +1,6 @@
 -- The rows of the end of a page-in: the page is Secure with what was last stored there, or Out as before.
-use Rattle.std.proofs.Common.{◌≡◌, ℕ, ◌+◌, ◌^◌, ◌<◌, ◌==◌, Bool, true, false, ◌&&◌, if◌then◌else◌, List, [], ◌∷◌, ◌++◌, length, Option, Some, None, is_some, option_map, IsTrue, ◌↔◌, arith, refl, ap, sym, subst, ◌∙◌}
+use Rattle.std.proofs.Common.{◌≡◌, ◌≢◌, ℕ, ◌+◌, ◌^◌, ◌<◌, ◌==◌, Bool, true, false, ◌&&◌, if◌then◌else◌, List, [], ◌∷◌, ◌++◌, length, Option, Some, None, is_some, option_map, IsTrue, ◌↔◌, arith, refl, ap, sym, subst, ◌∙◌}
 use Rattle.std.proofs.lemmas.Bool.Decides.{nat_tests}
-use Rattle.pef_model.specs.declared.state.Kind.{Kind}
-use Rattle.pef_model.specs.declared.state.Kind.TheVariants as kind
 use Rattle.pef_model.specs.declared.state.Move.{Move}
 use Rattle.pef_model.specs.declared.state.Tag.{Tag}
 use Rattle.pef_model.specs.declared.state.Ctx.TheVariants as ctx
@@ -16,18 +14,18 @@ use Rattle.pef_model.specs.Event.{Mark}
 use Rattle.pef_model.specs.Doubleword.{doubleword}
 use Rattle.pef_model.specs.Registers.{with_code}
 use Rattle.pef_model.specs.Cpu.{CpuPart}
-use Rattle.pef_model.specs.GuestPart.{page_of, is_invalid, secured, refused_in as part_refused}
-use Rattle.pef_model.specs.Guest.{Guest as GuestWhole, private_doubleword}
+use Rattle.pef_model.specs.GuestPart.{secured, refused_in as part_refused}
+use Rattle.pef_model.specs.Guest.{Guest as GuestWhole}
 use Rattle.pef_model.specs.PageOut.{tag_of, private_page}
 use Rattle.pef_model.specs.PageIn.{is_last_sealed}
-use Rattle.pef_model.specs.Sound.{collides_with, ends_in_clash}
+use Rattle.pef_model.specs.Clash.{collides_with, ends_in_clash}
 use Rattle.pef_model.specs.Deed.{coming_back, deed_page_in_test, deed_page_in_end}
 use Rattle.pef_model.specs.History.{entry_of}
 use Rattle.pef_model.specs.Memory.{offset_of}
 use Rattle.pef_model.proofs.PageBytes.{page_has_each_doubleword}
 use Rattle.pef_frames.specs.Frame.{FrameState}
 use Rattle.pef_frames.specs.Pool.{PoolState, with_free}
-use Rattle.pef_pages.specs.Cells.{kind_of, kind_without, mover_of, way_of, digest_of, frame_in}
+use Rattle.pef_pages.specs.Cells.{kind_of, mover_of, way_of, digest_of, frame_in}
 use Rattle.pef_pages.specs.Pages.{mover_at, frame_at, digest_at}
 use Rattle.pef_guest.specs.declared.cpu.Cpu.{Cpu}
 use Rattle.pef_guest.specs.declared.guest.Guest.{Guest}
@@ -35,9 +33,34 @@ use Rattle.pef_guest.specs.Shows.{HoldsPage, ShowsCpu, Shows, kept_in, first_the
 use Rattle.pef_guest.specs.Rows.{RowWithPool, ask_inward}
 use Rattle.pef_move.specs.Unseal.{last_tag}
 use Rattle.pef_move.proofs.Ended.{no_frame, no_mover}
-use Rattle.pef_move.proofs.OnePage.{IsShownPage, shows_with}
+use Rattle.pef_move.proofs.OnePage.{IsShownPage, shows_with, shows_counted}
 use Rattle.pef_move.proofs.OnWayIn.{last_sealed, sealed_is}
 use Rattle.pef_move.proofs.Come.{comes, refused, page_refused, refused_is, accepted, page_accepted, kept_without, kind_without_frame}
+
+-- an end under another generation leaves the guest
+pub row_old : {S : Type 0} (stands : S → Tag → List ℕ → List ℕ → Type 0) (image : S → Tag → List ℕ → List ℕ) (plan : Plan) (g : GuestWhole) (c : CpuPart) (mark : Mark) (old : Guest S) (cpu : Cpu) (move : Move) (pool : PoolState) →
+    Shows stands image plan old g → ShowsCpu cpu c → move.generation ≢ old.generation →
+    RowWithPool stands image plan g c (entry_of (ask_inward move c) mark Go (deed_page_in_end g.part (ask_inward move c) move)) (record old { steps = old.steps + 1 })
+    (record cpu { ctx = ctx.Hv; gpr = with_code cpu.gpr UParameter; last = answer.Ret UParameter }) (length pool.free) (length pool.free) (answer.Ret UParameter)
+row_old stands image plan g c mark old cpu move pool shows shows_cpu other =
+    let test : (move.generation == g.part.generation) ≡ false = (let life = shows.generation in grind (arith, nat_tests, other)) in
+    subst (λ (same : Bool).
+    RowWithPool stands image plan g c (entry_of (ask_inward move c) mark Go (if same then deed_page_in_test (ask_inward move c) (is_last_sealed (g.part.pages move.gfn).sealed c.hand) else coming_back (ask_inward move c) UParameter)) (record old { steps = old.steps + 1 })
+    (record cpu { ctx = ctx.Hv; gpr = with_code cpu.gpr UParameter; last = answer.Ret UParameter }) (length pool.free) (length pool.free) (answer.Ret UParameter)) (sym test) (record {
+      row = record {
+        answered = refl;
+        guest = shows_counted stands image plan old g (old.steps + 1) shows;
+        cpu_is = record {
+          ctx = refl;
+          own = ap (λ (own : List ℕ). with_code own UParameter) shows_cpu.own;
+          lpid = shows_cpu.lpid;
+          vid = shows_cpu.vid;
+          last = refl;
+          hand = shows_cpu.hand;
+        };
+      };
+      pool = refl;
+    })
 
 module _ {S : Type 0} (stands : S → Tag → List ℕ → List ℕ → Type 0) (image : S → Tag → List ℕ → List ℕ) (plan : Plan) (g : GuestWhole) (c : CpuPart) (mark : Mark) (old : Guest S) (cpu : Cpu) (move : Move) (pool : PoolState)
     (below : move.gfn < length old.pages.pages) (moves : mover_at old.pages move.gfn ≡ Some (record { cpu = cpu.number; way = way.Inward }))
@@ -106,7 +129,7 @@ module _ {S : Type 0} (stands : S → Tag → List ℕ → List ℕ → Type 0) 
     hand = shows_cpu.hand;
   }
 
-  shown_refused : IsShownPage stands image plan old g gfn (page_refused old cpu move below moves) (part_refused (g.part.pages gfn)) old.pages.order g.part.order old.sealer (old.steps + 1) g.registers
+  shown_refused : IsShownPage stands image plan old g gfn (page_refused old cpu move below moves) (part_refused (g.part.pages gfn)) old.pages.order g.part.order old.sealer (old.steps + 1)
   shown_refused =
       let had = comes old cpu move below moves in
       let is = refused_is old cpu move below moves in
@@ -117,8 +140,8 @@ module _ {S : Type 0} (stands : S → Tag → List ℕ → List ℕ → Type 0) 
         digest_is = ap kept_in is ∙ kept_without FrameState had.digest ∙ sym (ap kept_in had.is) ∙ shows.sealed.digests gfn within;
         pending_is = (λ outward. absurd (let none = ap mover_of is ∙ no_mover FrameState had.digest in cc), λ there. absurd (let none = none_pending in cc));
         order_is = shows.pages.order;
-        invalid_is = refl;
         frame_is = λ one k e. absurd (let none = ap frame_in is ∙ no_frame FrameState had.digest in cc);
+        zero_is = λ invalid. shows.pages.zeros gfn (ap kind_of had.is ∙ sym (kind_without_frame had.frame cpu.number had.digest) ∙ sym (ap kind_of is) ∙ invalid);
         images = refl;
         stands_here = λ bytes e. shows.sealed.stands_for gfn bytes within e;
         words_here = λ bytes e gpa aligned at. shows.sealed.words gpa bytes aligned (subst (λ (n : ℕ). n < plan.pages) (sym at) within) (ap (λ (n : ℕ). sealed_of (g.part.pages n)) at ∙ e);
@@ -131,8 +154,8 @@ module _ {S : Type 0} (stands : S → Tag → List ℕ → List ℕ → Type 0) 
     row = record {
       answered = refl;
       guest =
-          shows_with stands image plan old g gfn (page_refused old cpu move below moves) (part_refused (g.part.pages gfn)) old.pages.order g.part.order old.sealer (old.steps + 1) g.registers
-          shows below shown_refused (λ vid. refl);
+          shows_with stands image plan old g gfn (page_refused old cpu move below moves) (part_refused (g.part.pages gfn)) old.pages.order g.part.order old.sealer (old.steps + 1) _
+          shows below shown_refused;
       cpu_is = shows_back UP2;
     };
     pool = omega arith;
@@ -144,13 +167,6 @@ module _ {S : Type 0} (stands : S → Tag → List ℕ → List ℕ → Type 0) 
     hand_is : sealed_of (g.part.pages gfn) ≡ Some c.hand
     hand_is = sealed ∙ sealed_is (g.part.pages gfn).sealed c.hand (is_kept ∙ accepts)
 
-    -- the page is Out
-    out : (g.part.pages gfn).kind ≡ kind.Out
-    out =
-        let had = comes old cpu move below moves in
-        let there : had.digest ≡ Some (digest_by cpu.hand) = sym (ap digest_of had.is) ∙ test.0 accepts in
-        sym (shows.pages.kinds gfn within) ∙ ap kind_of had.is ∙ ap kind_without there
-
     -- the tag is the model's
     tag : last_tag old gfn ≡ tag_of g.part old.lpid gfn (g.part.pages gfn).version
     tag i = record { lpid = old.lpid; generation = shows.generation i; gfn = gfn; version = shows.sealed.versions gfn within i }
@@ -161,17 +177,13 @@ module _ {S : Type 0} (stands : S → Tag → List ℕ → List ℕ → Type 0) 
         plain (private_page plan g gfn) (subst (stands old.sealer (last_tag old gfn) (private_page plan g gfn)) (sym shows_cpu.hand)
         (subst (λ (one : Tag). stands old.sealer one (private_page plan g gfn) c.hand) (sym tag) (shows.sealed.stands_for gfn c.hand within hand_is)))
 
-    -- its doublewords are the last stores
-    last_store : (gpa : ℕ) → page_of plan gpa ≡ gfn → private_doubleword plan g gpa ≡ g.content gpa
-    last_store gpa at = ap (λ (b : Bool). if b then 0 else g.content gpa) (ap (λ (n : ℕ). is_invalid (g.part.pages n)) at ∙ ap (λ (k : Kind). is_invalid (record (g.part.pages gfn) { kind = k })) out)
-
     holds : HoldsPage plan g gfn (record frame { bytes = bytes })
     holds gpa aligned at =
-        let small : private_doubleword plan g gpa < 2 ^ 64 = shows.sealed.words gpa c.hand aligned (subst (λ (n : ℕ). n < plan.pages) (sym at) within) (ap (λ (n : ℕ). sealed_of (g.part.pages n)) at ∙ hand_is) in
+        let small : g.content gpa < 2 ^ 64 = shows.sealed.words gpa c.hand aligned (subst (λ (n : ℕ). n < plan.pages) (sym at) within) (ap (λ (n : ℕ). sealed_of (g.part.pages n)) at ∙ hand_is) in
         ap (λ (list : List ℕ). doubleword list (offset_of plan gpa)) (bytes_are ∙ ap (private_page plan g) (sym at))
-        ∙ page_has_each_doubleword plan.shift (private_doubleword plan g) gpa (subst (IsWithin 8 16) shows.shift range) aligned small ∙ last_store gpa at
+        ∙ page_has_each_doubleword plan.shift g.content gpa (subst (IsWithin 8 16) shows.shift range) aligned small
 
-    shown_accepted : IsShownPage stands image plan old g gfn (page_accepted old cpu move below moves frame there bytes size) (secured (g.part.pages gfn)) (old.pages.order ++ gfn ∷ []) (g.part.order ++ gfn ∷ []) old.sealer (old.steps + 1) g.registers
+    shown_accepted : IsShownPage stands image plan old g gfn (page_accepted old cpu move below moves frame there bytes size) (secured (g.part.pages gfn)) (old.pages.order ++ gfn ∷ []) (g.part.order ++ gfn ∷ []) old.sealer (old.steps + 1)
     shown_accepted = record {
       kind_is = refl;
       mover_is = refl;
@@ -179,8 +191,8 @@ module _ {S : Type 0} (stands : S → Tag → List ℕ → List ℕ → Type 0) 
       digest_is = refl;
       pending_is = (λ outward. absurd cc, λ pending. absurd cc);
       order_is = ap (λ (order : List ℕ). order ++ gfn ∷ []) shows.pages.order;
-      invalid_is = sym (ap (λ (k : Kind). is_invalid (record (g.part.pages gfn) { kind = k })) out);
       frame_is = λ one k e. subst (HoldsPage plan g gfn) (let same : record frame { bytes = bytes } ≡ one = cc in same) holds;
+      zero_is = λ invalid. absurd cc;
       images = refl;
       stands_here = λ one e. absurd cc;
       words_here = λ one e. absurd cc;
@@ -193,8 +205,8 @@ module _ {S : Type 0} (stands : S → Tag → List ℕ → List ℕ → Type 0) 
       row = record {
         answered = refl;
         guest =
-            shows_with stands image plan old g gfn (page_accepted old cpu move below moves frame there bytes size) (secured (g.part.pages gfn)) (old.pages.order ++ gfn ∷ []) (g.part.order ++ gfn ∷ []) old.sealer (old.steps + 1) g.registers
-            shows below shown_accepted (λ vid. refl);
+            shows_with stands image plan old g gfn (page_accepted old cpu move below moves frame there bytes size) (secured (g.part.pages gfn)) (old.pages.order ++ gfn ∷ []) (g.part.order ++ gfn ∷ []) old.sealer (old.steps + 1) _
+            shows below shown_accepted;
         cpu_is = shows_back USuccess;
       };
       pool = refl;

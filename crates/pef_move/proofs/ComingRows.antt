@@ -1,5 +1,5 @@
 -- The rows of UV_PAGE_IN: a page begins to come in, or the call comes back.
-use Rattle.std.proofs.Common.{◌≡◌, ℕ, ◌+◌, ◌/◌, ◌^◌, ◌<◌, nat_lt, Bool, true, false, List, [], length, Option, Some, None, arith, refl, ap, sym, subst, ◌∙◌}
+use Rattle.std.proofs.Common.{◌≡◌, ℕ, ◌+◌, ◌/◌, ◌^◌, ◌<◌, nat_lt, Bool, true, false, List, [], length, Option, Some, None, arith, refl, ap, sym, subst, ◌∙◌, ◌&&◌}
 use Rattle.std.proofs.lemmas.Bool.Decides.{nat_tests}
 use Rattle.pef_model.specs.declared.state.Ctx.TheVariants as ctx
 use Rattle.pef_model.specs.declared.state.Work.TheVariants.{Inward}
@@ -16,7 +16,7 @@ use Rattle.pef_model.specs.Event.{Mark}
 use Rattle.pef_model.specs.Registers.{load_page_in, with_code}
 use Rattle.pef_model.specs.Target.{frame_of}
 use Rattle.pef_model.specs.Cpu.{CpuPart}
-use Rattle.pef_model.specs.GuestPart.{page_of, put, begun_in, with_page_coming}
+use Rattle.pef_model.specs.GuestPart.{page_of, begun_in, with_page_coming}
 use Rattle.pef_model.specs.Guest.{Guest as GuestWhole}
 use Rattle.pef_model.specs.PageIn.{page_in_operands}
 use Rattle.pef_model.specs.Deed.{deed_page_in, deed_page_in_with, returning}
@@ -33,7 +33,6 @@ use Rattle.pef_move.specs.declared.page_call.PageCall.{PageCall}
 use Rattle.pef_move.specs.declared.route.Route.{Route}
 use Rattle.pef_move.specs.Route.{operands_for, IsRouteIn}
 use Rattle.pef_move.proofs.OnePage.{IsShownPage, shows_with, shows_counted}
-use Rattle.pef_move.proofs.BegunRows.{same_registers}
 use Rattle.pef_move.proofs.CodesIn.{operands_are}
 use Rattle.pef_move.proofs.Coming.{page, out, cell_is, coming, first_is}
 
@@ -74,8 +73,8 @@ module _ {S : Type 0} (stands : S → Tag → List ℕ → List ℕ → Type 0) 
   cpu_back one = record cpu { gpr = with_code gpr one; last = answer.Ret one }
 
   -- a guest that only counts a step
-  shows_same : Shows stands image plan (record old { steps = old.steps + 1 }) (record { part = g.part; content = g.content; registers = put g.registers c.vid (g.registers c.vid) })
-  shows_same = shows_counted stands image plan old g (old.steps + 1) (put g.registers c.vid (g.registers c.vid)) shows (same_registers g.registers c.vid)
+  shows_same : Shows stands image plan (record old { steps = old.steps + 1 }) (record g { clean = g.clean && true })
+  shows_same = shows_counted stands image plan old g (old.steps + 1) shows
 
   -- it shows the model's
   shows_back : (one : Code) → ShowsCpu (cpu_back one) (record c { ctx = ctx.Hv; own = with_code (loaded c.own) one; last = answer.Ret one })
@@ -117,7 +116,7 @@ module _ {S : Type 0} (stands : S → Tag → List ℕ → List ℕ → Type 0) 
     moves : (page old cpu call route frame pool is first).cell ≡ cell.MovesIn frame cpu.number (Some (out old cpu call route frame pool is first).digest)
     moves = cell_is old cpu call route frame pool is first
 
-    shown : IsShownPage stands image plan old g route.gfn (page old cpu call route frame pool is first) (begun_in (g.part.pages route.gfn) mark.cpu) old.pages.order g.part.order old.sealer (old.steps + 1) (put g.registers c.vid (g.registers c.vid))
+    shown : IsShownPage stands image plan old g route.gfn (page old cpu call route frame pool is first) (begun_in (g.part.pages route.gfn) mark.cpu) old.pages.order g.part.order old.sealer (old.steps + 1)
     shown = record {
       kind_is = ap kind_of moves ∙ sym is.kind_is ∙ shows.pages.kinds route.gfn below;
       mover_is = ap (λ (n : ℕ). Some (record { cpu = n; way = way.Inward })) (sym marked);
@@ -125,8 +124,8 @@ module _ {S : Type 0} (stands : S → Tag → List ℕ → List ℕ → Type 0) 
       digest_is = ap kept_in moves ∙ sym (ap kept_in (out old cpu call route frame pool is first).is) ∙ shows.sealed.digests route.gfn below;
       pending_is = (λ outward. absurd cc, λ there. absurd (let outward = (shows.sealed.pendings route.gfn below).1 there in let none = ap way_of is.rests in cc));
       order_is = shows.pages.order;
-      invalid_is = refl;
       frame_is = λ one k e. absurd (let other = ap kind_of moves in cc);
+      zero_is = λ invalid. absurd (let other = ap kind_of moves in cc);
       images = refl;
       stands_here = λ sealed e. shows.sealed.stands_for route.gfn sealed below e;
       words_here = λ sealed e gpa aligned at. shows.sealed.words gpa sealed aligned (subst (λ (n : ℕ). n < plan.pages) (sym at) below) (ap (λ (n : ℕ). sealed_of (g.part.pages n)) at ∙ e);
@@ -135,7 +134,7 @@ module _ {S : Type 0} (stands : S → Tag → List ℕ → List ℕ → Type 0) 
 
     -- the guest shows the model's with a page that begins to come in
     abbrev NextShown : ℕ → Type 0
-    NextShown n = Shows stands image plan (coming old cpu call route frame pool is first) (record { part = with_page_coming g.part n mark.cpu; content = g.content; registers = put g.registers c.vid (g.registers c.vid) })
+    NextShown n = Shows stands image plan (coming old cpu call route frame pool is first) (record g { part = with_page_coming g.part n mark.cpu; clean = g.clean && true })
 
     -- the CPU with the call in progress
     abbrev pub cpu_coming : Cpu
@@ -155,7 +154,7 @@ module _ {S : Type 0} (stands : S → Tag → List ℕ → List ℕ → Type 0) 
             guest =
                 subst NextShown gfn_is
                 (shows_with stands image plan old g route.gfn (page old cpu call route frame pool is first) (begun_in (g.part.pages route.gfn) mark.cpu)
-                old.pages.order g.part.order old.sealer (old.steps + 1) (put g.registers c.vid (g.registers c.vid)) shows is.below shown (same_registers g.registers c.vid));
+                old.pages.order g.part.order old.sealer (old.steps + 1) _ shows is.below shown);
             cpu_is = record {
               ctx = λ i. ctx.Uv (Inward (record { lpid = sym named i; generation = shows.generation i; gfn = gfn_is i; frame = frame_is i; copied = false }));
               own = loads ∙ ap loaded shows_cpu.own;

@@ -1,11 +1,9 @@
 -- A page that has moved outward: its guest stays whole, its frame is free, and the model's page is Out.
-use Rattle.std.proofs.Common.{◌≡◌, ℕ, ◌+◌, ◌<◌, ◌≤◌, ◌==◌, not, Bool, true, false, if◌then◌else◌, List, length, count_by, filter, Option, Some, None, IsSome, option_map, ◌⊎◌, inl, inr, arith, refl, ap, sym, subst, ◌∙◌}
+use Rattle.std.proofs.Common.{◌≡◌, ◌≢◌, ℕ, ◌+◌, ◌<◌, ◌≤◌, ◌==◌, not, Bool, true, false, if◌then◌else◌, List, length, count_by, filter, Option, Some, None, IsSome, option_map, ◌⊎◌, inl, inr, arith, refl, ap, sym, subst, ◌∙◌}
 use Rattle.std.proofs.lemmas.List.{get_or_past}
 use Rattle.std.proofs.lemmas.Bool.{cases_lt}
 use Rattle.std.proofs.lemmas.Bool.Decides.{nat_tests}
 use Rattle.std.proofs.lemmas.List.Sums.{sum_by-cons}
-use Rattle.pef_model.specs.declared.state.Kind.{Kind}
-use Rattle.pef_model.specs.declared.state.Kind.TheVariants as kind
 use Rattle.pef_model.specs.declared.state.Digest32.{Digest32}
 use Rattle.pef_model.specs.declared.state.Move.{Move}
 use Rattle.pef_model.specs.declared.state.Mover.{Mover}
@@ -19,7 +17,7 @@ use Rattle.pef_model.specs.Plan.{Plan}
 use Rattle.pef_model.specs.Event.{Mark}
 use Rattle.pef_model.specs.Registers.{with_code}
 use Rattle.pef_model.specs.Cpu.{CpuPart}
-use Rattle.pef_model.specs.GuestPart.{is_invalid, ended_out as part_ended}
+use Rattle.pef_model.specs.GuestPart.{ended_out as part_ended}
 use Rattle.pef_model.specs.Guest.{Guest as GuestWhole}
 use Rattle.pef_model.specs.Deed.{giving, coming_back, deed_page_out_end}
 use Rattle.pef_model.specs.History.{entry_of}
@@ -39,7 +37,7 @@ use Rattle.pef_guest.specs.Keeps.{KeepsFrames, times_held}
 use Rattle.pef_guest.specs.Shows.{ShowsCpu, Shows, kept_in, first_there, sealed_of, digest_by}
 use Rattle.pef_guest.specs.Whole.{IsWhole}
 use Rattle.pef_guest.specs.Rows.{RowWithPool, ask_outward}
-use Rattle.pef_move.proofs.OnePage.{IsShownPage, shows_with}
+use Rattle.pef_move.proofs.OnePage.{IsShownPage, shows_with, shows_counted}
 use Rattle.pef_move.proofs.Wholes.{stepped_with, whole_with}
 
 -- a page that a CPU moves outward, with its frame, and with the digest that it is to have
@@ -84,6 +82,31 @@ no_frame F (Some digest) = refl
 pub no_mover : (F : Type 0) (digest : Option Digest32) → mover_of {F = F} (without_frame digest) ≡ None
 no_mover F None = refl
 no_mover F (Some digest) = refl
+
+-- an end under another generation leaves the guest
+pub row_old : {S : Type 0} (stands : S → Tag → List ℕ → List ℕ → Type 0) (image : S → Tag → List ℕ → List ℕ) (plan : Plan) (g : GuestWhole) (c : CpuPart) (mark : Mark) (old : Guest S) (cpu : Cpu) (move : Move) (pool : PoolState) →
+    Shows stands image plan old g → ShowsCpu cpu c → move.generation ≢ old.generation →
+    RowWithPool stands image plan g c (entry_of (ask_outward move c) mark Go (deed_page_out_end g.part (ask_outward move c) move)) (record old { steps = old.steps + 1 })
+    (record cpu { ctx = ctx.Hv; gpr = with_code cpu.gpr UParameter; last = answer.Ret UParameter }) (length pool.free) (length pool.free) (answer.Ret UParameter)
+row_old stands image plan g c mark old cpu move pool shows shows_cpu other =
+    let test : (move.generation == g.part.generation) ≡ false = (let life = shows.generation in grind (arith, nat_tests, other)) in
+    subst (λ (same : Bool).
+    RowWithPool stands image plan g c (entry_of (ask_outward move c) mark Go (if same then giving (coming_back (ask_outward move c) USuccess) 1 else coming_back (ask_outward move c) UParameter)) (record old { steps = old.steps + 1 })
+    (record cpu { ctx = ctx.Hv; gpr = with_code cpu.gpr UParameter; last = answer.Ret UParameter }) (length pool.free) (length pool.free) (answer.Ret UParameter)) (sym test) (record {
+      row = record {
+        answered = refl;
+        guest = shows_counted stands image plan old g (old.steps + 1) shows;
+        cpu_is = record {
+          ctx = refl;
+          own = ap (λ (own : List ℕ). with_code own UParameter) shows_cpu.own;
+          lpid = shows_cpu.lpid;
+          vid = shows_cpu.vid;
+          last = refl;
+          hand = shows_cpu.hand;
+        };
+      };
+      pool = refl;
+    })
 
 module _ {S : Type 0} (takes : S → ℕ → ℕ → Type 0) (old : Guest S) (cpu : Cpu) (move : Move) (frame : FrameState) (below : move.gfn < length old.pages.pages)
     (moves : mover_at old.pages move.gfn ≡ Some (record { cpu = cpu.number; way = way.Outward })) (there : frame_at old.pages move.gfn ≡ Some frame) where
@@ -133,10 +156,6 @@ module _ {S : Type 0} (takes : S → ℕ → ℕ → Type 0) (old : Guest S) (cp
     within : gfn < plan.pages
     within = subst (λ (count : ℕ). gfn < count) shows.pages.count below
 
-    -- it is still Secure there
-    secure : (g.part.pages gfn).kind ≡ kind.Secure
-    secure = sym (shows.pages.kinds gfn within) ∙ ap kind_of goes.is
-
     -- the digest is that of the pending bytes
     digest_is : goes.digest ≡ Some (digest_by bytes)
     digest_is = sym (ap kept_in goes.is) ∙ shows.sealed.digests gfn within ∙ ap (λ (one : Option (List ℕ)). option_map digest_by (first_there one (g.part.pages gfn).sealed)) pending
@@ -144,7 +163,7 @@ module _ {S : Type 0} (takes : S → ℕ → ℕ → Type 0) (old : Guest S) (cp
     out : page.cell ≡ cell.Out (digest_by bytes)
     out = cell_is ∙ ap without_frame digest_is
 
-    shown : IsShownPage stands image plan old g gfn page (part_ended (g.part.pages gfn)) (filter (λ n. not (n == gfn)) old.pages.order) (filter (λ n. not (n == gfn)) g.part.order) old.sealer (old.steps + 1) g.registers
+    shown : IsShownPage stands image plan old g gfn page (part_ended (g.part.pages gfn)) (filter (λ n. not (n == gfn)) old.pages.order) (filter (λ n. not (n == gfn)) g.part.order) old.sealer (old.steps + 1)
     shown = record {
       kind_is = ap kind_of out;
       mover_is = ap mover_of out;
@@ -152,8 +171,8 @@ module _ {S : Type 0} (takes : S → ℕ → ℕ → Type 0) (old : Guest S) (cp
       digest_is = ap kept_in out ∙ sym (ap (λ (one : Option (List ℕ)). option_map digest_by (first_there None one)) pending);
       pending_is = (λ outward. absurd (let none = ap mover_of out in cc), λ there. absurd (let no : false ≡ true = there in cc));
       order_is = ap (filter (λ n. not (n == gfn))) shows.pages.order;
-      invalid_is = sym (ap (λ (k : Kind). is_invalid (record (g.part.pages gfn) { kind = k })) secure);
       frame_is = λ one k. absurd (let o = ap kind_of out in cc);
+      zero_is = λ invalid. absurd (let o = ap kind_of out in cc);
       images = refl;
       stands_here = λ sealed e. shows.sealed.stands_for gfn sealed within (ap (λ (one : Option (List ℕ)). first_there one (g.part.pages gfn).sealed) pending ∙ sym pending ∙ e);
       words_here = λ sealed e gpa aligned at. shows.sealed.words gpa bytes aligned (subst (λ (n : ℕ). n < plan.pages) (sym at) within) (ap (λ (n : ℕ). sealed_of (g.part.pages n)) at ∙ ap (λ (one : Option (List ℕ)). first_there one (g.part.pages gfn).sealed) pending);
@@ -172,8 +191,8 @@ module _ {S : Type 0} (takes : S → ℕ → ℕ → Type 0) (old : Guest S) (cp
           row = record {
             answered = refl;
             guest =
-                shows_with stands image plan old g gfn page (part_ended (g.part.pages gfn)) (filter (λ n. not (n == gfn)) old.pages.order) (filter (λ n. not (n == gfn)) g.part.order) old.sealer (old.steps + 1) g.registers
-                shows below shown (λ vid. refl);
+                shows_with stands image plan old g gfn page (part_ended (g.part.pages gfn)) (filter (λ n. not (n == gfn)) old.pages.order) (filter (λ n. not (n == gfn)) g.part.order) old.sealer (old.steps + 1) _
+                shows below shown;
             cpu_is = record {
               ctx = refl;
               own = ap (λ (own : List ℕ). with_code own USuccess) shows_cpu.own;

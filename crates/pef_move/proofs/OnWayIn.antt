@@ -5,7 +5,7 @@ use Rattle.std.proofs.lemmas.Slice.Eq.{bytes_eq-Decides}
 use Rattle.pef_model.specs.declared.state.Digest32.{Digest32}
 use Rattle.pef_model.specs.declared.state.Way.TheVariants as way
 use Rattle.pef_model.specs.PageIn.{is_last_sealed}
-use Rattle.pef_model.specs.Sound.{collides_with}
+use Rattle.pef_model.specs.Clash.{collides_with}
 use Rattle.pef_pages.specs.declared.cell.Cell.{Cell}
 use Rattle.pef_pages.specs.declared.cell.Cell.TheVariants as cell
 use Rattle.pef_pages.specs.Cells.{mover_of, way_of}

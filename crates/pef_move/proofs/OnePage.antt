@@ -6,18 +6,17 @@ use Rattle.std.proofs.lemmas.Bool.Decides.{nat_tests}
 use Rattle.pef_model.specs.declared.state.Kind.TheVariants as kind
 use Rattle.pef_model.specs.declared.state.Tag.{Tag}
 use Rattle.pef_model.specs.declared.state.Way.TheVariants.{Outward}
-use Rattle.pef_model.specs.declared.state.Regs.{Regs}
 use Rattle.pef_model.specs.Plan.{Plan}
-use Rattle.pef_model.specs.GuestPart.{Page as PagePart, page_of, is_invalid, put}
-use Rattle.pef_model.specs.Guest.{Guest as GuestWhole, private_doubleword}
-use Rattle.pef_model.specs.PageOut.{tag_of, page_bytes, private_page}
+use Rattle.pef_model.specs.GuestPart.{Page as PagePart, page_of, put}
+use Rattle.pef_model.specs.Guest.{Guest as GuestWhole}
+use Rattle.pef_model.specs.PageOut.{tag_of, private_page}
 use Rattle.pef_model.proofs.Folds.{same_test}
 use Rattle.pef_frames.specs.Frame.{FrameState}
 use Rattle.pef_pages.specs.declared.page.Page.{Page}
 use Rattle.pef_pages.specs.Cells.{kind_of, mover_of, way_of, frame_in}
 use Rattle.pef_pages.specs.Pages.{PagesState, invalid_page, page_at, mover_at, with_page}
 use Rattle.pef_guest.specs.declared.guest.Guest.{Guest}
-use Rattle.pef_guest.specs.Shows.{HoldsPage, ShowsVcpu, vcpu_at, kept_in, sealed_of, digest_by, Shows}
+use Rattle.pef_guest.specs.Shows.{HoldsPage, IsZeroPage, kept_in, sealed_of, digest_by, Shows}
 
 -- what holds of the page that is put, and of every other, holds of each afterwards
 pub each_with_page : {F : Type 0} (P : ℕ → Page F → Type 0) (pages : PagesState F) (gfn : ℕ) (page : Page F) → gfn < length pages.pages →
@@ -35,24 +34,11 @@ module _ {X : Type 0} (f : ℕ → X) (at : ℕ) (x : X) where
   pub put_there : (n : ℕ) → n ≢ at → put f at x n ≡ f n
   put_there n other = ap (λ (b : Bool). if b then x else f n) (let test : (n == at) ≡ false = grind (arith, nat_tests) in test)
 
-  -- what is the same of the two values is the same everywhere
-  pub put_same : {Y : Type 0} (view : X → Y) → view x ≡ view (f at) → (n : ℕ) → view (put f at x n) ≡ view (f n)
-  put_same {Y = Y} view same n = by_case (cases_eq n at) where
-    by_case : (n ≡ at) ⊎ (n ≢ at) → view (put f at x n) ≡ view (f n)
-    by_case (inl here) = subst (λ (m : ℕ). view (put f at x m) ≡ view (f m)) (sym here) (ap view put_here ∙ same)
-    by_case (inr other) = ap view (put_there n other)
-
 -- the model's guest with another page
-abbrev pub with_part : GuestWhole → ℕ → PagePart → List ℕ → (ℕ → Regs) → GuestWhole
-with_part g gfn page order registers = record { part = record g.part { pages = put g.part.pages gfn page; order = order }; content = g.content; registers = registers }
+abbrev pub with_part : GuestWhole → ℕ → PagePart → List ℕ → Bool → GuestWhole
+with_part g gfn page order clean = record g { part = record g.part { pages = put g.part.pages gfn page; order = order }; clean = clean }
 
--- a page that stays Invalid, or stays not Invalid, keeps every page's doublewords
-pub private_page-stays : (plan : Plan) (g : GuestWhole) (gfn : ℕ) (page : PagePart) (order : List ℕ) (registers : ℕ → Regs) → is_invalid page ≡ is_invalid (g.part.pages gfn) →
-    (n : ℕ) → private_page plan (with_part g gfn page order registers) n ≡ private_page plan g n
-private_page-stays plan g gfn page order registers same n =
-    ap (λ (value : ℕ → ℕ). page_bytes plan.shift value n) (λ i gpa. (if put_same g.part.pages gfn page is_invalid same (page_of plan gpa) i then 0 else g.content gpa))
-
-module _ {S : Type 0} (stands : S → Tag → List ℕ → List ℕ → Type 0) (image : S → Tag → List ℕ → List ℕ) (plan : Plan) (old : Guest S) (g : GuestWhole) (gfn : ℕ) (page : Page FrameState) (part : PagePart) (order order_part : List ℕ) (sealer : S) (steps : ℕ) (registers : ℕ → Regs) where
+module _ {S : Type 0} (stands : S → Tag → List ℕ → List ℕ → Type 0) (image : S → Tag → List ℕ → List ℕ) (plan : Plan) (old : Guest S) (g : GuestWhole) (gfn : ℕ) (page : Page FrameState) (part : PagePart) (order order_part : List ℕ) (sealer : S) (steps : ℕ) where
   -- a guest with another page
   abbrev pub guest_with : Guest S
   guest_with = record old { pages = record { pages = slice_set old.pages.pages gfn page; order = order }; sealer = sealer; steps = steps }
@@ -65,19 +51,19 @@ module _ {S : Type 0} (stands : S → Tag → List ℕ → List ℕ → Type 0) 
     pub digest_is : kept_in page.cell ≡ option_map digest_by (sealed_of part)
     pub pending_is : (way_of (mover_of page.cell) ≡ Some Outward) ↔ IsSome part.pending
     pub order_is : order ≡ order_part
-    pub invalid_is : is_invalid part ≡ is_invalid (g.part.pages gfn)
     -- the frame of a Secure page is the one that it had
     pub frame_is : (frame : FrameState) → kind_of page.cell ≡ kind.Secure → frame_in page.cell ≡ Some frame → HoldsPage plan g gfn frame
+    pub zero_is : kind_of page.cell ≡ kind.Invalid → IsZeroPage plan g gfn
     pub images : image sealer ≡ image old.sealer
     pub stands_here : (sealed : List ℕ) → sealed_of part ≡ Some sealed → stands sealer (tag_of g.part old.lpid gfn part.version) (private_page plan g gfn) sealed
     -- each of its last stores has 64 bits
-    pub words_here : (sealed : List ℕ) → sealed_of part ≡ Some sealed → (gpa : ℕ) → gpa % 8 ≡ 0 → page_of plan gpa ≡ gfn → private_doubleword plan g gpa < 2 ^ 64
+    pub words_here : (sealed : List ℕ) → sealed_of part ≡ Some sealed → (gpa : ℕ) → gpa % 8 ≡ 0 → page_of plan gpa ≡ gfn → g.content gpa < 2 ^ 64
     pub stands_there : (tag : Tag) (plain sealed : List ℕ) → tag.gfn ≢ gfn → stands old.sealer tag plain sealed → stands sealer tag plain sealed
 
-  module _ (shows : Shows stands image plan old g) (below : gfn < length old.pages.pages) (is : IsShownPage) (same : (vid : ℕ) → registers vid ≡ g.registers vid) where
+  module _ (clean : Bool) (shows : Shows stands image plan old g) (below : gfn < length old.pages.pages) (is : IsShownPage) where
     -- the model's guest afterwards
     abbrev next : GuestWhole
-    next = with_part g gfn part order_part registers
+    next = with_part g gfn part order_part clean
 
     -- what the model's guest says of a page
     record Fits (n : ℕ) (one : Page FrameState) : Type 0 where
@@ -87,11 +73,9 @@ module _ {S : Type 0} (stands : S → Tag → List ℕ → List ℕ → Type 0) 
       digest_is : n < plan.pages → kept_in one.cell ≡ option_map digest_by (sealed_of (next.part.pages n))
       pending_is : n < plan.pages → (way_of (mover_of one.cell) ≡ Some Outward) ↔ IsSome (next.part.pages n).pending
       holds : (frame : FrameState) → kind_of one.cell ≡ kind.Secure → frame_in one.cell ≡ Some frame → HoldsPage plan next n frame
+      zeros : kind_of one.cell ≡ kind.Invalid → IsZeroPage plan next n
       stands_for : (sealed : List ℕ) → n < plan.pages → sealed_of (next.part.pages n) ≡ Some sealed →
           stands sealer (tag_of next.part old.lpid n (next.part.pages n).version) (private_page plan next n) sealed
-
-    stays : (n : ℕ) → private_page plan next n ≡ private_page plan g n
-    stays = private_page-stays plan g gfn part order_part registers is.invalid_is
 
     here : Fits gfn page
     here =
@@ -103,7 +87,8 @@ module _ {S : Type 0} (stands : S → Tag → List ℕ → List ℕ → Type 0) 
           digest_is = λ less. is.digest_is ∙ sym (ap (λ (p : PagePart). option_map digest_by (sealed_of p)) put);
           pending_is = λ less. subst (λ (pending : Option (List ℕ)). (way_of (mover_of page.cell) ≡ Some Outward) ↔ IsSome pending) (sym (ap (λ (p : PagePart). p.pending) put)) is.pending_is;
           holds = is.frame_is;
-          stands_for = λ sealed less e. rw (put, stays gfn) (is.stands_here sealed (sym (ap sealed_of put) ∙ e));
+          zeros = is.zero_is;
+          stands_for = λ sealed less e. rw put (is.stands_here sealed (sym (ap sealed_of put) ∙ e));
         }
 
     there : (n : ℕ) → n ≢ gfn → Fits n (page_at old.pages n)
@@ -116,17 +101,14 @@ module _ {S : Type 0} (stands : S → Tag → List ℕ → List ℕ → Type 0) 
           digest_is = λ less. shows.sealed.digests n less ∙ sym (ap (λ (p : PagePart). option_map digest_by (sealed_of p)) put);
           pending_is = λ less. subst (λ (pending : Option (List ℕ)). (way_of (mover_at old.pages n) ≡ Some Outward) ↔ IsSome pending) (sym (ap (λ (p : PagePart). p.pending) put)) (shows.sealed.pendings n less);
           holds = shows.pages.holds n;
-          stands_for = λ sealed less e. rw (put, stays n) (is.stands_there (tag_of g.part old.lpid n (g.part.pages n).version) (private_page plan g n) sealed other (shows.sealed.stands_for n sealed less (sym (ap sealed_of put) ∙ e)));
+          zeros = shows.pages.zeros n;
+          stands_for = λ sealed less e. rw put (is.stands_there (tag_of g.part old.lpid n (g.part.pages n).version) (private_page plan g n) sealed other (shows.sealed.stands_for n sealed less (sym (ap sealed_of put) ∙ e)));
         }
 
-    -- the model's doublewords are as before
-    same_doubleword : (gpa : ℕ) → private_doubleword plan next gpa ≡ private_doubleword plan g gpa
-    same_doubleword gpa = ap (λ (none : Bool). if none then 0 else g.content gpa) (put_same g.part.pages gfn part is_invalid is.invalid_is (page_of plan gpa))
-
-    -- so each last store of a page of which something is sealed has 64 bits
-    words : (gpa : ℕ) (sealed : List ℕ) → gpa % 8 ≡ 0 → page_of plan gpa < plan.pages → sealed_of (next.part.pages (page_of plan gpa)) ≡ Some sealed → private_doubleword plan next gpa < 2 ^ 64
-    words gpa sealed aligned less e = subst (λ (value : ℕ). value < 2 ^ 64) (sym (same_doubleword gpa)) (by_case (cases_eq (page_of plan gpa) gfn)) where
-      by_case : (page_of plan gpa ≡ gfn) ⊎ (page_of plan gpa ≢ gfn) → private_doubleword plan g gpa < 2 ^ 64
+    -- each last store of a page of which something is sealed has 64 bits
+    words : (gpa : ℕ) (sealed : List ℕ) → gpa % 8 ≡ 0 → page_of plan gpa < plan.pages → sealed_of (next.part.pages (page_of plan gpa)) ≡ Some sealed → next.content gpa < 2 ^ 64
+    words gpa sealed aligned less e = by_case (cases_eq (page_of plan gpa) gfn) where
+      by_case : (page_of plan gpa ≡ gfn) ⊎ (page_of plan gpa ≢ gfn) → g.content gpa < 2 ^ 64
       by_case (inl at) = is.words_here sealed (sym (ap sealed_of (ap next.part.pages at ∙ put_here g.part.pages gfn part)) ∙ e) gpa aligned at
       by_case (inr other) = shows.sealed.words gpa sealed aligned less (sym (ap sealed_of (put_there g.part.pages gfn part (page_of plan gpa) other)) ∙ e)
 
@@ -146,6 +128,7 @@ module _ {S : Type 0} (stands : S → Tag → List ℕ → List ℕ → Type 0) 
         movers = λ n. (each n).mover_is;
         order = is.order_is;
         holds = λ n frame. (each n).holds frame;
+        zeros = λ n. (each n).zeros;
       };
       sealed = record {
         images = is.images ∙ shows.sealed.images;
@@ -156,20 +139,19 @@ module _ {S : Type 0} (stands : S → Tag → List ℕ → List ℕ → Type 0) 
         pendings = λ n. (each n).pending_is;
       };
       count = shows.count;
-      vcpus = λ vid less. subst (ShowsVcpu (vcpu_at old vid) (g.part.vcpus vid)) (sym (same vid)) (shows.vcpus vid less);
+      vcpus = shows.vcpus;
     }
 
 -- a guest that only counts a step shows what it did
-pub shows_counted : {S : Type 0} (stands : S → Tag → List ℕ → List ℕ → Type 0) (image : S → Tag → List ℕ → List ℕ) (plan : Plan) (old : Guest S) (g : GuestWhole) (steps : ℕ) (registers : ℕ → Regs) →
-    Shows stands image plan old g → ((vid : ℕ) → registers vid ≡ g.registers vid) →
-    Shows stands image plan (record old { steps = steps }) (record { part = g.part; content = g.content; registers = registers })
-shows_counted stands image plan old g steps registers shows same = record {
+pub shows_counted : {S : Type 0} {clean : Bool} (stands : S → Tag → List ℕ → List ℕ → Type 0) (image : S → Tag → List ℕ → List ℕ) (plan : Plan) (old : Guest S) (g : GuestWhole) (steps : ℕ) →
+    Shows stands image plan old g → Shows stands image plan (record old { steps = steps }) (record g { clean = clean })
+shows_counted stands image plan old g steps shows = record {
   shift = shows.shift;
   normal = shows.normal;
   phase = shows.phase;
   generation = shows.generation;
-  pages = record { count = shows.pages.count; kinds = shows.pages.kinds; movers = shows.pages.movers; order = shows.pages.order; holds = shows.pages.holds };
+  pages = record { count = shows.pages.count; kinds = shows.pages.kinds; movers = shows.pages.movers; order = shows.pages.order; holds = shows.pages.holds; zeros = shows.pages.zeros };
   sealed = record { images = shows.sealed.images; versions = shows.sealed.versions; digests = shows.sealed.digests; stands_for = shows.sealed.stands_for; words = shows.sealed.words; pendings = shows.sealed.pendings };
   count = shows.count;
-  vcpus = λ vid less. subst (ShowsVcpu (vcpu_at old vid) (g.part.vcpus vid)) (sym (same vid)) (shows.vcpus vid less);
+  vcpus = shows.vcpus;
 }

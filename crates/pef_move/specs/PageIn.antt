@@ -17,7 +17,7 @@ use Rattle.pef_model.specs.Cpu.{CpuPart, next_cpu}
 use Rattle.pef_model.specs.Guest.{Guest as GuestWhole}
 use Rattle.pef_model.specs.Deed.{deed_page_in, deed_page_in_copy, deed_page_in_end}
 use Rattle.pef_model.specs.History.{entry_of}
-use Rattle.pef_model.specs.Sound.{ends_in_clash}
+use Rattle.pef_model.specs.Clash.{ends_in_clash}
 use Rattle.pef_frames.specs.Frame.{FrameState}
 use Rattle.pef_frames.specs.Pool.{PoolState, with_free}
 use Rattle.pef_pages.specs.Pages.{mover_at, frame_at, kind_at, digest_at, ended_in}

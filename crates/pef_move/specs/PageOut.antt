@@ -65,17 +65,17 @@ BeginsPageOut stands image call old new cpu cpu_new answer =
     (entry_of (ask_hypervisor c) mark (UPageout call.lpid call.ra call.gpa call.flags call.order) (deed_page_out plan g (ask_hypervisor c) call.lpid call.ra call.gpa call.flags call.order))
     new cpu_new answer
 
--- a copy answers what its entry does, and leaves the CPU and the normal frame as the entry does
-pub record RowCopy (plan : Plan) (c : CpuPart) (e : Event) (cpu : Cpu) (frame frame_new : List ℕ) (answer : Answer) : Type 0 where
+-- a copy answers what its entry does, and leaves the CPU and the normal frame of this number as the entry does
+pub record RowCopy (plan : Plan) (n : ℕ) (c : CpuPart) (e : Event) (cpu : Cpu) (frame frame_new : List ℕ) (answer : Answer) : Type 0 where
   pub answered : answer ≡ e.trace.answer
   pub cpu_is : ShowsCpu cpu (next_cpu c e)
-  pub frame_is : frame_new ≡ next_frame plan frame e
+  pub frame_is : frame_new ≡ next_frame plan n frame e
 
 -- the copy of a page-out
 abbrev pub CopiesPageOut : Move → Cpu → Cpu → List ℕ → List ℕ → Answer → Type 0
 CopiesPageOut move cpu cpu_new frame frame_new answer =
     (plan : Plan) (c : CpuPart) (mark : Mark) (n : ℕ) → ShowsCpu cpu c →
-    RowCopy plan c (entry_of (ask_outward move c) mark Go (deed_page_out_copy move n (ask_outward move c))) cpu_new frame frame_new answer
+    RowCopy plan n c (entry_of (ask_outward move c) mark Go (deed_page_out_copy move n (ask_outward move c))) cpu_new frame frame_new answer
 
 -- a call in progress comes back with a code: of its CPU the context, R3 and the last answer change
 abbrev pub ComesBackWith : Cpu → Cpu → Answer → Type 0

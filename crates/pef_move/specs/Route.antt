@@ -10,7 +10,7 @@ use Rattle.pef_model.specs.declared.command.Code.{Code}
 use Rattle.pef_model.specs.declared.command.Code.TheVariants.{UBusy}
 use Rattle.pef_model.specs.declared.entry.Answer.TheVariants as answer
 use Rattle.pef_model.specs.Plan.{Plan}
-use Rattle.pef_model.specs.GuestPart.{Page as PagePart, GuestPart, new_vcpu}
+use Rattle.pef_model.specs.GuestPart.{Page as PagePart, GuestPart, new_vcpu, no_entry}
 use Rattle.pef_pages.specs.declared.page.Page.{Page}
 use Rattle.pef_model.specs.PageOut.{page_out_code}
 use Rattle.pef_model.specs.PageIn.{page_in_operands}
@@ -26,7 +26,7 @@ use Rattle.pef_move.specs.declared.route.Route.{Route}
 
 -- a page, as far as a call reads it before the page moves
 abbrev pub page_by : PagesState FrameState → ℕ → PagePart
-page_by pages gfn = record { kind = kind_at pages gfn; mover = mover_at pages gfn; version = version_at pages gfn; sealed = None; pending = None }
+page_by pages gfn = record { kind = kind_at pages gfn; mover = mover_at pages gfn; version = version_at pages gfn; sealed = None; pending = None; plain = None }
 
 -- a page that begins to move, with the digest of what is in the hand
 abbrev pub page_begun : PagesState FrameState → ℕ → ℕ → List ℕ → Page FrameState
@@ -46,6 +46,7 @@ module _ {S : Type 0} where
     image = λ tag plain. plain;
     is_born = λ lpid. false;
     words = λ lpid. 0;
+    entropy = λ lpid. [];
   }
 
   -- a guest's public part, as far as a call reads it before a page moves
@@ -53,6 +54,8 @@ module _ {S : Type 0} where
   part_by guest = record {
     phase = guest.phase;
     generation = guest.generation;
+    entry = no_entry;
+    words = 0;
     pages = page_by guest.pages;
     vcpus = λ vid. new_vcpu Idle;
     order = guest.pages.order;

@@ -8,7 +8,7 @@ use Rattle.pef_guest.specs.Whole.{IsWhole}
 use Rattle.pef_move.specs.Unseal.{last_tag}
 use Rattle.pef_move.proofs.Ended.{moving_below}
 use Rattle.pef_move.proofs.Come.{refused_whole, refused_frames, accepted_whole, accepted_frames, accepted_guest}
-use Rattle.pef_move.proofs.ComeRows.{RowOf, row_refused, row_accepted}
+use Rattle.pef_move.proofs.ComeRows.{RowOf, row_old, row_refused, row_accepted}
 use Rattle.pef_move.proofs.page_in.page_in_end.Goals as goal
 
 -- The page's frame is one of the machine's.
@@ -63,3 +63,9 @@ returns-clause-row g c plan guest part mark shows shows_cpu clean =
     (row_accepted g.S.Seal.stands g.S.Seal.image plan guest part mark c.args.guest.now c.args.cpu.now c.args.inward c.args.pool.now below moves shows shows_cpu c.if-inward-guest.false clean
     c.is_kept.result test c.if-not-is_kept.false c.requires.whole.shift c.unseal.ensures.frame c.unseal.ensures.there c.unseal.ensures.bytes c.unseal.ensures.size
     (λ page stands. c.unseal.ensures.plain page (subst (λ (hand : List ℕ). g.S.Seal.stands c.args.guest.now.sealer (last_tag c.args.guest.now c.args.inward.gfn) page hand) (sym c.hand-2.ensures) stands))))
+
+-- An end under another generation leaves the guest and the pool.
+pub returns-then-inward-guest-clause-row : goal.returns-then-inward-guest-clause-row
+returns-then-inward-guest-clause-row g c plan guest part mark shows shows_cpu clean =
+    rw (c.come_back.ensures.answer, c.come_back.ensures.cpu)
+    (row_old g.S.Seal.stands g.S.Seal.image plan guest part mark c.args.guest.now c.args.cpu.now c.args.inward c.args.pool.now shows shows_cpu c.if-inward-guest.true)

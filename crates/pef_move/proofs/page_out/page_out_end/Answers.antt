@@ -1,6 +1,6 @@
 use Rattle.std.proofs.Common.{ℕ, ◌<◌, ap, sym, subst}
 use Rattle.pef_pages.specs.Cells.{way_of}
-use Rattle.pef_move.proofs.Ended.{moving_below, some_bytes, whole, frames, row_ended}
+use Rattle.pef_move.proofs.Ended.{moving_below, some_bytes, whole, frames, row_old, row_ended}
 use Rattle.pef_move.proofs.page_out.page_out_end.Goals as goal
 
 -- The frame was one of the machine's, and is free.
@@ -28,3 +28,9 @@ returns-clause-row g c plan whole part mark shows shows_cpu =
     rw (c.end_out-frame.ensures.pages, c.give.ensures, c.come_back-2.ensures.answer, c.come_back-2.ensures.cpu)
     (row_ended g.S.Seal.takes c.args.guest.now c.args.cpu.now c.args.outward c.end_out-frame.result (moving_below c.args.guest.now.pages c.args.outward.gfn _ moves) moves c.end_out-frame.ensures.frame
     g.S.Seal.stands g.S.Seal.image plan whole shows pending.0 pending.1 part mark c.args.pool.now shows_cpu c.if-outward-guest.false)
+
+-- An end under another generation leaves the guest and the pool.
+pub returns-then-outward-guest-clause-row : goal.returns-then-outward-guest-clause-row
+returns-then-outward-guest-clause-row g c plan whole part mark shows shows_cpu =
+    rw (c.come_back.ensures.answer, c.come_back.ensures.cpu)
+    (row_old g.S.Seal.stands g.S.Seal.image plan whole part mark c.args.guest.now c.args.cpu.now c.args.outward c.args.pool.now shows shows_cpu c.if-outward-guest.true)

@@ -1,0 +1,81 @@
+-- What an entry tells of the objects beside its target.
+use Rattle.std.proofs.Common.{◌≡◌, ℕ, List, Bool, true, false, ◌==◌, nat_lt, if◌then◌else◌, refl, ap, sym, ◌∙◌, Option, arith}
+use Rattle.std.proofs.lemmas.Grind.{common_steps}
+use Rattle.pef_model.specs.declared.state.Work.TheVariants.{Inward, Outward}
+use Rattle.pef_model.specs.declared.state.Ctx.{Ctx}
+use Rattle.pef_model.specs.declared.state.Ctx.TheVariants as ctx
+use Rattle.pef_model.specs.declared.command.Cmd.{Cmd}
+use Rattle.pef_model.specs.declared.entry.Answer.{Answer}
+use Rattle.pef_model.specs.declared.entry.PoolSaw.{PoolSaw}
+use Rattle.pef_model.specs.Plan.{Plan}
+use Rattle.pef_model.specs.Event.{Event, mark_of}
+use Rattle.pef_model.specs.Target.{Ask, Target, AtGuest, told, target_in}
+use Rattle.pef_model.specs.GuestPart.{Meeting, Normal, Unbacked, meets}
+use Rattle.pef_model.specs.Guest.{Guest}
+use Rattle.pef_model.specs.Deed.{Deed, deed_access, deed_gone, deed_guest, deed_guest_in}
+use Rattle.pef_model.specs.History.{cpu_after, guest_after, pool_after, found_after, deed_after, ask_of, entry_of, Extends}
+use Rattle.pef_model.specs.ReadLaw.{tells_free}
+use Rattle.pef_model.specs.CountLaw.{part_after}
+use Rattle.std.proofs.Common.{rules}
+use Rattle.pef_model.specs.ToldLaw.{is_done, frame_met, AccessTellsItsFrame, told_any, told_found, EntryAtGuestIsTold}
+use Rattle.pef_model.proofs.DeedOf.{deed_of, ask_in, success_of, through_of, shown_of, reach, access_is}
+
+-- an access that is done tells the normal frame that it meets
+access_frame : (ask : Ask) (success : Answer) (through : ℕ → Answer) (out : List ℕ) (any : Bool) (m : Meeting) → is_done (deed_access ask success through out any m).answer ≡ true →
+    (deed_access ask success through out any m).frame ≡ frame_met m
+access_frame ask success through out true Unbacked h = refl
+access_frame ask success through out false Unbacked h = refl
+access_frame ask success through out any (Normal n) h = cc
+access_frame ask success through out any m h = refl
+
+pub access_tells_its_frame : AccessTellsItsFrame
+access_tells_its_frame plan past e run gpa extends before address done =
+    ap (λ (d : Deed). d.frame) told_deed ∙ by_test (run.generation == (part_after plan past run.lpid).generation) (ap (λ (d : Deed). is_done d.answer) (sym told_deed) ∙ done) where
+      g : Guest
+      g = guest_after plan run.lpid past
+
+      ask : Ask
+      ask = ask_in (cpu_after plan e.trace.cpu past) (ctx.Guest run) e.trace.cmd
+
+      told_deed : deed_of e ≡ (if run.generation == g.part.generation then reach plan past run ask e.trace.cmd gpa else deed_gone ask)
+      told_deed = access_is plan past e run gpa extends before address
+
+      by_test : (b : Bool) → is_done (if b then reach plan past run ask e.trace.cmd gpa else deed_gone ask).answer ≡ true →
+          (if b then reach plan past run ask e.trace.cmd gpa else deed_gone ask).frame ≡ frame_met (meets plan g.part gpa)
+      by_test true h = access_frame ask (success_of g e.trace.cmd) (through_of plan (found_after plan past) e.trace.cmd) (shown_of run g e.trace.cmd) (nat_lt 0 (pool_after plan past)) (meets plan g.part gpa) h
+      by_test false h = cc
+
+-- a deed at a guest is the same with what it tells of the pool, whatever normal memory holds
+deed_told : (plan : Plan) (g : Guest) (found other : ℕ → ℕ → ℕ) (any : Bool) (ask : Ask) (cmd : Cmd) (c : Ctx) →
+    deed_guest_in c plan g found any ask cmd ≡ deed_guest_in c plan g other (tells_free (deed_guest_in c plan g found any ask cmd).pool) ask cmd
+deed_told plan g found other any ask cmd ctx.Hv = grind (arith, common_steps)
+deed_told plan g found other any ask cmd (ctx.Uv (Inward move)) = refl
+deed_told plan g found other any ask cmd (ctx.Uv (Outward move)) = refl
+deed_told plan g found other any ask cmd (ctx.Guest run) = grind (arith, common_steps)
+
+-- an entry tells what its step learnt of its CPU
+told_is : (plan : Plan) (past : List Event) (e : Event) → Extends plan past e → told e ≡ ask_of (cpu_after plan e.trace.cpu past) e.trace.cmd
+told_is plan past e extends = search rules
+
+pub entry_at_guest_is_told : EntryAtGuestIsTold
+entry_at_guest_is_told plan past e lpid extends aims = extends.is ∙ ap (λ (t : Target). entry_of ask (mark_of e) e.trace.cmd (deed_after plan past ask e.trace.cmd t)) target
+    ∙ ap (entry_of ask (mark_of e) e.trace.cmd) told_deed ∙ ap (λ (a : Ask). entry_of a (mark_of e) e.trace.cmd (deed_guest plan g (told_found e) (told_any e) a e.trace.cmd)) (sym (told_is plan past e extends)) where
+      ask : Ask
+      ask = ask_of (cpu_after plan e.trace.cpu past) e.trace.cmd
+
+      g : Guest
+      g = guest_after plan lpid past
+
+      any : Bool
+      any = nat_lt 0 (pool_after plan past)
+
+      target : target_in plan ask.before ask.lpid e.trace.cmd ≡ AtGuest lpid
+      target = ap (λ (x : Event). target_in plan x.saw.before x.saw.lpid e.trace.cmd) (sym extends.is) ∙ aims
+
+      pool : (deed_guest plan g (found_after plan past) any ask e.trace.cmd).pool ≡ e.saw.pool
+      pool = sym (ap (λ (x : Event). x.saw.pool) extends.is ∙ ap (λ (t : Target). (deed_after plan past ask e.trace.cmd t).pool) target)
+
+      told_deed : deed_guest plan g (found_after plan past) any ask e.trace.cmd ≡ deed_guest plan g (told_found e) (told_any e) ask e.trace.cmd
+      told_deed =
+          deed_told plan g (found_after plan past) (told_found e) any ask e.trace.cmd ask.before
+          ∙ ap (λ (o : Option PoolSaw). deed_guest plan g (told_found e) (tells_free o) ask e.trace.cmd) pool

@@ -1,0 +1,194 @@
+-- Laws of causes: where U_BUSY, Again, Hole, Context and Gone come.
+use Rattle.std.specs.Prelude.{◌≡◌, ◌≢◌, ◌⊎◌, ◌↔◌, ℕ, ◌%◌, ◌≤◌, Bool, true, false, List, ◌∷◌, Option, Some, None, IsSome, is_some}
+use Rattle.pef_model.specs.declared.state.Phase.{Phase}
+use Rattle.pef_model.specs.declared.state.Phase.TheVariants.{Starting, Normal}
+use Rattle.pef_model.specs.declared.state.Kind.{Kind}
+use Rattle.pef_model.specs.declared.state.Kind.TheVariants.{Invalid, Secure, Out, Shared}
+use Rattle.pef_model.specs.declared.state.Run.{Run}
+use Rattle.pef_model.specs.declared.state.Ctx.{Ctx}
+use Rattle.pef_model.specs.declared.state.Ctx.TheVariants as ctx
+use Rattle.pef_model.specs.declared.command.TheConstants.{PAGE_IN_FLAGS}
+use Rattle.pef_model.specs.declared.command.Code.TheVariants.{UBusy}
+use Rattle.pef_model.specs.declared.command.Cmd.{Cmd}
+use Rattle.pef_model.specs.declared.command.Cmd.TheVariants.{HLd, HSt, UPagein, UPageout, UReturn, GLi, GLd, GSt, GIrq, Go}
+use Rattle.pef_model.specs.declared.entry.Answer.TheVariants as answer
+use Rattle.pef_model.specs.Plan.{Plan, IsWithin}
+use Rattle.pef_model.specs.Event.{Event}
+use Rattle.pef_model.specs.Registers.{zero_registers}
+use Rattle.pef_model.specs.Target.{frame_of}
+use Rattle.pef_model.specs.Cpu.{CpuPart}
+use Rattle.pef_model.specs.GuestPart.{Page, GuestPart, page_of, has_place}
+use Rattle.pef_model.specs.PageOut.{may_page_out_in, can_go_out, is_shared, has_frame, has_page}
+use Rattle.pef_model.specs.PageIn.{may_page_in_in, can_come_in}
+use Rattle.pef_model.specs.History.{cpu_after, guest_after, pool_after, frame_after, Extends}
+use Rattle.pef_model.specs.CountLaw.{part_after}
+use Rattle.pef_model.specs.MoveLaw.{page_after}
+
+-- a page can't come in at present: it has a mover, or it isn't Shared and no secure frame is free
+abbrev pub IsBusyIn : Page → ℕ → Type 0
+IsBusyIn page free = IsSome page.mover ⊎ ((is_shared page.kind ≡ false) × (free ≡ 0))
+
+-- a page that isn't Shared can't go out at present: its guest is Starting, or it has a mover
+abbrev pub IsBusyOut : Phase → Page → Type 0
+IsBusyOut phase page = (is_shared page.kind ≡ false) × ((phase ≡ Starting) ⊎ IsSome page.mover)
+
+-- an entry is UV_PAGE_IN of the hypervisor, which no earlier refusal meets, for a page that can't come in at present
+pub record PageInIsBusy (plan : Plan) (past : List Event) (e : Event) : Type 0 where
+  pub lpid : ℕ
+  pub src : ℕ
+  pub gpa : ℕ
+  pub flags : ℕ
+  pub order : ℕ
+  pub before : e.saw.before ≡ ctx.Hv
+  pub cmd_is : e.trace.cmd ≡ UPagein lpid src gpa flags order
+  -- the operands are right
+  pub guest : IsWithin 1 plan.guests lpid
+  pub phase : may_page_in_in (part_after plan past lpid).phase ≡ true
+  pub frame : has_frame plan src ≡ true
+  pub page : has_page plan gpa ≡ true
+  pub kind : can_come_in (page_after plan past lpid (page_of plan gpa)).kind ≡ true
+  pub flags_are : flags ≤ PAGE_IN_FLAGS
+  pub order_is : order ≡ plan.shift
+  -- the page can't come in at present
+  pub busy : IsBusyIn (page_after plan past lpid (page_of plan gpa)) (pool_after plan past)
+
+-- an entry is UV_PAGE_OUT of the hypervisor, which no earlier refusal meets, for a page that can't go out at present
+pub record PageOutIsBusy (plan : Plan) (past : List Event) (e : Event) : Type 0 where
+  pub lpid : ℕ
+  pub dest : ℕ
+  pub gpa : ℕ
+  pub flags : ℕ
+  pub order : ℕ
+  pub before : e.saw.before ≡ ctx.Hv
+  pub cmd_is : e.trace.cmd ≡ UPageout lpid dest gpa flags order
+  -- the operands are right
+  pub guest : IsWithin 1 plan.guests lpid
+  pub phase : may_page_out_in (part_after plan past lpid).phase ≡ true
+  pub frame : has_frame plan dest ≡ true
+  pub page : has_page plan gpa ≡ true
+  pub kind : can_go_out (page_after plan past lpid (page_of plan gpa)).kind ≡ true
+  pub flags_are : flags ≡ 0
+  pub order_is : order ≡ plan.shift
+  -- the page can't go out at present
+  pub busy : IsBusyOut (part_after plan past lpid).phase (page_after plan past lpid (page_of plan gpa))
+
+-- these calls answer U_BUSY, and nothing else does
+abbrev pub BusyExactlyWhere : Type 0
+BusyExactlyWhere = (plan : Plan) (past : List Event) (e : Event) → Extends plan past e → (e.trace.answer ≡ answer.Ret UBusy) ↔ (PageInIsBusy plan past e ⊎ PageOutIsBusy plan past e)
+
+-- the guest address at which a command loads or stores
+abbrev pub guest_address_in : Cmd → Option ℕ
+guest_address_in (GLd rd gpa) = Some gpa
+guest_address_in (GSt rs gpa) = Some gpa
+guest_address_in cmd = None
+
+-- an entry is a load or store of a vCPU at a guest address, under its guest's generation
+pub record IsAccess (plan : Plan) (past : List Event) (e : Event) (run : Run) (gpa : ℕ) : Type 0 where
+  pub before : e.saw.before ≡ ctx.Guest run
+  pub address : guest_address_in e.trace.cmd ≡ Some gpa
+  pub generation : run.generation ≡ (part_after plan past run.lpid).generation
+
+-- an entry is such an access to a page with a mover, of a guest that isn't Normal
+pub record MeetsMover (plan : Plan) (past : List Event) (e : Event) : Type 0 where
+  pub run : Run
+  pub gpa : ℕ
+  pub access : IsAccess plan past e run gpa
+  pub phase : (part_after plan past run.lpid).phase ≢ Normal
+  pub place : has_place plan gpa ≡ true
+  pub mover : IsSome (page_after plan past run.lpid (page_of plan gpa)).mover
+
+-- these accesses answer Again, and nothing else does
+abbrev pub AgainExactlyWhere : Type 0
+AgainExactlyWhere = (plan : Plan) (past : List Event) (e : Event) → Extends plan past e → (e.trace.answer ≡ answer.Again) ↔ MeetsMover plan past e
+
+-- the real address at which a command loads or stores
+abbrev pub real_address_in : Cmd → Option ℕ
+real_address_in (HLd ra) = Some ra
+real_address_in (HSt ra value) = Some ra
+real_address_in cmd = None
+
+-- whether a command in a context loads or stores
+abbrev pub is_access_in : Ctx → Cmd → Bool
+is_access_in ctx.Hv cmd = is_some (real_address_in cmd)
+is_access_in (ctx.Uv work) cmd = false
+is_access_in (ctx.Guest run) cmd = is_some (guest_address_in cmd)
+
+-- a real address is none of a doubleword of normal memory
+abbrev pub IsOutside : Plan → ℕ → Type 0
+IsOutside plan ra = (ra % 8 ≢ 0) ⊎ (plan.normal ≤ frame_of plan ra)
+
+-- a page of this kind is out of reach: it is Out or Shared, or Invalid and no secure frame is free
+abbrev pub IsOutOfReach : Kind → ℕ → Type 0
+IsOutOfReach Invalid free = free ≡ 0
+IsOutOfReach Secure free = ⊥
+IsOutOfReach Out free = Unit {0}
+IsOutOfReach (Shared frame fresh) free = Unit {0}
+
+-- an address of a guest that isn't Normal can't be accessed: it is none of a doubleword of a page, or its page is at rest and out of reach
+abbrev pub CannotBeAccessed : Plan → GuestPart → ℕ → ℕ → Type 0
+CannotBeAccessed plan g free gpa = (gpa % 8 ≢ 0) ⊎ ((plan.pages ≤ page_of plan gpa) ⊎ (((g.pages (page_of plan gpa)).mover ≡ None) × IsOutOfReach (g.pages (page_of plan gpa)).kind free))
+
+-- where Hole comes
+pub record HoleComes (plan : Plan) (past : List Event) (e : Event) : Type 0 where
+  -- at a load or store of the hypervisor exactly outside normal memory
+  pub hypervisor : (ra : ℕ) → e.saw.before ≡ ctx.Hv → real_address_in e.trace.cmd ≡ Some ra → (e.trace.answer ≡ answer.Hole) ↔ IsOutside plan ra
+  -- at a load or store of a guest that isn't Normal exactly where the address can't be accessed
+  pub guest : (run : Run) (gpa : ℕ) → IsAccess plan past e run gpa → (part_after plan past run.lpid).phase ≢ Normal →
+      (e.trace.answer ≡ answer.Hole) ↔ CannotBeAccessed plan (part_after plan past run.lpid) (pool_after plan past) gpa
+  -- at no other entry
+  pub others : e.trace.answer ≡ answer.Hole → is_access_in e.saw.before e.trace.cmd ≡ true
+
+abbrev pub HoleExactlyWhere : Type 0
+HoleExactlyWhere = (plan : Plan) (past : List Event) (e : Event) → Extends plan past e → HoleComes plan past e
+
+-- whether a command is one of a context
+abbrev pub is_command_in : Ctx → Cmd → Bool
+is_command_in ctx.Hv (HLd ra) = true
+is_command_in ctx.Hv (HSt ra value) = true
+is_command_in ctx.Hv (UPagein lpid src gpa flags order) = true
+is_command_in ctx.Hv (UPageout lpid dest gpa flags order) = true
+is_command_in ctx.Hv (UReturn r0 r2 outs) = true
+is_command_in (ctx.Uv work) Go = true
+is_command_in (ctx.Guest run) (UPagein lpid src gpa flags order) = true
+is_command_in (ctx.Guest run) (UPageout lpid dest gpa flags order) = true
+is_command_in (ctx.Guest run) (UReturn r0 r2 outs) = true
+is_command_in (ctx.Guest run) (GLi rd value) = true
+is_command_in (ctx.Guest run) (GLd rd gpa) = true
+is_command_in (ctx.Guest run) (GSt rs gpa) = true
+is_command_in (ctx.Guest run) GIrq = true
+is_command_in before cmd = false
+
+-- an entry changes no guest, no normal frame, and not the pool
+pub record ChangesNoMemory (plan : Plan) (past : List Event) (e : Event) : Type 0 where
+  pub guests : (lpid : ℕ) → guest_after plan lpid (e ∷ past) ≡ guest_after plan lpid past
+  pub pool : pool_after plan (e ∷ past) ≡ pool_after plan past
+  pub frames : (n : ℕ) → frame_after plan n (e ∷ past) ≡ frame_after plan n past
+
+-- where Context comes: exactly at a command that is none of its CPU's context, and nothing changes there
+pub record ContextComes (plan : Plan) (past : List Event) (e : Event) : Type 0 where
+  pub comes : (e.trace.answer ≡ answer.Context) ↔ (is_command_in e.saw.before e.trace.cmd ≡ false)
+  pub cpus : e.trace.answer ≡ answer.Context → (n : ℕ) → cpu_after plan n (e ∷ past) ≡ cpu_after plan n past
+  pub rest : e.trace.answer ≡ answer.Context → ChangesNoMemory plan past e
+
+abbrev pub ContextExactlyWhere : Type 0
+ContextExactlyWhere = (plan : Plan) (past : List Event) (e : Event) → Extends plan past e → ContextComes plan past e
+
+-- an entry is a command of a vCPU under another generation than its guest's
+pub record IsOfAnEndedGuest (plan : Plan) (past : List Event) (e : Event) : Type 0 where
+  pub run : Run
+  pub before : e.saw.before ≡ ctx.Guest run
+  pub cmd_is : is_command_in e.saw.before e.trace.cmd ≡ true
+  pub generation : run.generation ≢ (part_after plan past run.lpid).generation
+
+-- the CPU of a guest that has ended: the hypervisor runs, and its registers show zeros
+abbrev pub gone_cpu : CpuPart → CpuPart
+gone_cpu cpu = record cpu { ctx = ctx.Hv; own = zero_registers; last = answer.Gone }
+
+-- where Gone comes: exactly at these commands, which change their CPU alone
+pub record GoneComes (plan : Plan) (past : List Event) (e : Event) : Type 0 where
+  pub comes : (e.trace.answer ≡ answer.Gone) ↔ IsOfAnEndedGuest plan past e
+  pub cpu : e.trace.answer ≡ answer.Gone → cpu_after plan e.trace.cpu (e ∷ past) ≡ gone_cpu (cpu_after plan e.trace.cpu past)
+  pub rest : e.trace.answer ≡ answer.Gone → ChangesNoMemory plan past e
+
+abbrev pub GoneExactlyWhere : Type 0
+GoneExactlyWhere = (plan : Plan) (past : List Event) (e : Event) → Extends plan past e → GoneComes plan past e

@@ -1,0 +1,28 @@
+-- Laws of tags: their bytes tell them apart, and so do the vault's sealed pages; and which bytes the keystream of a tag has.
+use Rattle.std.specs.Prelude.{◌≡◌, ℕ, ◌+◌, ◌*◌, ◌^◌, ◌<◌, true, List, ◌++◌, slice_index}
+use Rattle.byteorder.specs.Endian.{big_bytes}
+use Rattle.sha2.specs.Sha256.{sha256}
+use Rattle.pef_model.specs.declared.config.Config.{Config}
+use Rattle.pef_model.specs.declared.state.Tag.{Tag}
+use Rattle.pef_model.specs.Seal.{tag_bytes, keystream, image}
+
+-- each number of a tag is a doubleword
+pub record HasDoublewords (tag : Tag) : Type 0 where
+  pub lpid : tag.lpid < 2 ^ 64
+  pub generation : tag.generation < 2 ^ 64
+  pub gfn : tag.gfn < 2 ^ 64
+  pub version : tag.version < 2 ^ 64
+
+-- tags with the same bytes are one
+abbrev pub TagBytesTell : Type 0
+TagBytesTell = (one other : Tag) → HasDoublewords one → HasDoublewords other → tag_bytes one ≡ tag_bytes other → one ≡ other
+
+-- and so are those of the same sealed pages of a vault, whatever the pages hold
+abbrev pub VaultImagesDiffer : Type 0
+VaultImagesDiffer =
+    (config : Config) (one other : Tag) (plain other_plain : List ℕ) → config.vault ≡ true → HasDoublewords one → HasDoublewords other →
+    image config one plain ≡ image config other other_plain → one ≡ other
+
+-- each byte of a keystream: byte k of the SHA-256 of the key, the tag's bytes and the block's number as a doubleword
+abbrev pub KeystreamHasBlocks : Type 0
+KeystreamHasBlocks = (key : List ℕ) (tag : Tag) (j k : ℕ) → k < 32 → keystream key tag (32 * j + k) ≡ slice_index (sha256 (key ++ (tag_bytes tag ++ big_bytes 8 j))) k

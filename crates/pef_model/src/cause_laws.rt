@@ -1,0 +1,88 @@
+//! The laws of answers and their causes, and of what guests keep: each is the contract of a function that does nothing.
+
+ghost use Rattle.pef_model.specs.CauseLaw.{BusyExactlyWhere, AgainExactlyWhere, HoleExactlyWhere, ContextExactlyWhere, GoneExactlyWhere};
+ghost use Rattle.pef_model.specs.OldMoveLaw.{OldMovesChangeNothing};
+ghost use Rattle.pef_model.specs.ToldLaw.{AccessTellsItsFrame, EntryAtGuestIsTold};
+ghost use Rattle.pef_model.specs.GuestLaw.{InvalidPageIsZero, WordsAreCounted, CleanIsEachGuests};
+ghost use Rattle.pef_model.specs.TagLaw.{TagBytesTell, VaultImagesDiffer, KeystreamHasBlocks};
+ghost use Rattle.pef_model.specs.StartLaw.{StartsAs};
+
+/// U_BUSY comes exactly at UV_PAGE_IN and UV_PAGE_OUT of the hypervisor with right operands: at a page-in where the page has
+/// a mover or no secure frame is free, at a page-out of a page that isn't Shared where the guest is Starting or the page has
+/// a mover.
+pub fn busy_exactly_where()
+    ensures { BusyExactlyWhere }
+{}
+
+/// Again comes exactly at a vCPU's load or store in a page with a mover, of a guest that isn't Normal, under its generation.
+pub fn again_exactly_where()
+    ensures { AgainExactlyWhere }
+{}
+
+/// Hole comes at loads and stores alone: of the hypervisor exactly outside normal memory, of a guest that isn't Normal exactly
+/// at an address in no page, or in a page at rest that is Out or Shared, or Invalid while no secure frame is free.
+pub fn hole_exactly_where()
+    ensures { HoleExactlyWhere }
+{}
+
+/// Context comes exactly at a command that is none of its CPU's context, and changes nothing.
+pub fn context_exactly_where()
+    ensures { ContextExactlyWhere }
+{}
+
+/// Gone comes exactly at a command of a vCPU that comes under another generation than its guest's, and changes its CPU alone:
+/// the hypervisor runs, and sees zeros.
+pub fn gone_exactly_where()
+    ensures { GoneExactlyWhere }
+{}
+
+/// The end of a page's move under another generation than its guest's answers U_PARAMETER and changes its CPU alone; its copy
+/// still copies.
+pub fn old_moves_change_nothing()
+    ensures { OldMovesChangeNothing }
+{}
+
+/// An access of a vCPU that is done tells the normal frame that it meets, and none where it meets none.
+pub fn access_tells_its_frame()
+    ensures { AccessTellsItsFrame }
+{}
+
+/// An entry at a guest follows from the guest, the command and what the entry tells of all else.
+pub fn entry_at_guest_is_told()
+    ensures { EntryAtGuestIsTold }
+{}
+
+/// After a legal history a page that is Invalid holds 0 at each of its addresses.
+pub fn invalid_page_is_zero()
+    ensures { InvalidPageIsZero }
+{}
+
+/// The number of a guest's entropy words that is public is that of the words that are left.
+pub fn words_are_counted()
+    ensures { WordsAreCounted }
+{}
+
+/// A history has no digest collision exactly where no guest has met one, which the entries that touch the guest tell.
+pub fn clean_is_each_guests()
+    ensures { CleanIsEachGuests }
+{}
+
+/// Tags with the same bytes are one.
+pub fn tag_bytes_tell()
+    ensures { TagBytesTell }
+{}
+
+/// The sealed pages that a vault makes under two tags differ.
+pub fn vault_images_differ()
+    ensures { VaultImagesDiffer }
+{}
+
+/// Which byte of which digest each byte of a keystream is.
+pub fn keystream_has_blocks()
+    ensures { KeystreamHasBlocks }
+{}
+
+/// What each guest, vCPU, page, CPU and frame starts with.
+pub fn starts_as()
+    ensures { StartsAs }
+{}
