@@ -81,3 +81,4 @@ pub mod GuestsKeep
 pub mod BusyAnswers
 mod Unworded
 mod Taken
+mod AnswerRows

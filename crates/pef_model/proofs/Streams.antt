@@ -11,7 +11,7 @@ xor_twice : (a b : ℕ) → bit_xor (bit_xor a b) b ≡ a
 xor_twice a b = xor_assoc a b b ∙ ap (bit_xor a) (xor_self b) ∙ xor_zero_r a
 
 -- byte i of a sealed page
-stream_image-byte : (key : List ℕ) (tag : Tag) (plain : List ℕ) (i : ℕ) → i < length plain →
+pub stream_image-byte : (key : List ℕ) (tag : Tag) (plain : List ℕ) (i : ℕ) → i < length plain →
     slice_index (stream_image key tag plain) i ≡ bit_xor (slice_index plain i) (keystream key tag i)
 stream_image-byte key tag plain i within =
     get_or-map-range_with_len (λ (k : ℕ). bit_xor (slice_index plain k) (keystream key tag k)) 0 (length plain) i i 0 within (omega arith)

@@ -1,10 +1,12 @@
 -- The bytes of a tag tell it, and where the bytes of a keystream stand.
-use Rattle.std.proofs.Common.{◌≡◌, ℕ, ◌+◌, ◌*◌, ◌/◌, ◌%◌, ◌-◌, ◌^◌, List, [], ◌++◌, drop, replicate, Bool, if◌then◌else◌, ap, sym, ◌∙◌, arith, slice_index}
+use Rattle.std.proofs.Common.{◌≡◌, ℕ, ◌+◌, ◌*◌, ◌/◌, ◌%◌, ◌-◌, ◌^◌, List, [], ◌++◌, drop, replicate, Bool, if◌then◌else◌, ap, sym, ◌∙◌, arith, length, slice_index}
 use Rattle.byteorder.specs.Endian.{big_number, big_bytes}
 use Rattle.byteorder.specs.Numbers.{big_number-reads_back}
 use Rattle.pef_model.specs.declared.state.Tag.{Tag}
 use Rattle.pef_model.specs.Seal.{tag_bytes, vault_image, stream_image, keystream_block, image}
-use Rattle.pef_model.specs.TagLaw.{HasDoublewords, TagBytesTell, VaultImagesDiffer, KeystreamHasBlocks}
+use Rattle.pef_model.specs.TagLaw.{HasDoublewords, TagBytesTell, VaultImagesDiffer, KeystreamHasBlocks, StreamSealsEachByte}
+use Rattle.pef_model.proofs.Filled.{length-stream_image}
+use Rattle.pef_model.proofs.Streams.{stream_image-byte}
 
 -- the numbers of a tag stand in its bytes, whatever follows them
 record Reads (tag : Tag) (bytes : List ℕ) : Type 0 where
@@ -53,3 +55,12 @@ keystream_has_blocks key tag j k small =
     let block : (32 * j + k) / 32 ≡ j = omega arith in
     let byte : (32 * j + k) % 32 ≡ k = omega arith in
     ap (λ (n : ℕ). slice_index (keystream_block key tag n) ((32 * j + k) % 32)) block ∙ ap (slice_index (keystream_block key tag j)) byte
+
+-- a sealed page of the stream is the exclusive-or
+pub stream_seals_each_byte : StreamSealsEachByte
+stream_seals_each_byte config tag plain stream = record {
+  length_ = ap (length {A = ℕ}) open_ ∙ length-stream_image config.key tag plain;
+  byte = λ i within. ap (λ (page : List ℕ). slice_index page i) open_ ∙ stream_image-byte config.key tag plain i within;
+} where
+  open_ : image config tag plain ≡ stream_image config.key tag plain
+  open_ = ap (λ (b : Bool). if b then vault_image (2 ^ config.shift) tag else stream_image config.key tag plain) stream

@@ -1,13 +1,14 @@
 -- No two page-outs of a history seal under one tag.
-use Rattle.std.proofs.Common.{◌≡◌, ℕ, ◌+◌, ◌<◌, List, ◌∷◌, ◌++◌, Bool, true, cond, ap, ◌∙◌, arith}
+use Rattle.std.proofs.Common.{◌≡◌, ◌≢◌, ℕ, ◌+◌, ◌<◌, List, ◌∷◌, ◌++◌, Bool, true, cond, ap, ◌∙◌, arith}
 use Rattle.std.specs.List.{count_by}
 use Rattle.std.proofs.lemmas.List.Sums.{sum_by-append, sum_by-cons}
 use Rattle.pef_model.specs.declared.state.Tag.{Tag}
 use Rattle.pef_model.specs.Plan.{Plan}
 use Rattle.pef_model.specs.Event.{Event}
 use Rattle.pef_model.specs.History.{IsLegal}
-use Rattle.pef_model.specs.MoveLaw.{begins_out, page_after, NoTagTwice}
+use Rattle.pef_model.specs.MoveLaw.{begins_out, page_after, sealing_tag, NoTagTwice}
 use Rattle.pef_model.proofs.Begun.{legal_before, version_counts}
+use Rattle.pef_model.proofs.TagBytes.{tag_bytes_tell}
 
 -- what is added to a list beside an element that counts leaves more that count
 more_counted : {X : Type 0} (p : X → Bool) (since past : List X) (x : X) → p x ≡ true → count_by p past < count_by p (since ++ x ∷ past)
@@ -28,8 +29,9 @@ version_rises plan past since e lpid gfn legal begins =
     omega (arith, old, new, more)
 
 -- so its tag is another, and another page's is too
-pub no_tag_twice : NoTagTwice
-no_tag_twice plan past since e f lpid gfn other_lpid other_gfn legal begins other_begins same =
+tags_differ : (plan : Plan) (past since : List Event) (e f : Event) (lpid gfn other_lpid other_gfn : ℕ) → IsLegal plan (f ∷ (since ++ e ∷ past)) → begins_out plan lpid gfn e ≡ true →
+    begins_out plan other_lpid other_gfn f ≡ true → sealing_tag plan past lpid gfn ≢ sealing_tag plan (since ++ e ∷ past) other_lpid other_gfn
+tags_differ plan past since e f lpid gfn other_lpid other_gfn legal begins other_begins same =
     let later : List Event = since ++ e ∷ past in
     let rises = version_rises plan past since e lpid gfn legal.1 begins in
     let same_lpid : lpid ≡ other_lpid = ap (λ (tag : Tag). tag.lpid) same in
@@ -37,3 +39,11 @@ no_tag_twice plan past since e f lpid gfn other_lpid other_gfn legal begins othe
     let same_page = ap (λ (l : ℕ). (page_after plan later l gfn).version) same_lpid ∙ ap (λ (g : ℕ). (page_after plan later other_lpid g).version) same_gfn in
     let same_version : (page_after plan past lpid gfn).version + 1 ≡ (page_after plan later other_lpid other_gfn).version + 1 = ap (λ (tag : Tag). tag.version) same in
     omega (arith, rises, same_page, same_version)
+
+pub no_tag_twice : NoTagTwice
+no_tag_twice plan past since e f lpid gfn other_lpid other_gfn legal begins other_begins = record {
+  tags = differ;
+  bytes = λ has has_too same. differ (tag_bytes_tell (sealing_tag plan past lpid gfn) (sealing_tag plan (since ++ e ∷ past) other_lpid other_gfn) has has_too same);
+} where
+  differ : sealing_tag plan past lpid gfn ≢ sealing_tag plan (since ++ e ∷ past) other_lpid other_gfn
+  differ = tags_differ plan past since e f lpid gfn other_lpid other_gfn legal begins other_begins

@@ -46,3 +46,6 @@ pub mod ToldLaw
 pub mod GuestLaw
 pub mod TagLaw
 pub mod StartLaw
+pub mod AnswerLaw
+pub mod PhaseLaw
+pub mod PublicLaw

@@ -20,7 +20,8 @@ use Rattle.pef_model.specs.declared.entry.Answer.TheVariants as answer
 use Rattle.pef_model.specs.Plan.{Plan, IsWithin, IsInRange, plan_of}
 use Rattle.pef_model.specs.Event.{Event}
 use Rattle.pef_model.specs.Doubleword.{doubleword}
-use Rattle.pef_model.specs.Seal.{image}
+use Rattle.pef_model.specs.Seal.{tag_bytes, image}
+use Rattle.pef_model.specs.TagLaw.{HasDoublewords}
 use Rattle.pef_model.specs.Target.{frame_of}
 use Rattle.pef_model.specs.GuestPart.{Page, page_of}
 use Rattle.pef_model.specs.PageOut.{tag_of, page_bytes}
@@ -110,12 +111,17 @@ VersionsCountPageOuts =
 abbrev pub sealing_tag : Plan → List Event → ℕ → ℕ → Tag
 sealing_tag plan past lpid gfn = tag_of (guest_after plan lpid past).part lpid gfn ((page_after plan past lpid gfn).version + 1)
 
+-- two tags differ, and so do their bytes where their numbers are doublewords
+pub record AreApart (one other : Tag) : Type 0 where
+  pub tags : one ≢ other
+  pub bytes : HasDoublewords one → HasDoublewords other → tag_bytes one ≢ tag_bytes other
+
 -- no two page-outs of a history seal under one tag
 abbrev pub NoTagTwice : Type 0
 NoTagTwice =
     (plan : Plan) (past since : List Event) (e f : Event) (lpid gfn other_lpid other_gfn : ℕ) →
     IsLegal plan (f ∷ (since ++ e ∷ past)) → begins_out plan lpid gfn e ≡ true → begins_out plan other_lpid other_gfn f ≡ true →
-    sealing_tag plan past lpid gfn ≢ sealing_tag plan (since ++ e ∷ past) other_lpid other_gfn
+    AreApart (sealing_tag plan past lpid gfn) (sealing_tag plan (since ++ e ∷ past) other_lpid other_gfn)
 
 -- what a page-out that begins seals, of a guest that is to stay secure, is the image of the page of last_store, under the tag of the page's next version
 abbrev pub PageOutSealsLastStore : Type 0

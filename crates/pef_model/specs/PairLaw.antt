@@ -8,13 +8,17 @@ use Rattle.pef_model.specs.Run.{run_of}
 use Rattle.pef_model.specs.History.{last_store}
 use Rattle.pef_model.specs.View.{view}
 use Rattle.pef_model.specs.Alike.{IsAlike}
-use Rattle.pef_model.specs.SeenReport.{all_sealed}
+use Rattle.pef_model.specs.SeenReport.{DifferInSecrets, all_sealed}
 use Rattle.pef_model.specs.RunLaw.{small_config, line_at, return_with, page_out_script}
+
+-- a secret as the guest's entropy word
+abbrev pub secret_config : ℕ → Config
+secret_config secret = record small_config { entropy = record { lpid = 1; left = secret; right = 0 } ∷ [] }
 
 -- a guest stores a value and loads it, while the hypervisor works on another CPU; an interrupt takes the guest from its CPU, and it goes on on the other
 abbrev pub secret_script : ℕ → Script
 secret_script secret = record {
-  config = small_config;
+  config = secret_config secret;
   lines =
       line_at 1 0 (return_with 0) ∷ line_at 2 0 (GLi 20 secret) ∷ line_at 3 0 (GSt 20 0x8) ∷ line_at 4 1 (HSt 0x10 5) ∷ line_at 5 0 (GLd 6 0x8)
       ∷ line_at 6 1 (HLd 0x10) ∷ line_at 7 1 (return_with 0) ∷ line_at 8 0 (UReturn 1 2 (replicate 9 3)) ∷ line_at 9 0 GIrq
@@ -23,12 +27,16 @@ secret_script secret = record {
 
 -- the runs of that script with two secrets
 pub record ASecretDiffers (one other : ℕ) : Type 0 where
+  -- the scripts differ, in secrets alone: in the value of a line and in an entropy word
+  pub apart : secret_script one ≢ secret_script other
+  pub words : (plan_of (secret_config one)).entropy 1 ≢ (plan_of (secret_config other)).entropy 1
+  pub scripts : DifferInSecrets (secret_script one) (secret_script other)
   -- the guest's memory differs
-  pub stored : last_store (plan_of small_config) (run_of (secret_script one)) 1 0x8 ≡ one
-  pub other_stored : last_store (plan_of small_config) (run_of (secret_script other)) 1 0x8 ≡ other
+  pub stored : last_store (plan_of (secret_config one)) (run_of (secret_script one)) 1 0x8 ≡ one
+  pub other_stored : last_store (plan_of (secret_config other)) (run_of (secret_script other)) 1 0x8 ≡ other
   -- the runs are alike, and show the hypervisor the same
-  pub alike : IsAlike small_config (run_of (secret_script one)) small_config (run_of (secret_script other))
-  pub seen : view (plan_of small_config) (run_of (secret_script one)) ≡ view (plan_of small_config) (run_of (secret_script other))
+  pub alike : IsAlike (secret_config one) (run_of (secret_script one)) (secret_config other) (run_of (secret_script other))
+  pub seen : view (plan_of (secret_config one)) (run_of (secret_script one)) ≡ view (plan_of (secret_config other)) (run_of (secret_script other))
 
 -- a guest that stores 7, and one that stores 9
 abbrev pub SecretStaysIn : Type 0

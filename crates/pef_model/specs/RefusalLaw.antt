@@ -1,9 +1,10 @@
 -- Refusals, computed: each call with each of its codes, where what would be refused later is wrong too.
-use Rattle.std.specs.Prelude.{◌≡◌, ℕ, List, [], ◌∷◌, ◌++◌, map}
+use Rattle.std.specs.Prelude.{◌≡◌, ℕ, true, List, [], ◌∷◌, ◌++◌, map}
+use Rattle.pef_model.specs.declared.config.Config.{Config}
 use Rattle.pef_model.specs.declared.command.Code.{Code}
 use Rattle.pef_model.specs.declared.command.Code.TheVariants.{USuccess, UParameter, UP2, UP3, UP4, UP5, UFunction, UBusy, UPermission, UInvalid}
 use Rattle.pef_model.specs.declared.command.Cmd.{Cmd}
-use Rattle.pef_model.specs.declared.command.Cmd.TheVariants.{HLd, HSt, UPagein, UPageout, GLd, GSt, GIrq, Go}
+use Rattle.pef_model.specs.declared.command.Cmd.TheVariants.{HLd, HSt, UPagein, UPageout, GLi, GLd, GSt, GIrq, Go}
 use Rattle.pef_model.specs.declared.entry.Exit.TheVariants.{Irq}
 use Rattle.pef_model.specs.declared.entry.Answer.{Answer}
 use Rattle.pef_model.specs.declared.entry.Answer.TheVariants.{Done, Val, Ret, Step, Enter, Exit, Hole, Again, Context}
@@ -81,3 +82,24 @@ abbrev pub NormalAtTheEdge : Type 0
 NormalAtTheEdge =
     answers_of (line_at 1 0 (HLd 0x4) ∷ line_at 2 0 (HSt 0x4fc 1) ∷ line_at 3 0 (HLd 0x500) ∷ line_at 4 0 (HSt 0x500 1) ∷ line_at 5 0 (HSt 0x4f8 5) ∷ line_at 6 1 (HLd 0x4f8) ∷ line_at 7 1 (HLd 0x4f0) ∷ [])
     ≡ Hole ∷ Hole ∷ Hole ∷ Hole ∷ Done ∷ Val 5 ∷ Val 0 ∷ []
+
+-- a machine whose pages have 512 bytes, three normal frames and three pages
+abbrev pub wide_config : Config
+wide_config = record small_config { shift = 9; normal = 3; secure = 2; pages = 3; vault = true }
+
+-- its guest stores in the last doubleword of page 1. Out and in again: frames that begin at 256 bytes, past the last frame; addresses that begin at 256 bytes, past the last page; a flag and a snapshot
+-- above 2^32, the flag after the last; the orders just beside the page's; what is right. Then the tag in the last frame, its page's number, and what lies in the frame before
+abbrev pub PagesOf512Bytes : Type 0
+PagesOf512Bytes =
+    answers_on wide_config
+    (line_at 1 0 (return_with 0) ∷ line_at 2 0 (GLi 20 7) ∷ line_at 3 0 (GSt 20 0x3f8) ∷ line_at 4 0 GIrq
+    ∷ line_at 5 0 (UPageout 1 0x100 0x200 0 9) ∷ line_at 6 0 (UPageout 1 0x600 0x200 0 9) ∷ line_at 7 0 (UPageout 1 0x400 0x300 0 9) ∷ line_at 8 0 (UPageout 1 0x400 0x600 0 9)
+    ∷ line_at 9 0 (UPageout 1 0x400 0x200 0x100000000 9) ∷ line_at 10 0 (UPageout 1 0x400 0x200 0x100000001 9) ∷ line_at 11 0 (UPageout 1 0x400 0x200 0 8)
+    ∷ line_at 12 0 (UPageout 1 0x400 0x200 0 10) ∷ line_at 13 0 (UPageout 1 0x400 0x200 0 9) ∷ go_all_at 14 0
+    ∷ line_at 15 0 (HLd 0x400) ∷ line_at 16 0 (HLd 0x410) ∷ line_at 17 0 (HLd 0x200)
+    ∷ line_at 18 0 (UPagein 1 0x500 0x200 0 9) ∷ line_at 19 0 (UPagein 1 0x600 0x200 0 9) ∷ line_at 20 0 (UPagein 1 0x400 0x100 0 9) ∷ line_at 21 0 (UPagein 1 0x400 0x600 0 9)
+    ∷ line_at 22 0 (UPagein 1 0x400 0x200 0x100000000 9) ∷ line_at 23 0 (UPagein 1 0x400 0x200 8 9) ∷ line_at 24 0 (UPagein 1 0x400 0x200 7 8)
+    ∷ line_at 25 0 (UPagein 1 0x400 0x200 7 10) ∷ line_at 26 0 (UPagein 1 0x400 0x200 7 9) ∷ go_all_at 27 0
+    ∷ line_at 28 0 (return_with 0) ∷ line_at 29 0 (GLd 6 0x3f8) ∷ line_at 30 0 (GLd 6 0x600) ∷ [])
+    ≡ stored ++ (rets (UP2 ∷ UP2 ∷ UP3 ∷ UP3 ∷ UP4 ∷ UP4 ∷ UP5 ∷ UP5 ∷ []) ++ (moved ++ (Val 1 ∷ Val 1 ∷ Val 0 ∷ []))
+    ++ (rets (UP2 ∷ UP2 ∷ UP3 ∷ UP3 ∷ UP4 ∷ UP4 ∷ UP5 ∷ UP5 ∷ []) ++ (moved ++ (Enter ∷ Val 7 ∷ Hole ∷ []))))

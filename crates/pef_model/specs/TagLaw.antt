@@ -1,5 +1,5 @@
 -- Laws of tags: their bytes tell them apart, and so do the vault's sealed pages; and which bytes the keystream of a tag has.
-use Rattle.std.specs.Prelude.{◌≡◌, ℕ, ◌+◌, ◌*◌, ◌^◌, ◌<◌, true, List, ◌++◌, slice_index}
+use Rattle.std.specs.Prelude.{◌≡◌, ℕ, ◌+◌, ◌*◌, ◌^◌, ◌<◌, true, false, List, ◌++◌, length, slice_index, bit_xor}
 use Rattle.byteorder.specs.Endian.{big_bytes}
 use Rattle.sha2.specs.Sha256.{sha256}
 use Rattle.pef_model.specs.declared.config.Config.{Config}
@@ -26,3 +26,11 @@ VaultImagesDiffer =
 -- each byte of a keystream: byte k of the SHA-256 of the key, the tag's bytes and the block's number as a doubleword
 abbrev pub KeystreamHasBlocks : Type 0
 KeystreamHasBlocks = (key : List ℕ) (tag : Tag) (j k : ℕ) → k < 32 → keystream key tag (32 * j + k) ≡ slice_index (sha256 (key ++ (tag_bytes tag ++ big_bytes 8 j))) k
+
+-- a sealed page of the stream is as long as the page, and each byte of it is the page's with the keystream's by exclusive-or
+pub record SealsEachByte (config : Config) (tag : Tag) (plain : List ℕ) : Type 0 where
+  pub length_ : length (image config tag plain) ≡ length plain
+  pub byte : (i : ℕ) → i < length plain → slice_index (image config tag plain) i ≡ bit_xor (slice_index plain i) (keystream config.key tag i)
+
+abbrev pub StreamSealsEachByte : Type 0
+StreamSealsEachByte = (config : Config) (tag : Tag) (plain : List ℕ) → config.vault ≡ false → SealsEachByte config tag plain

@@ -1,11 +1,18 @@
 //! The laws of answers and their causes, and of what guests keep: each is the contract of a function that does nothing.
 
 ghost use Rattle.pef_model.specs.CauseLaw.{BusyExactlyWhere, AgainExactlyWhere, HoleExactlyWhere, ContextExactlyWhere, GoneExactlyWhere};
+ghost use Rattle.pef_model.specs.AnswerLaw.{EachAnswerIsOfItsRow};
 ghost use Rattle.pef_model.specs.OldMoveLaw.{OldMovesChangeNothing};
 ghost use Rattle.pef_model.specs.ToldLaw.{AccessTellsItsFrame, EntryAtGuestIsTold};
 ghost use Rattle.pef_model.specs.GuestLaw.{InvalidPageIsZero, WordsAreCounted, CleanIsEachGuests};
-ghost use Rattle.pef_model.specs.TagLaw.{TagBytesTell, VaultImagesDiffer, KeystreamHasBlocks};
+ghost use Rattle.pef_model.specs.TagLaw.{TagBytesTell, VaultImagesDiffer, KeystreamHasBlocks, StreamSealsEachByte};
+ghost use Rattle.pef_model.specs.PublicLaw.{PublicStateHasObjects, AuthorityIsByKind};
 ghost use Rattle.pef_model.specs.StartLaw.{StartsAs};
+
+/// Each command has, in each context, one of the answers of its row, and in a context that isn't its own Context alone.
+pub fn each_answer_is_of_its_row()
+    ensures { EachAnswerIsOfItsRow }
+{}
 
 /// U_BUSY comes exactly at UV_PAGE_IN and UV_PAGE_OUT of the hypervisor with right operands: at a page-in where the page has
 /// a mover or no secure frame is free, at a page-out of a page that isn't Shared where the guest is Starting or the page has
@@ -80,6 +87,22 @@ pub fn vault_images_differ()
 /// Which byte of which digest each byte of a keystream is.
 pub fn keystream_has_blocks()
     ensures { KeystreamHasBlocks }
+{}
+
+/// A sealed page of the stream is as long as the page, and each byte of it is the page's with the keystream's by exclusive-or.
+pub fn stream_seals_each_byte()
+    ensures { StreamSealsEachByte }
+{}
+
+/// The public state has the CPUs, what is public of the guests, the number of free frames and the normal frames.
+pub fn public_state_has_objects()
+    ensures { PublicStateHasObjects }
+{}
+
+/// Of a Secure page its secure frame counts, of one that is Out its last sealed bytes, of a Shared one its normal frame, and
+/// of each other no copy.
+pub fn authority_is_by_kind()
+    ensures { AuthorityIsByKind }
 {}
 
 /// What each guest, vCPU, page, CPU and frame starts with.

@@ -1,6 +1,7 @@
 //! Refusals, names and numbers, computed from the definitions: each is the contract of a function that does nothing.
 
-ghost use Rattle.pef_model.specs.RefusalLaw.{PageOutRefusals, PageInRefusals, NoFrameIsFree, TheLastGuest, AGuestMeanwhile, AGuestMeanwhileIn, NormalAtTheEdge};
+ghost use Rattle.pef_model.specs.RefusalLaw.{PageOutRefusals, PageInRefusals, NoFrameIsFree, TheLastGuest, AGuestMeanwhile, AGuestMeanwhileIn, NormalAtTheEdge, PagesOf512Bytes};
+ghost use Rattle.pef_model.specs.PhaseLaw.{TablesByPhase};
 ghost use Rattle.pef_model.specs.NameLaw.{EachNameIsWritten, FrameHasItsLine, AreNumbers, AreRead};
 
 /// The codes of UV_PAGE_OUT, each where what would be refused later is wrong too.
@@ -36,6 +37,17 @@ pub fn a_guest_meanwhile_in()
 /// Which real addresses the hypervisor can load and store.
 pub fn normal_at_the_edge()
     ensures { NormalAtTheEdge }
+{}
+
+/// Page moves on a machine whose pages have 512 bytes, each operand just beside a right one, and right.
+pub fn pages_of_512_bytes()
+    ensures { PagesOf512Bytes }
+{}
+
+/// What UV_RETURN, UV_PAGE_OUT, UV_PAGE_IN and a load answer, and what an access meets, in a guest of each phase with a page of
+/// each kind; also where no script brings a guest or a page there.
+pub fn tables_by_phase()
+    ensures { TablesByPhase }
 {}
 
 /// A report with each command's name, each code and each answer that a run gives.

@@ -1,0 +1,9 @@
+use Rattle.std.proofs.Common.{refl}
+use Rattle.pef_model.specs.Seal.{tag_bytes}
+use Rattle.pef_model.specs.Doubleword.{doubleword, with_doubleword}
+use Rattle.pef_model.proofs.refusal_laws.pages_of_512_bytes.Goals as goal
+
+-- computed from the definitions
+pub returns : goal.returns
+unfolding tag_bytes doubleword with_doubleword
+returns c = refl

@@ -1,0 +1,135 @@
+-- Tables, computed of guests made by hand: what each phase and each kind of page let the hypervisor do, and what an access meets.
+use Rattle.std.specs.Prelude.{◌≡◌, ℕ, Bool, true, false, List, [], ◌∷◌, map, replicate, Option, Some, None}
+use Rattle.pef_model.specs.declared.state.Phase.{Phase}
+use Rattle.pef_model.specs.declared.state.Phase.TheVariants as phase
+use Rattle.pef_model.specs.declared.state.Kind.{Kind}
+use Rattle.pef_model.specs.declared.state.Kind.TheVariants.{Invalid, Secure, Out, Shared}
+use Rattle.pef_model.specs.declared.state.Way.{Way}
+use Rattle.pef_model.specs.declared.state.Way.TheVariants.{Inward, Outward}
+use Rattle.pef_model.specs.declared.state.Pending.TheVariants.{Irq}
+use Rattle.pef_model.specs.declared.state.VState.{VState}
+use Rattle.pef_model.specs.declared.state.VState.TheVariants.{Idle, Fresh, Running, Parked}
+use Rattle.pef_model.specs.declared.state.Ctx.{Ctx}
+use Rattle.pef_model.specs.declared.state.Ctx.TheVariants as ctx
+use Rattle.pef_model.specs.declared.command.Code.TheVariants.{USuccess, UParameter, UP3, UBusy, UInvalid}
+use Rattle.pef_model.specs.declared.command.Cmd.{Cmd}
+use Rattle.pef_model.specs.declared.command.Cmd.TheVariants.{GLd}
+use Rattle.pef_model.specs.declared.entry.Answer.{Answer}
+use Rattle.pef_model.specs.declared.entry.Answer.TheVariants.{Val, Ret, Step, Enter, Again, Hole, Nothing}
+use Rattle.pef_model.specs.Plan.{Plan, plan_of}
+use Rattle.pef_model.specs.GuestPart.{Page, Meeting, NoPlace, Moves, Private, Normal, Unshared, Unbacked, Away, invalid_page, new_vcpu, start_part, meets}
+use Rattle.pef_model.specs.Guest.{Guest, start_guest}
+use Rattle.pef_model.specs.Deed.{deed_guest}
+use Rattle.pef_model.specs.RunLaw.{small_config, return_with}
+use Rattle.pef_model.specs.RefusalLaw.{page_out_to, page_in_from}
+
+-- a machine of small sizes with a vault
+abbrev pub small_plan : Plan
+small_plan = plan_of (record small_config { vault = true })
+
+-- each phase, each state of a vCPU
+abbrev pub phases : List Phase
+phases = phase.Absent ∷ phase.Normal ∷ phase.Starting ∷ phase.Secure ∷ phase.Aborting ∷ []
+
+abbrev pub states : List VState
+states = Idle ∷ Fresh ∷ Running 1 ∷ Parked Irq ∷ []
+
+-- a page at rest, and one on the move
+abbrev pub at_rest : Kind → Page
+at_rest kind = record invalid_page { kind = kind }
+
+abbrev pub on_the_move : Kind → Way → Page
+on_the_move kind way = record invalid_page { kind = kind; mover = Some (record { cpu = 1; way = way }) }
+
+-- a page of each kind: Invalid, Secure, Out, Shared without a frame and with one, going out, coming in
+abbrev pub pages : List Page
+pages = at_rest Invalid ∷ at_rest Secure ∷ at_rest Out ∷ at_rest (Shared None true) ∷ at_rest (Shared (Some 3) false) ∷ on_the_move Secure Outward ∷ on_the_move Out Inward ∷ []
+
+-- a guest in a phase, whose pages are all this one and whose vCPUs are all in this state, with two normal frames from frame 1 on in its partition entry
+abbrev pub guest_in : Phase → Page → VState → Guest
+guest_in phase page state = record (start_guest small_plan 1) {
+  part = record (start_part small_plan 1) { phase = phase; entry = record { base = 0x100; length_ = 2 }; pages = λ gfn. page; vcpus = λ vid. new_vcpu state };
+}
+
+-- the answer of a command at a guest in this context, where a secure frame is free or none is
+abbrev pub answer_at : Ctx → Guest → Bool → Cmd → Answer
+answer_at before g free cmd = (deed_guest small_plan g (λ n offset. 0) free (record { before = before; lpid = 1; vid = 0; last = Nothing; hand = [] }) cmd).answer
+
+-- what UV_RETURN answers: a row for each phase, a column for each state
+abbrev pub ReturnsByPhase : Type 0
+ReturnsByPhase =
+    map (λ phase. map (λ state. answer_at ctx.Hv (guest_in phase invalid_page state) true (return_with 0)) states) phases
+    ≡ replicate 4 (Ret UInvalid)
+    ∷ replicate 4 (Ret UInvalid)
+    ∷ (Ret UInvalid ∷ Enter ∷ Ret UInvalid ∷ Enter ∷ [])
+    ∷ (Ret UInvalid ∷ Enter ∷ Ret UInvalid ∷ Enter ∷ [])
+    ∷ replicate 4 (Ret UInvalid)
+    ∷ []
+
+-- the answers of a call that moves a page, where a secure frame is free: a row for each phase, a column for each page
+abbrev pub by_phase : Bool → Cmd → List (List Answer)
+by_phase free cmd = map (λ phase. map (λ page. answer_at ctx.Hv (guest_in phase page Idle) free cmd) pages) phases
+
+-- what UV_PAGE_OUT answers
+abbrev pub PageOutByPhase : Type 0
+PageOutByPhase =
+    by_phase true (page_out_to 0x0)
+    ≡ replicate 7 (Ret UParameter)
+    ∷ replicate 7 (Ret UParameter)
+    ∷ (Ret UP3 ∷ Ret UBusy ∷ Ret UP3 ∷ Ret USuccess ∷ Ret USuccess ∷ Ret UBusy ∷ Ret UP3 ∷ [])
+    ∷ (Ret UP3 ∷ Step ∷ Ret UP3 ∷ Ret USuccess ∷ Ret USuccess ∷ Ret UBusy ∷ Ret UP3 ∷ [])
+    ∷ replicate 7 (Ret UParameter)
+    ∷ []
+
+-- what UV_PAGE_IN answers, where a secure frame is free, and where none is
+pub record PageInByPhase : Type 0 where
+  pub free :
+      by_phase true (page_in_from 0x0)
+      ≡ replicate 7 (Ret UParameter)
+      ∷ replicate 7 (Ret UParameter)
+      ∷ (Ret UP3 ∷ Ret UP3 ∷ Step ∷ Ret UP3 ∷ Ret UP3 ∷ Ret UP3 ∷ Ret UBusy ∷ [])
+      ∷ (Ret UP3 ∷ Ret UP3 ∷ Step ∷ Ret UP3 ∷ Ret UP3 ∷ Ret UP3 ∷ Ret UBusy ∷ [])
+      ∷ replicate 7 (Ret UParameter)
+      ∷ []
+  pub none :
+      by_phase false (page_in_from 0x0)
+      ≡ replicate 7 (Ret UParameter)
+      ∷ replicate 7 (Ret UParameter)
+      ∷ (Ret UP3 ∷ Ret UP3 ∷ Ret UBusy ∷ Ret UP3 ∷ Ret UP3 ∷ Ret UP3 ∷ Ret UBusy ∷ [])
+      ∷ (Ret UP3 ∷ Ret UP3 ∷ Ret UBusy ∷ Ret UP3 ∷ Ret UP3 ∷ Ret UP3 ∷ Ret UBusy ∷ [])
+      ∷ replicate 7 (Ret UParameter)
+      ∷ []
+
+-- what an access to the second doubleword of page 1 meets in a guest of this phase
+abbrev pub met_in : Phase → List Meeting
+met_in phase = map (λ page. meets small_plan (guest_in phase page Idle).part 0x108) pages
+
+-- what an access to a page of each kind meets in a guest that is to be secure
+abbrev pub met_in_own : List Meeting
+met_in_own = Unbacked ∷ Private ∷ Away ∷ Unshared ∷ Normal 3 ∷ Moves ∷ Moves ∷ []
+
+-- what an access meets: in a guest that is Normal the entry's frame whatever the page is, in each other guest the page; and no place where the address is unaligned, past the entry or past the last page
+pub record MeetsByPhase : Type 0 where
+  pub normal : met_in phase.Normal ≡ replicate 7 (Normal 2)
+  pub starting : met_in phase.Starting ≡ met_in_own
+  pub secure : met_in phase.Secure ≡ met_in_own
+  pub aborting : met_in phase.Aborting ≡ met_in_own
+  pub no_place : map (meets small_plan (guest_in phase.Normal invalid_page Idle).part) (0x104 ∷ 0x200 ∷ []) ≡ NoPlace ∷ NoPlace ∷ []
+  pub no_page : map (meets small_plan (guest_in phase.Secure invalid_page Idle).part) (0x104 ∷ 0x400 ∷ []) ≡ NoPlace ∷ NoPlace ∷ []
+
+-- what a load of a vCPU answers in a guest that is Secure, by its pages
+abbrev pub loads_of : Bool → List Answer
+loads_of free = map (λ page. answer_at (ctx.Guest (record { lpid = 1; vid = 0; generation = 1 })) (guest_in phase.Secure page (Running 1)) free (GLd 6 0x108)) pages
+
+-- where a secure frame is free, and where none is
+pub record LoadsByKind : Type 0 where
+  pub free : loads_of true ≡ Val 0 ∷ Val 0 ∷ Hole ∷ Hole ∷ Hole ∷ Again ∷ Again ∷ []
+  pub none : loads_of false ≡ Hole ∷ Val 0 ∷ Hole ∷ Hole ∷ Hole ∷ Again ∷ Again ∷ []
+
+-- the tables
+pub record TablesByPhase : Type 0 where
+  pub returns : ReturnsByPhase
+  pub page_out : PageOutByPhase
+  pub page_in : PageInByPhase
+  pub meets_ : MeetsByPhase
+  pub loads : LoadsByKind
