@@ -82,3 +82,4 @@ pub mod BusyAnswers
 mod Unworded
 mod Taken
 mod AnswerRows
+mod PartedAddresses

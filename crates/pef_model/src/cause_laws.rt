@@ -5,9 +5,10 @@ ghost use Rattle.pef_model.specs.AnswerLaw.{EachAnswerIsOfItsRow};
 ghost use Rattle.pef_model.specs.OldMoveLaw.{OldMovesChangeNothing};
 ghost use Rattle.pef_model.specs.ToldLaw.{AccessTellsItsFrame, EntryAtGuestIsTold};
 ghost use Rattle.pef_model.specs.GuestLaw.{InvalidPageIsZero, WordsAreCounted, CleanIsEachGuests};
-ghost use Rattle.pef_model.specs.TagLaw.{TagBytesTell, VaultImagesDiffer, KeystreamHasBlocks, StreamSealsEachByte};
+ghost use Rattle.pef_model.specs.TagLaw.{TagShowsNumbers, TagBytesTell, VaultImagesDiffer, VaultShowsTagAlone, KeystreamHasBlocks, StreamSealsEachByte};
 ghost use Rattle.pef_model.specs.PublicLaw.{PublicStateHasObjects, AuthorityIsByKind};
 ghost use Rattle.pef_model.specs.StartLaw.{StartsAs};
+ghost use Rattle.pef_model.specs.AddressLaw.{EachAddressIsParted};
 
 /// Each command has, in each context, one of the answers of its row, and in a context that isn't its own Context alone.
 pub fn each_answer_is_of_its_row()
@@ -74,6 +75,11 @@ pub fn clean_is_each_guests()
     ensures { CleanIsEachGuests }
 {}
 
+/// A tag's 32 bytes are its guest's number, its generation, its page's number and its version, each a doubleword.
+pub fn tag_shows_numbers()
+    ensures { TagShowsNumbers }
+{}
+
 /// Tags with the same bytes are one.
 pub fn tag_bytes_tell()
     ensures { TagBytesTell }
@@ -82,6 +88,11 @@ pub fn tag_bytes_tell()
 /// The sealed pages that a vault makes under two tags differ.
 pub fn vault_images_differ()
     ensures { VaultImagesDiffer }
+{}
+
+/// A sealed page of a vault is its tag, and zeros behind it.
+pub fn vault_shows_tag_alone()
+    ensures { VaultShowsTagAlone }
 {}
 
 /// Which byte of which digest each byte of a keystream is.
@@ -108,4 +119,10 @@ pub fn authority_is_by_kind()
 /// What each guest, vCPU, page, CPU and frame starts with.
 pub fn starts_as()
     ensures { StartsAs }
+{}
+
+/// Each address is one of a frame or page and of an offset there, whatever the size of pages; it is that of a frame, a page or
+/// a doubleword exactly where it stands at a frame's or page's begin, or at a multiple of 8, and there is such a one.
+pub fn each_address_is_parted()
+    ensures { EachAddressIsParted }
 {}
