@@ -83,3 +83,4 @@ mod Unworded
 mod Taken
 mod AnswerRows
 mod PartedAddresses
+mod BeginAnswers

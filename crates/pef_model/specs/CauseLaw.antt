@@ -1,5 +1,5 @@
 -- Laws of causes: where U_BUSY, Again, Hole, Context and Gone come.
-use Rattle.std.specs.Prelude.{◌≡◌, ◌≢◌, ◌⊎◌, ◌↔◌, ℕ, ◌%◌, ◌≤◌, Bool, true, false, List, ◌∷◌, Option, Some, None, IsSome, is_some}
+use Rattle.std.specs.Prelude.{◌≡◌, ◌≢◌, ◌⊎◌, ◌↔◌, ℕ, ◌%◌, ◌≤◌, ◌<◌, Bool, true, false, List, ◌∷◌, Option, Some, None, IsSome, is_some}
 use Rattle.pef_model.specs.declared.state.Phase.{Phase}
 use Rattle.pef_model.specs.declared.state.Phase.TheVariants.{Starting, Normal}
 use Rattle.pef_model.specs.declared.state.Kind.{Kind}
@@ -32,16 +32,8 @@ IsBusyIn page free = IsSome page.mover ⊎ ((is_shared page.kind ≡ false) × (
 abbrev pub IsBusyOut : Phase → Page → Type 0
 IsBusyOut phase page = (is_shared page.kind ≡ false) × ((phase ≡ Starting) ⊎ IsSome page.mover)
 
--- an entry is UV_PAGE_IN of the hypervisor, which no earlier refusal meets, for a page that can't come in at present
-pub record PageInIsBusy (plan : Plan) (past : List Event) (e : Event) : Type 0 where
-  pub lpid : ℕ
-  pub src : ℕ
-  pub gpa : ℕ
-  pub flags : ℕ
-  pub order : ℕ
-  pub before : e.saw.before ≡ ctx.Hv
-  pub cmd_is : e.trace.cmd ≡ UPagein lpid src gpa flags order
-  -- the operands are right
+-- the operands of UV_PAGE_IN are right
+pub record IsRightIn (plan : Plan) (past : List Event) (lpid src gpa flags order : ℕ) : Type 0 where
   pub guest : IsWithin 1 plan.guests lpid
   pub phase : may_page_in_in (part_after plan past lpid).phase ≡ true
   pub frame : has_frame plan src ≡ true
@@ -49,19 +41,9 @@ pub record PageInIsBusy (plan : Plan) (past : List Event) (e : Event) : Type 0 w
   pub kind : can_come_in (page_after plan past lpid (page_of plan gpa)).kind ≡ true
   pub flags_are : flags ≤ PAGE_IN_FLAGS
   pub order_is : order ≡ plan.shift
-  -- the page can't come in at present
-  pub busy : IsBusyIn (page_after plan past lpid (page_of plan gpa)) (pool_after plan past)
 
--- an entry is UV_PAGE_OUT of the hypervisor, which no earlier refusal meets, for a page that can't go out at present
-pub record PageOutIsBusy (plan : Plan) (past : List Event) (e : Event) : Type 0 where
-  pub lpid : ℕ
-  pub dest : ℕ
-  pub gpa : ℕ
-  pub flags : ℕ
-  pub order : ℕ
-  pub before : e.saw.before ≡ ctx.Hv
-  pub cmd_is : e.trace.cmd ≡ UPageout lpid dest gpa flags order
-  -- the operands are right
+-- and those of UV_PAGE_OUT
+pub record IsRightOut (plan : Plan) (past : List Event) (lpid dest gpa flags order : ℕ) : Type 0 where
   pub guest : IsWithin 1 plan.guests lpid
   pub phase : may_page_out_in (part_after plan past lpid).phase ≡ true
   pub frame : has_frame plan dest ≡ true
@@ -69,12 +51,48 @@ pub record PageOutIsBusy (plan : Plan) (past : List Event) (e : Event) : Type 0 
   pub kind : can_go_out (page_after plan past lpid (page_of plan gpa)).kind ≡ true
   pub flags_are : flags ≡ 0
   pub order_is : order ≡ plan.shift
-  -- the page can't go out at present
-  pub busy : IsBusyOut (part_after plan past lpid).phase (page_after plan past lpid (page_of plan gpa))
 
--- these calls answer U_BUSY, and nothing else does
+-- an entry is UV_PAGE_IN of the hypervisor with right operands, for a page that finds itself and the number of free frames so
+pub record PageInFinds (IsFound : Page → ℕ → Type 0) (plan : Plan) (past : List Event) (e : Event) : Type 0 where
+  pub lpid : ℕ
+  pub src : ℕ
+  pub gpa : ℕ
+  pub flags : ℕ
+  pub order : ℕ
+  pub before : e.saw.before ≡ ctx.Hv
+  pub cmd_is : e.trace.cmd ≡ UPagein lpid src gpa flags order
+  pub right : IsRightIn plan past lpid src gpa flags order
+  pub found : IsFound (page_after plan past lpid (page_of plan gpa)) (pool_after plan past)
+
+-- an entry is UV_PAGE_OUT of the hypervisor with right operands, for a page that finds its guest's phase and itself so
+pub record PageOutFinds (IsFound : Phase → Page → Type 0) (plan : Plan) (past : List Event) (e : Event) : Type 0 where
+  pub lpid : ℕ
+  pub dest : ℕ
+  pub gpa : ℕ
+  pub flags : ℕ
+  pub order : ℕ
+  pub before : e.saw.before ≡ ctx.Hv
+  pub cmd_is : e.trace.cmd ≡ UPageout lpid dest gpa flags order
+  pub right : IsRightOut plan past lpid dest gpa flags order
+  pub found : IsFound (part_after plan past lpid).phase (page_after plan past lpid (page_of plan gpa))
+
+-- the calls that find a page which can't move at present answer U_BUSY, and nothing else does
 abbrev pub BusyExactlyWhere : Type 0
-BusyExactlyWhere = (plan : Plan) (past : List Event) (e : Event) → Extends plan past e → (e.trace.answer ≡ answer.Ret UBusy) ↔ (PageInIsBusy plan past e ⊎ PageOutIsBusy plan past e)
+BusyExactlyWhere = (plan : Plan) (past : List Event) (e : Event) → Extends plan past e → (e.trace.answer ≡ answer.Ret UBusy) ↔ (PageInFinds IsBusyIn plan past e ⊎ PageOutFinds IsBusyOut plan past e)
+
+-- a page can come in at present: it is at rest, and where it isn't Shared a secure frame is free
+abbrev pub IsReadyIn : Page → ℕ → Type 0
+IsReadyIn page free = (page.mover ≡ None) × (is_shared page.kind ≡ false → 0 < free)
+
+-- a page that isn't Shared can go out at present: it is at rest, and its guest isn't Starting
+abbrev pub IsReadyOut : Phase → Page → Type 0
+IsReadyOut phase page = (is_shared page.kind ≡ false) × (phase ≢ Starting) × (page.mover ≡ None)
+
+-- the calls that find a page which can move at present begin to move it, and no other command of the hypervisor begins a call
+abbrev pub BeginsExactlyWhere : Type 0
+BeginsExactlyWhere =
+    (plan : Plan) (past : List Event) (e : Event) → Extends plan past e → e.saw.before ≡ ctx.Hv →
+    (e.trace.answer ≡ answer.Step) ↔ (PageInFinds IsReadyIn plan past e ⊎ PageOutFinds IsReadyOut plan past e)
 
 -- the guest address at which a command loads or stores
 abbrev pub guest_address_in : Cmd → Option ℕ

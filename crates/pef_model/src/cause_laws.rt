@@ -1,6 +1,6 @@
 //! The laws of answers and their causes, and of what guests keep: each is the contract of a function that does nothing.
 
-ghost use Rattle.pef_model.specs.CauseLaw.{BusyExactlyWhere, AgainExactlyWhere, HoleExactlyWhere, ContextExactlyWhere, GoneExactlyWhere};
+ghost use Rattle.pef_model.specs.CauseLaw.{BusyExactlyWhere, BeginsExactlyWhere, AgainExactlyWhere, HoleExactlyWhere, ContextExactlyWhere, GoneExactlyWhere};
 ghost use Rattle.pef_model.specs.AnswerLaw.{EachAnswerIsOfItsRow};
 ghost use Rattle.pef_model.specs.OldMoveLaw.{OldMovesChangeNothing};
 ghost use Rattle.pef_model.specs.ToldLaw.{AccessTellsItsFrame, EntryAtGuestIsTold};
@@ -20,6 +20,13 @@ pub fn each_answer_is_of_its_row()
 /// a mover.
 pub fn busy_exactly_where()
     ensures { BusyExactlyWhere }
+{}
+
+/// UV_PAGE_IN and UV_PAGE_OUT of the hypervisor with right operands begin to move a page exactly where it is at rest and a
+/// secure frame is free, or where it isn't Shared, is at rest, and its guest isn't Starting; no other command of the
+/// hypervisor begins a call.
+pub fn begins_exactly_where()
+    ensures { BeginsExactlyWhere }
 {}
 
 /// Again comes exactly at a vCPU's load or store in a page with a mover, of a guest that isn't Normal, under its generation.
