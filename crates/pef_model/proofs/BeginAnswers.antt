@@ -1,6 +1,6 @@
--- Where a page begins to move.
-use Rattle.std.proofs.Common.{◌≡◌, ◌≢◌, ℕ, ◌<◌, ◌≤◌, List, Bool, true, false, ◌==◌, ◌&&◌, ◌||◌, nat_le, nat_lt, if◌then◌else◌, Option, Some, None, refl, ap, sym, ◌∙◌, ◌⊎◌, inl, inr, arith}
-use Rattle.std.specs.Prelude.{is_some}
+-- Where a page begins to move, and where a vCPU is taken up.
+use Rattle.std.proofs.Common.{◌≡◌, ◌≢◌, ℕ, ◌<◌, ◌≤◌, List, Bool, true, false, ◌==◌, ◌&&◌, ◌||◌, nat_le, nat_lt, if◌then◌else◌, Option, Some, None, refl, ap, sym, subst, ◌∙◌, ◌⊎◌, inl, inr, arith}
+use Rattle.std.specs.Prelude.{is_some, ◌↔◌}
 use Rattle.std.proofs.lemmas.Grind.{common_steps}
 use Rattle.std.proofs.lemmas.Bool.Decides.{nat_tests}
 use Rattle.pef_model.specs.declared.state.Phase.{Phase}
@@ -10,18 +10,19 @@ use Rattle.pef_model.specs.declared.state.Ctx.TheVariants as ctx
 use Rattle.pef_model.specs.declared.command.Cmd.{Cmd}
 use Rattle.pef_model.specs.declared.command.Cmd.TheVariants.{HLd, HSt, UPagein, UPageout, UReturn}
 use Rattle.pef_model.specs.declared.command.TheConstants.{PAGE_IN_FLAGS}
-use Rattle.pef_model.specs.declared.entry.Answer.TheVariants.{Step}
+use Rattle.pef_model.specs.declared.entry.Answer.{Answer}
+use Rattle.pef_model.specs.declared.entry.Answer.TheVariants.{Step, Enter}
 use Rattle.pef_model.specs.Plan.{Plan}
 use Rattle.pef_model.specs.Event.{Event}
 use Rattle.pef_model.specs.Target.{Ask, Alone, AtFrame, frame_of, has_real_place}
 use Rattle.pef_model.specs.Cpu.{CpuPart}
 use Rattle.pef_model.specs.GuestPart.{Page, GuestPart, page_of}
 use Rattle.pef_model.specs.PageOut.{is_starting, is_shared}
-use Rattle.pef_model.specs.Deed.{Deed, deed_return}
+use Rattle.pef_model.specs.Deed.{Deed, may_return_in, is_waiting, deed_return}
 use Rattle.pef_model.specs.History.{cpu_after, pool_after, deed_after, Extends}
 use Rattle.pef_model.specs.CountLaw.{part_after}
 use Rattle.pef_model.specs.MoveLaw.{page_after}
-use Rattle.pef_model.specs.CauseLaw.{IsReadyIn, IsReadyOut, PageInFinds, PageOutFinds, BeginsExactlyWhere}
+use Rattle.pef_model.specs.CauseLaw.{IsReadyIn, IsReadyOut, PageInFinds, PageOutFinds, BeginsExactlyWhere, EntersExactlyWhere}
 use Rattle.pef_model.proofs.Folds.{same_test, test_same}
 use Rattle.pef_model.proofs.BusyAnswers.{in_deed, out_deed, within_test, test_within, not_below, below_not, none_free}
 use Rattle.pef_model.proofs.DeedOf.{ask_in, deed_in, deed_is}
@@ -154,3 +155,32 @@ begins_exactly_where plan past e extends before = (
   λ is. begins_from plan past e extends before e.trace.cmd refl (sym (answer_is plan past e extends before e.trace.cmd refl) ∙ is),
   begins_to plan past e extends before,
 )
+
+-- UV_RETURN at a guest
+returns_where : (g : GuestPart) (ask : Ask) → ((deed_return g ask).answer ≡ Enter) ↔ ((may_return_in g.phase ≡ true) × (is_waiting (g.vcpus ask.vid).state ≡ true))
+returns_where g ask = (λ h. (grind (arith, common_steps), grind (arith, common_steps)), λ (may, waits). grind (arith, common_steps))
+
+-- what it tells of its selection is its CPU's
+pub enters_exactly_where : EntersExactlyWhere
+enters_exactly_where plan past e r0 r2 outs extends before cmd_is =
+    subst (λ (a : Answer). (a ≡ Enter) ↔ (May e.saw.lpid e.saw.vid)) (sym answer_is)
+    (subst (λ (lpid : ℕ). ((deed_return (part_after plan past lpid) ask).answer ≡ Enter) ↔ May lpid e.saw.vid) lpid_is
+    (subst (λ (vid : ℕ). ((deed_return (part_after plan past cpu.lpid) ask).answer ≡ Enter) ↔ May cpu.lpid vid) vid_is
+    (returns_where (part_after plan past cpu.lpid) ask))) where
+      cpu : CpuPart
+      cpu = cpu_after plan e.trace.cpu past
+
+      ask : Ask
+      ask = ask_in cpu ctx.Hv (UReturn r0 r2 outs)
+
+      May : ℕ → ℕ → Type 0
+      May lpid vid = (may_return_in (part_after plan past lpid).phase ≡ true) × (is_waiting ((part_after plan past lpid).vcpus vid).state ≡ true)
+
+      lpid_is : cpu.lpid ≡ e.saw.lpid
+      lpid_is = sym (ap (λ (x : Event). x.saw.lpid) extends.is)
+
+      vid_is : cpu.vid ≡ e.saw.vid
+      vid_is = sym (ap (λ (x : Event). x.saw.vid) extends.is)
+
+      answer_is : e.trace.answer ≡ (deed_return (part_after plan past e.saw.lpid) ask).answer
+      answer_is = ap (λ (d : Deed). d.answer) (deed_is plan past e ctx.Hv (UReturn r0 r2 outs) extends before cmd_is) ∙ ap (λ (lpid : ℕ). (deed_return (part_after plan past lpid) ask).answer) lpid_is

@@ -20,6 +20,7 @@ use Rattle.pef_model.specs.Cpu.{CpuPart}
 use Rattle.pef_model.specs.GuestPart.{Page, GuestPart, page_of, has_place}
 use Rattle.pef_model.specs.PageOut.{may_page_out_in, can_go_out, is_shared, has_frame, has_page}
 use Rattle.pef_model.specs.PageIn.{may_page_in_in, can_come_in}
+use Rattle.pef_model.specs.Deed.{may_return_in, is_waiting}
 use Rattle.pef_model.specs.History.{cpu_after, guest_after, pool_after, frame_after, Extends}
 use Rattle.pef_model.specs.CountLaw.{part_after}
 use Rattle.pef_model.specs.MoveLaw.{page_after}
@@ -93,6 +94,12 @@ abbrev pub BeginsExactlyWhere : Type 0
 BeginsExactlyWhere =
     (plan : Plan) (past : List Event) (e : Event) → Extends plan past e → e.saw.before ≡ ctx.Hv →
     (e.trace.answer ≡ answer.Step) ↔ (PageInFinds IsReadyIn plan past e ⊎ PageOutFinds IsReadyOut plan past e)
+
+-- UV_RETURN of the hypervisor enters exactly where the selected guest is in a phase for it and the selected vCPU waits
+abbrev pub EntersExactlyWhere : Type 0
+EntersExactlyWhere =
+    (plan : Plan) (past : List Event) (e : Event) (r0 r2 : ℕ) (outs : List ℕ) → Extends plan past e → e.saw.before ≡ ctx.Hv → e.trace.cmd ≡ UReturn r0 r2 outs →
+    (e.trace.answer ≡ answer.Enter) ↔ ((may_return_in (part_after plan past e.saw.lpid).phase ≡ true) × (is_waiting ((part_after plan past e.saw.lpid).vcpus e.saw.vid).state ≡ true))
 
 -- the guest address at which a command loads or stores
 abbrev pub guest_address_in : Cmd → Option ℕ

@@ -41,14 +41,14 @@ pub record EachNameIsWritten : Type 0 where
       ≡ codes "1 0 u.return enter\n2 0 g.li done\n3 0 g.st done\n4 0 u.pagein ret U_PERMISSION\n5 0 u.return ret U_INVALID\n6 0 g.irq exit irq\n7 0 u.pageout ret U_PARAMETER\n8 0 u.pageout ret U_P2\n9 0 u.pageout ret U_P3\n10 0 u.pageout ret U_FUNCTION\n11 0 u.pageout ret U_P4\n12 0 u.pageout ret U_P5\n13 0 u.pageout step\n14 1 u.pageout ret U_BUSY\n15 1 u.return enter\n16 1 g.ld again\n17 1 h.ld context\n18 0 go step\n18 0 go ret U_SUCCESS\n19 1 g.ld hole\n20 0 h.ld val 0x1\n21 0 h.st done\n22 0 h.st done\n23 0 h.st done\nfree 1\nend\n"
   pub others : map answer_text (Gone ∷ Nothing ∷ []) ≡ codes "gone" ∷ codes "nothing" ∷ []
 
--- a machine with twelve CPUs and normal frames; CPU 11 stores a number of sixteen digits in frame 11 and one in the last doubleword of frame 1, and CPU 10 loads it, and a zero
+-- a machine with twelve CPUs and normal frames; CPU 11 stores a number of sixteen digits in frame 11 and one in the last doubleword of frame 0, and CPU 10 loads it, and a zero
 abbrev pub twelve_config : Config
 twelve_config = record small_config { normal = 12; cpus = 12 }
 
 abbrev pub frames_script : Script
 frames_script = record {
   config = twelve_config;
-  lines = line_at 1 11 (HSt 0xb08 0xfedcba9876543210) ∷ line_at 2 10 (HLd 0xb08) ∷ line_at 3 10 (HLd 0x0) ∷ line_at 4 11 (HSt 0x1f8 5) ∷ [];
+  lines = line_at 1 11 (HSt 0xb08 0xfedcba9876543210) ∷ line_at 2 10 (HLd 0xb08) ∷ line_at 3 10 (HLd 0x0) ∷ line_at 4 11 (HSt 0xf8 5) ∷ [];
 }
 
 -- the digest of a frame's bytes, in hexadecimal
@@ -59,7 +59,7 @@ digest_text bytes = encode_lower (sha256 bytes)
 abbrev pub FrameHasItsLine : Type 0
 FrameHasItsLine =
     report (plan_of twelve_config) (run_of frames_script)
-    ≡ codes "1 11 h.st done\n2 10 h.ld val 0xfedcba9876543210\n3 10 h.ld val 0x0\n4 11 h.st done\nframe 1 "
+    ≡ codes "1 11 h.st done\n2 10 h.ld val 0xfedcba9876543210\n3 10 h.ld val 0x0\n4 11 h.st done\nframe 0 "
     ++ (digest_text (replicate 255 0 ++ 5 ∷ [])
     ++ (codes "\nframe 11 "
     ++ (digest_text (replicate 8 0 ++ 0xfe ∷ 0xdc ∷ 0xba ∷ 0x98 ∷ 0x76 ∷ 0x54 ∷ 0x32 ∷ 0x10 ∷ replicate 240 0)

@@ -1,6 +1,6 @@
 //! The laws of answers and their causes, and of what guests keep: each is the contract of a function that does nothing.
 
-ghost use Rattle.pef_model.specs.CauseLaw.{BusyExactlyWhere, BeginsExactlyWhere, AgainExactlyWhere, HoleExactlyWhere, ContextExactlyWhere, GoneExactlyWhere};
+ghost use Rattle.pef_model.specs.CauseLaw.{BusyExactlyWhere, BeginsExactlyWhere, EntersExactlyWhere, AgainExactlyWhere, HoleExactlyWhere, ContextExactlyWhere, GoneExactlyWhere};
 ghost use Rattle.pef_model.specs.AnswerLaw.{EachAnswerIsOfItsRow};
 ghost use Rattle.pef_model.specs.OldMoveLaw.{OldMovesChangeNothing};
 ghost use Rattle.pef_model.specs.ToldLaw.{AccessTellsItsFrame, EntryAtGuestIsTold};
@@ -27,6 +27,11 @@ pub fn busy_exactly_where()
 /// hypervisor begins a call.
 pub fn begins_exactly_where()
     ensures { BeginsExactlyWhere }
+{}
+
+/// UV_RETURN of the hypervisor enters exactly where the selected guest is in a phase for it and the selected vCPU waits.
+pub fn enters_exactly_where()
+    ensures { EntersExactlyWhere }
 {}
 
 /// Again comes exactly at a vCPU's load or store in a page with a mover, of a guest that isn't Normal, under its generation.
