@@ -1,5 +1,5 @@
 -- Where a page begins to move, and where a vCPU is taken up.
-use Rattle.std.proofs.Common.{◌≡◌, ◌≢◌, ℕ, ◌<◌, ◌≤◌, List, Bool, true, false, ◌==◌, ◌&&◌, ◌||◌, nat_le, nat_lt, if◌then◌else◌, Option, Some, None, refl, ap, sym, subst, ◌∙◌, ◌⊎◌, inl, inr, arith}
+use Rattle.std.proofs.Common.{◌≡◌, ◌≢◌, ℕ, ◌<◌, List, Bool, true, false, ◌&&◌, nat_le, nat_lt, if◌then◌else◌, Option, Some, None, refl, ap, sym, subst, ◌∙◌, ◌⊎◌, inl, inr, arith}
 use Rattle.std.specs.Prelude.{is_some, ◌↔◌}
 use Rattle.std.proofs.lemmas.Grind.{common_steps}
 use Rattle.std.proofs.lemmas.Bool.Decides.{nat_tests}
@@ -16,7 +16,7 @@ use Rattle.pef_model.specs.Plan.{Plan}
 use Rattle.pef_model.specs.Event.{Event}
 use Rattle.pef_model.specs.Target.{Ask, Alone, AtFrame, frame_of, has_real_place}
 use Rattle.pef_model.specs.Cpu.{CpuPart}
-use Rattle.pef_model.specs.GuestPart.{Page, GuestPart, page_of}
+use Rattle.pef_model.specs.GuestPart.{GuestPart, page_of}
 use Rattle.pef_model.specs.PageOut.{is_starting, is_shared}
 use Rattle.pef_model.specs.Deed.{Deed, may_return_in, is_waiting, deed_return}
 use Rattle.pef_model.specs.History.{cpu_after, pool_after, deed_after, Extends}
@@ -108,14 +108,35 @@ comes_unshared plan past e asks = let kind = asks.right.kind in grind (arith, co
 page_in_begins : (plan : Plan) (past : List Event) (e : Event) (ask : Ask) (asks : PageInFinds IsReadyIn plan past e) →
     (in_deed plan past ask asks.lpid asks.src asks.gpa asks.flags asks.order (nat_le 1 asks.lpid && nat_le asks.lpid plan.guests)).answer ≡ Step
 page_in_begins plan past e ask asks =
-    rw (test_within asks.lpid plan.guests asks.right.guest, asks.right.phase, asks.right.frame, asks.right.page, asks.right.kind, below_not PAGE_IN_FLAGS asks.flags asks.right.flags_are, asks.right.order_is, same_test plan.shift, asks.found.0,
-    free_test (pool_after plan past) (asks.found.1 (comes_unshared plan past e asks))) refl
+    rw (
+      test_within asks.lpid plan.guests asks.right.guest,
+      asks.right.phase,
+      asks.right.frame,
+      asks.right.page,
+      asks.right.kind,
+      below_not PAGE_IN_FLAGS asks.flags asks.right.flags_are,
+      asks.right.order_is,
+      same_test plan.shift,
+      asks.found.0,
+      free_test (pool_after plan past) (asks.found.1 (comes_unshared plan past e asks)),
+    ) refl
 
 page_out_begins : (plan : Plan) (past : List Event) (e : Event) (ask : Ask) (asks : PageOutFinds IsReadyOut plan past e) →
     (out_deed plan past ask asks.lpid asks.dest asks.gpa asks.flags asks.order (nat_le 1 asks.lpid && nat_le asks.lpid plan.guests)).answer ≡ Step
 page_out_begins plan past e ask asks =
-    rw (test_within asks.lpid plan.guests asks.right.guest, asks.right.phase, asks.right.frame, asks.right.page, asks.right.kind, asks.right.flags_are, asks.right.order_is, same_test plan.shift, asks.found.0,
-    starting_not (part_after plan past asks.lpid).phase asks.found.1, asks.found.2) refl
+    rw (
+      test_within asks.lpid plan.guests asks.right.guest,
+      asks.right.phase,
+      asks.right.frame,
+      asks.right.page,
+      asks.right.kind,
+      asks.right.flags_are,
+      asks.right.order_is,
+      same_test plan.shift,
+      asks.found.0,
+      starting_not (part_after plan past asks.lpid).phase asks.found.1,
+      asks.found.2,
+    ) refl
 
 -- no other command of the hypervisor begins a call
 load_begins_none : (plan : Plan) (past : List Event) (ask : Ask) (ra : ℕ) (b : Bool) → (deed_after plan past (record ask { before = ctx.Hv }) (HLd ra) (if b then AtFrame (frame_of plan ra) else Alone)).answer ≢ Step

@@ -23,7 +23,7 @@ use Rattle.pef_model.specs.Deed.{Deed, deed_return}
 use Rattle.pef_model.specs.History.{cpu_after, pool_after, deed_after, Extends}
 use Rattle.pef_model.specs.CountLaw.{part_after}
 use Rattle.pef_model.specs.MoveLaw.{page_after}
-use Rattle.pef_model.specs.CauseLaw.{IsBusyIn, IsBusyOut, IsRightIn, IsRightOut, PageInFinds, PageOutFinds, BusyExactlyWhere}
+use Rattle.pef_model.specs.CauseLaw.{IsBusyIn, IsBusyOut, PageInFinds, PageOutFinds, BusyExactlyWhere}
 use Rattle.pef_model.proofs.Folds.{same_test, test_same}
 use Rattle.pef_model.specs.declared.command.TheConstants.{PAGE_IN_FLAGS}
 use Rattle.pef_model.proofs.DeedOf.{ask_in, deed_in, deed_is}
