@@ -8,7 +8,7 @@ use Rattle.pef_model.specs.declared.state.Tag.{Tag}
 use Rattle.pef_model.specs.MoveLaw.{SealedPagesFill}
 
 -- a tag is four doublewords of eight bytes
-length-tag_bytes : (tag : Tag) → length (tag_bytes tag) ≡ 32
+pub length-tag_bytes : (tag : Tag) → length (tag_bytes tag) ≡ 32
 unfolding tag_bytes
 length-tag_bytes tag = refl
 

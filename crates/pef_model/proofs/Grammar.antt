@@ -6,7 +6,8 @@ use Rattle.std.specs.List.Sorted.{IsStrictlyIncreasing}
 use Rattle.std.proofs.lemmas.Bool.Decides.{nat_tests}
 use Rattle.std.proofs.lemmas.Option.{cond_some, option_and_then_some, same_Some}
 use Rattle.pef_model.specs.declared.config.Config.{Config}
-use Rattle.pef_model.specs.GrammarLaw.{IsReadFrom}
+use Rattle.pef_model.specs.declared.command.Cmd.TheVariants.{HLd, HSt, UPagein, UPageout, UReturn, GLi, GLd, GSt, GIrq, Go}
+use Rattle.pef_model.specs.GrammarLaw.{IsReadFrom, WritableIsCommand}
 use Rattle.pef_model.specs.Header.{Header, born_one, word_after, after_value, with_line, vault_in, with_shift, with_normal, with_secure, with_cpus, with_pages, with_seal, header_of}
 use Rattle.pef_model.specs.Plan.{IsWithin, IsInRange}
 use Rattle.pef_model.specs.Script.{Line, Script, IsScript, Reads, command_lines, with_commands, begun, script_behind, script_in}
@@ -181,3 +182,16 @@ script_is_script text s reads =
     let found = read_from text s reads in
     let writable = found.1.writable in
     record { config = writable.range; rises = numbers_rise found.0 s.lines writable.counts; cpus = writable.cpus }
+
+-- a command that can be written has the registers, the outputs and the value of a command
+pub writable_is_command : WritableIsCommand
+writable_is_command (HLd ra) can = tt
+writable_is_command (HSt ra value) can = can.1
+writable_is_command (UPagein lpid src gpa flags order) can = tt
+writable_is_command (UPageout lpid dest gpa flags order) can = tt
+writable_is_command (UReturn r0 r2 outs) can = ap (length {A = ℕ}) can.2
+writable_is_command (GLi rd value) can = can.0
+writable_is_command (GLd rd gpa) can = can.0
+writable_is_command (GSt rs gpa) can = can.0
+writable_is_command GIrq can = tt
+writable_is_command Go can = tt

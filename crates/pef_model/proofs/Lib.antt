@@ -82,3 +82,5 @@ pub mod BusyAnswers
 mod Unworded
 mod Taken
 mod AnswerRows
+mod PartedAddresses
+mod BeginAnswers

@@ -1,11 +1,12 @@
 -- The bytes of a tag tell it, and where the bytes of a keystream stand.
-use Rattle.std.proofs.Common.{◌≡◌, ℕ, ◌+◌, ◌*◌, ◌/◌, ◌%◌, ◌-◌, ◌^◌, List, [], ◌++◌, drop, replicate, Bool, if◌then◌else◌, ap, sym, ◌∙◌, arith, length, slice_index}
+use Rattle.std.proofs.Common.{◌≡◌, ℕ, ◌+◌, ◌*◌, ◌/◌, ◌%◌, ◌-◌, ◌^◌, List, [], ◌++◌, append-nil, drop, replicate, Bool, if◌then◌else◌, ap, sym, subst, ◌∙◌, arith, length, take, slice_index}
 use Rattle.byteorder.specs.Endian.{big_number, big_bytes}
 use Rattle.byteorder.specs.Numbers.{big_number-reads_back}
 use Rattle.pef_model.specs.declared.state.Tag.{Tag}
+use Rattle.pef_model.specs.Doubleword.{doubleword}
 use Rattle.pef_model.specs.Seal.{tag_bytes, vault_image, stream_image, keystream_block, image}
-use Rattle.pef_model.specs.TagLaw.{HasDoublewords, TagBytesTell, VaultImagesDiffer, KeystreamHasBlocks, StreamSealsEachByte}
-use Rattle.pef_model.proofs.Filled.{length-stream_image}
+use Rattle.pef_model.specs.TagLaw.{HasDoublewords, TagShowsNumbers, TagBytesTell, VaultImagesDiffer, VaultShowsTagAlone, KeystreamHasBlocks, StreamSealsEachByte}
+use Rattle.pef_model.proofs.Filled.{length-tag_bytes, length-stream_image}
 use Rattle.pef_model.proofs.Streams.{stream_image-byte}
 
 -- the numbers of a tag stand in its bytes, whatever follows them
@@ -23,6 +24,19 @@ tag_reads tag rest has = record {
   gfn = big_number-reads_back 8 tag.gfn (big_bytes 8 tag.version ++ rest) has.gfn;
   version = big_number-reads_back 8 tag.version rest has.version;
 }
+
+-- so each of them is the doubleword at its place
+pub tag_shows_numbers : TagShowsNumbers
+unfolding doubleword
+tag_shows_numbers tag has = record {
+  length_ = length-tag_bytes tag;
+  lpid = reads.lpid;
+  generation = reads.generation;
+  gfn = reads.gfn;
+  version = reads.version;
+} where
+  reads : Reads tag (tag_bytes tag)
+  reads = subst (Reads tag) (append-nil (tag_bytes tag)) (tag_reads tag [] has)
 
 -- so two tags with the same bytes, and the same after them, are one
 same_tag : (one other : Tag) (rest : List ℕ) → HasDoublewords one → HasDoublewords other → (tag_bytes one ++ rest) ≡ (tag_bytes other ++ rest) → one ≡ other
@@ -47,6 +61,16 @@ vault_images_differ config one other plain other_plain vault has has_too same =
     same_tag one other (replicate (2 ^ config.shift - 32) 0) has has_too (sym (shut one plain) ∙ same ∙ shut other other_plain) where
       shut : (tag : Tag) (page : List ℕ) → image config tag page ≡ vault_image (2 ^ config.shift) tag
       shut tag page = ap (λ (b : Bool). if b then vault_image (2 ^ config.shift) tag else stream_image config.key tag page) vault
+
+-- and there are zeros behind it
+pub vault_shows_tag_alone : VaultShowsTagAlone
+unfolding tag_bytes
+vault_shows_tag_alone config tag plain vault = record {
+  begins = ap (take {A = ℕ} 32) shut;
+  behind = ap (drop {A = ℕ} 32) shut;
+} where
+  shut : image config tag plain ≡ vault_image (2 ^ config.shift) tag
+  shut = ap (λ (b : Bool). if b then vault_image (2 ^ config.shift) tag else stream_image config.key tag plain) vault
 
 -- the blocks of a keystream have 32 bytes
 pub keystream_has_blocks : KeystreamHasBlocks

@@ -1,5 +1,5 @@
 -- Laws of causes: where U_BUSY, Again, Hole, Context and Gone come.
-use Rattle.std.specs.Prelude.{◌≡◌, ◌≢◌, ◌⊎◌, ◌↔◌, ℕ, ◌%◌, ◌≤◌, Bool, true, false, List, ◌∷◌, Option, Some, None, IsSome, is_some}
+use Rattle.std.specs.Prelude.{◌≡◌, ◌≢◌, ◌⊎◌, ◌↔◌, ℕ, ◌%◌, ◌≤◌, ◌<◌, Bool, true, false, List, ◌∷◌, Option, Some, None, IsSome, is_some}
 use Rattle.pef_model.specs.declared.state.Phase.{Phase}
 use Rattle.pef_model.specs.declared.state.Phase.TheVariants.{Starting, Normal}
 use Rattle.pef_model.specs.declared.state.Kind.{Kind}
@@ -20,6 +20,7 @@ use Rattle.pef_model.specs.Cpu.{CpuPart}
 use Rattle.pef_model.specs.GuestPart.{Page, GuestPart, page_of, has_place}
 use Rattle.pef_model.specs.PageOut.{may_page_out_in, can_go_out, is_shared, has_frame, has_page}
 use Rattle.pef_model.specs.PageIn.{may_page_in_in, can_come_in}
+use Rattle.pef_model.specs.Deed.{may_return_in, is_waiting}
 use Rattle.pef_model.specs.History.{cpu_after, guest_after, pool_after, frame_after, Extends}
 use Rattle.pef_model.specs.CountLaw.{part_after}
 use Rattle.pef_model.specs.MoveLaw.{page_after}
@@ -32,16 +33,8 @@ IsBusyIn page free = IsSome page.mover ⊎ ((is_shared page.kind ≡ false) × (
 abbrev pub IsBusyOut : Phase → Page → Type 0
 IsBusyOut phase page = (is_shared page.kind ≡ false) × ((phase ≡ Starting) ⊎ IsSome page.mover)
 
--- an entry is UV_PAGE_IN of the hypervisor, which no earlier refusal meets, for a page that can't come in at present
-pub record PageInIsBusy (plan : Plan) (past : List Event) (e : Event) : Type 0 where
-  pub lpid : ℕ
-  pub src : ℕ
-  pub gpa : ℕ
-  pub flags : ℕ
-  pub order : ℕ
-  pub before : e.saw.before ≡ ctx.Hv
-  pub cmd_is : e.trace.cmd ≡ UPagein lpid src gpa flags order
-  -- the operands are right
+-- the operands of UV_PAGE_IN are right
+pub record IsRightIn (plan : Plan) (past : List Event) (lpid src gpa flags order : ℕ) : Type 0 where
   pub guest : IsWithin 1 plan.guests lpid
   pub phase : may_page_in_in (part_after plan past lpid).phase ≡ true
   pub frame : has_frame plan src ≡ true
@@ -49,19 +42,9 @@ pub record PageInIsBusy (plan : Plan) (past : List Event) (e : Event) : Type 0 w
   pub kind : can_come_in (page_after plan past lpid (page_of plan gpa)).kind ≡ true
   pub flags_are : flags ≤ PAGE_IN_FLAGS
   pub order_is : order ≡ plan.shift
-  -- the page can't come in at present
-  pub busy : IsBusyIn (page_after plan past lpid (page_of plan gpa)) (pool_after plan past)
 
--- an entry is UV_PAGE_OUT of the hypervisor, which no earlier refusal meets, for a page that can't go out at present
-pub record PageOutIsBusy (plan : Plan) (past : List Event) (e : Event) : Type 0 where
-  pub lpid : ℕ
-  pub dest : ℕ
-  pub gpa : ℕ
-  pub flags : ℕ
-  pub order : ℕ
-  pub before : e.saw.before ≡ ctx.Hv
-  pub cmd_is : e.trace.cmd ≡ UPageout lpid dest gpa flags order
-  -- the operands are right
+-- and those of UV_PAGE_OUT
+pub record IsRightOut (plan : Plan) (past : List Event) (lpid dest gpa flags order : ℕ) : Type 0 where
   pub guest : IsWithin 1 plan.guests lpid
   pub phase : may_page_out_in (part_after plan past lpid).phase ≡ true
   pub frame : has_frame plan dest ≡ true
@@ -69,12 +52,54 @@ pub record PageOutIsBusy (plan : Plan) (past : List Event) (e : Event) : Type 0 
   pub kind : can_go_out (page_after plan past lpid (page_of plan gpa)).kind ≡ true
   pub flags_are : flags ≡ 0
   pub order_is : order ≡ plan.shift
-  -- the page can't go out at present
-  pub busy : IsBusyOut (part_after plan past lpid).phase (page_after plan past lpid (page_of plan gpa))
 
--- these calls answer U_BUSY, and nothing else does
+-- an entry is UV_PAGE_IN of the hypervisor with right operands, for a page that finds itself and the number of free frames so
+pub record PageInFinds (IsFound : Page → ℕ → Type 0) (plan : Plan) (past : List Event) (e : Event) : Type 0 where
+  pub lpid : ℕ
+  pub src : ℕ
+  pub gpa : ℕ
+  pub flags : ℕ
+  pub order : ℕ
+  pub before : e.saw.before ≡ ctx.Hv
+  pub cmd_is : e.trace.cmd ≡ UPagein lpid src gpa flags order
+  pub right : IsRightIn plan past lpid src gpa flags order
+  pub found : IsFound (page_after plan past lpid (page_of plan gpa)) (pool_after plan past)
+
+-- an entry is UV_PAGE_OUT of the hypervisor with right operands, for a page that finds its guest's phase and itself so
+pub record PageOutFinds (IsFound : Phase → Page → Type 0) (plan : Plan) (past : List Event) (e : Event) : Type 0 where
+  pub lpid : ℕ
+  pub dest : ℕ
+  pub gpa : ℕ
+  pub flags : ℕ
+  pub order : ℕ
+  pub before : e.saw.before ≡ ctx.Hv
+  pub cmd_is : e.trace.cmd ≡ UPageout lpid dest gpa flags order
+  pub right : IsRightOut plan past lpid dest gpa flags order
+  pub found : IsFound (part_after plan past lpid).phase (page_after plan past lpid (page_of plan gpa))
+
+-- the calls that find a page which can't move at present answer U_BUSY, and nothing else does
 abbrev pub BusyExactlyWhere : Type 0
-BusyExactlyWhere = (plan : Plan) (past : List Event) (e : Event) → Extends plan past e → (e.trace.answer ≡ answer.Ret UBusy) ↔ (PageInIsBusy plan past e ⊎ PageOutIsBusy plan past e)
+BusyExactlyWhere = (plan : Plan) (past : List Event) (e : Event) → Extends plan past e → (e.trace.answer ≡ answer.Ret UBusy) ↔ (PageInFinds IsBusyIn plan past e ⊎ PageOutFinds IsBusyOut plan past e)
+
+-- a page can come in at present: it is at rest, and where it isn't Shared a secure frame is free
+abbrev pub IsReadyIn : Page → ℕ → Type 0
+IsReadyIn page free = (page.mover ≡ None) × (is_shared page.kind ≡ false → 0 < free)
+
+-- a page that isn't Shared can go out at present: it is at rest, and its guest isn't Starting
+abbrev pub IsReadyOut : Phase → Page → Type 0
+IsReadyOut phase page = (is_shared page.kind ≡ false) × (phase ≢ Starting) × (page.mover ≡ None)
+
+-- the calls that find a page which can move at present begin to move it, and no other command of the hypervisor begins a call
+abbrev pub BeginsExactlyWhere : Type 0
+BeginsExactlyWhere =
+    (plan : Plan) (past : List Event) (e : Event) → Extends plan past e → e.saw.before ≡ ctx.Hv →
+    (e.trace.answer ≡ answer.Step) ↔ (PageInFinds IsReadyIn plan past e ⊎ PageOutFinds IsReadyOut plan past e)
+
+-- UV_RETURN of the hypervisor enters exactly where the selected guest is in a phase for it and the selected vCPU waits
+abbrev pub EntersExactlyWhere : Type 0
+EntersExactlyWhere =
+    (plan : Plan) (past : List Event) (e : Event) (r0 r2 : ℕ) (outs : List ℕ) → Extends plan past e → e.saw.before ≡ ctx.Hv → e.trace.cmd ≡ UReturn r0 r2 outs →
+    (e.trace.answer ≡ answer.Enter) ↔ ((may_return_in (part_after plan past e.saw.lpid).phase ≡ true) × (is_waiting ((part_after plan past e.saw.lpid).vcpus e.saw.vid).state ≡ true))
 
 -- the guest address at which a command loads or stores
 abbrev pub guest_address_in : Cmd → Option ℕ

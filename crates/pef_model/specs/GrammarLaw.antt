@@ -1,8 +1,10 @@
 -- The laws of the grammar.
 use Rattle.std.specs.Prelude.{◌≡◌, ℕ, ◌+◌, Bool, List, length, IfSome}
+use Rattle.pef_model.specs.declared.command.Cmd.{Cmd}
 use Rattle.pef_model.specs.Plan.{IsWithin}
+use Rattle.pef_model.specs.SearchLaw.{IsCommand}
 use Rattle.pef_model.specs.Script.{Script, IsScript, Reads}
-use Rattle.pef_model.specs.ScriptText.{script_text, IsWritable}
+use Rattle.pef_model.specs.ScriptText.{script_text, CanBeWritten, IsWritable}
 use Rattle.pef_model.specs.Words.{lines_of}
 
 -- each text reads as at most one script
@@ -26,3 +28,7 @@ pub record IsReadFrom (text : List ℕ) (s : Script) (first : ℕ) : Type 0 wher
 -- what is read can be written
 abbrev pub ReadsWhatCanBeWritten : Type 0
 ReadsWhatCanBeWritten = (text : List ℕ) (s : Script) → Reads text s → (first : ℕ) × IsReadFrom text s first
+
+-- each command that a script can say is one of which the laws of registers and of normal memory speak
+abbrev pub WritableIsCommand : Type 0
+WritableIsCommand = (cmd : Cmd) → CanBeWritten cmd → IsCommand cmd

@@ -49,3 +49,4 @@ pub mod StartLaw
 pub mod AnswerLaw
 pub mod PhaseLaw
 pub mod PublicLaw
+pub mod AddressLaw

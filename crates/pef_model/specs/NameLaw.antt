@@ -7,12 +7,14 @@ use Rattle.pef_model.specs.declared.command.Code.TheVariants.{USuccess, UParamet
 use Rattle.pef_model.specs.declared.command.Cmd.{Cmd}
 use Rattle.pef_model.specs.declared.command.Cmd.TheVariants.{HLd, HSt, UPagein, UPageout, UReturn, GLi, GLd, GSt, GIrq}
 use Rattle.pef_model.specs.declared.command.Directive.TheVariants.{Once}
+use Rattle.pef_model.specs.declared.config.Config.{Config}
+use Rattle.pef_model.specs.declared.entry.Answer.TheVariants.{Gone, Nothing}
 use Rattle.pef_model.specs.Plan.{plan_of}
 use Rattle.pef_model.specs.Registers.{number_of}
 use Rattle.pef_model.specs.Header.{born_one}
 use Rattle.pef_model.specs.Script.{Line, Script, script_of}
 use Rattle.pef_model.specs.Run.{run_of}
-use Rattle.pef_model.specs.Report.{report}
+use Rattle.pef_model.specs.Report.{answer_text, report}
 use Rattle.pef_model.specs.View.{view}
 use Rattle.pef_model.specs.SeenLaw.{registers_seen}
 use Rattle.pef_model.specs.RunLaw.{small_config, line_at, go_all_at, return_with, store_lines}
@@ -32,17 +34,36 @@ names_script = record {
       ∷ line_at 23 0 (HSt 0x18 0) ∷ [];
 }
 
--- its report
-abbrev pub EachNameIsWritten : Type 0
-EachNameIsWritten =
-    report (plan_of vault_config) (run_of names_script)
-    ≡ codes "1 0 u.return enter\n2 0 g.li done\n3 0 g.st done\n4 0 u.pagein ret U_PERMISSION\n5 0 u.return ret U_INVALID\n6 0 g.irq exit irq\n7 0 u.pageout ret U_PARAMETER\n8 0 u.pageout ret U_P2\n9 0 u.pageout ret U_P3\n10 0 u.pageout ret U_FUNCTION\n11 0 u.pageout ret U_P4\n12 0 u.pageout ret U_P5\n13 0 u.pageout step\n14 1 u.pageout ret U_BUSY\n15 1 u.return enter\n16 1 g.ld again\n17 1 h.ld context\n18 0 go step\n18 0 go ret U_SUCCESS\n19 1 g.ld hole\n20 0 h.ld val 0x1\n21 0 h.st done\n22 0 h.st done\n23 0 h.st done\nfree 1\nend\n"
+-- its report, and the answers that no run gives yet
+pub record EachNameIsWritten : Type 0 where
+  pub written :
+      report (plan_of vault_config) (run_of names_script)
+      ≡ codes "1 0 u.return enter\n2 0 g.li done\n3 0 g.st done\n4 0 u.pagein ret U_PERMISSION\n5 0 u.return ret U_INVALID\n6 0 g.irq exit irq\n7 0 u.pageout ret U_PARAMETER\n8 0 u.pageout ret U_P2\n9 0 u.pageout ret U_P3\n10 0 u.pageout ret U_FUNCTION\n11 0 u.pageout ret U_P4\n12 0 u.pageout ret U_P5\n13 0 u.pageout step\n14 1 u.pageout ret U_BUSY\n15 1 u.return enter\n16 1 g.ld again\n17 1 h.ld context\n18 0 go step\n18 0 go ret U_SUCCESS\n19 1 g.ld hole\n20 0 h.ld val 0x1\n21 0 h.st done\n22 0 h.st done\n23 0 h.st done\nfree 1\nend\n"
+  pub others : map answer_text (Gone ∷ Nothing ∷ []) ≡ codes "gone" ∷ codes "nothing" ∷ []
 
--- a normal frame that isn't all zero has a line, with the SHA-256 of its bytes
+-- a machine with twelve CPUs and normal frames; CPU 11 stores a number of sixteen digits in frame 11 and one in the last doubleword of frame 0, and CPU 10 loads it, and a zero
+abbrev pub twelve_config : Config
+twelve_config = record small_config { normal = 12; cpus = 12 }
+
+abbrev pub frames_script : Script
+frames_script = record {
+  config = twelve_config;
+  lines = line_at 1 11 (HSt 0xb08 0xfedcba9876543210) ∷ line_at 2 10 (HLd 0xb08) ∷ line_at 3 10 (HLd 0x0) ∷ line_at 4 11 (HSt 0xf8 5) ∷ [];
+}
+
+-- the digest of a frame's bytes, in hexadecimal
+abbrev pub digest_text : List ℕ → List ℕ
+digest_text bytes = encode_lower (sha256 bytes)
+
+-- each normal frame that isn't all zero has a line, in their order, with the SHA-256 of its bytes; CPUs and frames are numbered in decimal, values are in hexadecimal
 abbrev pub FrameHasItsLine : Type 0
 FrameHasItsLine =
-    report (plan_of small_config) (run_of (record { config = small_config; lines = line_at 1 0 (HSt 0x108 5) ∷ [] }))
-    ≡ codes "1 0 h.st done\nframe 1 " ++ (encode_lower (sha256 (replicate 15 0 ++ 5 ∷ replicate 240 0)) ++ codes "\nfree 1\nend\n")
+    report (plan_of twelve_config) (run_of frames_script)
+    ≡ codes "1 11 h.st done\n2 10 h.ld val 0xfedcba9876543210\n3 10 h.ld val 0x0\n4 11 h.st done\nframe 0 "
+    ++ (digest_text (replicate 255 0 ++ 5 ∷ [])
+    ++ (codes "\nframe 11 "
+    ++ (digest_text (replicate 8 0 ++ 0xfe ∷ 0xdc ∷ 0xba ∷ 0x98 ∷ 0x76 ∷ 0x54 ∷ 0x32 ∷ 0x10 ∷ replicate 240 0)
+    ++ codes "\nfree 1\nend\n")))
 
 -- what the view shows of CPU 0's registers after lines
 abbrev pub seen_after : List Line → List ℕ

@@ -1,5 +1,5 @@
 -- Tables, computed of guests made by hand: what each phase and each kind of page let the hypervisor do, and what an access meets.
-use Rattle.std.specs.Prelude.{◌≡◌, ℕ, Bool, true, false, List, [], ◌∷◌, map, replicate, Option, Some, None}
+use Rattle.std.specs.Prelude.{◌≡◌, ℕ, ◌==◌, Bool, true, false, if◌then◌else◌, List, [], ◌∷◌, map, replicate, Option, Some, None}
 use Rattle.pef_model.specs.declared.state.Phase.{Phase}
 use Rattle.pef_model.specs.declared.state.Phase.TheVariants as phase
 use Rattle.pef_model.specs.declared.state.Kind.{Kind}
@@ -51,9 +51,13 @@ guest_in phase page state = record (start_guest small_plan 1) {
   part = record (start_part small_plan 1) { phase = phase; entry = record { base = 0x100; length_ = 2 }; pages = λ gfn. page; vcpus = λ vid. new_vcpu state };
 }
 
--- the answer of a command at a guest in this context, where a secure frame is free or none is
+-- the answer of a command at a guest in this context, with this vCPU selected, where a secure frame is free or none is
+abbrev pub answer_selecting : Ctx → ℕ → Guest → Bool → Cmd → Answer
+answer_selecting before vid g free cmd = (deed_guest small_plan g (λ n offset. 0) free (record { before = before; lpid = 1; vid = vid; last = Nothing; hand = [] }) cmd).answer
+
+-- with vCPU 0 selected
 abbrev pub answer_at : Ctx → Guest → Bool → Cmd → Answer
-answer_at before g free cmd = (deed_guest small_plan g (λ n offset. 0) free (record { before = before; lpid = 1; vid = 0; last = Nothing; hand = [] }) cmd).answer
+answer_at before g free cmd = answer_selecting before 0 g free cmd
 
 -- what UV_RETURN answers: a row for each phase, a column for each state
 abbrev pub ReturnsByPhase : Type 0
@@ -65,6 +69,14 @@ ReturnsByPhase =
     ∷ (Ret UInvalid ∷ Enter ∷ Ret UInvalid ∷ Enter ∷ [])
     ∷ replicate 4 (Ret UInvalid)
     ∷ []
+
+-- a guest that is Secure, whose vCPU 1 alone waits
+abbrev pub guest_with_one_vcpu : Guest
+guest_with_one_vcpu = record (start_guest small_plan 1) { part = record (start_part small_plan 1) { vcpus = λ vid. new_vcpu (if vid == 1 then Fresh else Idle) } }
+
+-- what UV_RETURN answers there, by the vCPU that is selected
+abbrev pub ReturnsToSelected : Type 0
+ReturnsToSelected = map (λ vid. answer_selecting ctx.Hv vid guest_with_one_vcpu true (return_with 0)) (0 ∷ 1 ∷ 2 ∷ []) ≡ Ret UInvalid ∷ Enter ∷ Ret UInvalid ∷ []
 
 -- the answers of a call that moves a page, where a secure frame is free: a row for each phase, a column for each page
 abbrev pub by_phase : Bool → Cmd → List (List Answer)
@@ -129,6 +141,7 @@ pub record LoadsByKind : Type 0 where
 -- the tables
 pub record TablesByPhase : Type 0 where
   pub returns : ReturnsByPhase
+  pub selected : ReturnsToSelected
   pub page_out : PageOutByPhase
   pub page_in : PageInByPhase
   pub meets_ : MeetsByPhase

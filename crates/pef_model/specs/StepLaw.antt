@@ -15,6 +15,7 @@ use Rattle.pef_model.specs.Plan.{Plan}
 use Rattle.pef_model.specs.Event.{Event}
 use Rattle.pef_model.specs.Registers.{number_of}
 use Rattle.pef_model.specs.Target.{told, caller, vcpu_in, takes_bytes, is_hypervisor}
+use Rattle.pef_model.specs.Cpu.{CpuPart}
 use Rattle.pef_model.specs.Guest.{Guest}
 use Rattle.pef_model.specs.History.{cpu_after, guest_after, ask_of, Extends}
 use Rattle.pef_model.specs.SearchLaw.{loaded_value, value_of_page_call, IsCommand}
@@ -178,5 +179,14 @@ abbrev pub EachEntryLeavesRegisters : Type 0
 EachEntryLeavesRegisters = (plan : Plan) (past : List Event) (e : Event) (lpid vid : ℕ) → Extends plan past e → LeavesRegisters plan past e lpid vid
 
 -- an entry tells what its step learnt of its CPU
+pub record TellsItsCpu (e : Event) (cpu : CpuPart) : Type 0 where
+  pub before : e.saw.before ≡ cpu.ctx
+  -- the selected vCPU, and the last answer
+  pub lpid : e.saw.lpid ≡ cpu.lpid
+  pub vid : e.saw.vid ≡ cpu.vid
+  pub last : e.saw.last ≡ cpu.last
+  -- and the hand, as its bytes, where the step uses it
+  pub ask : told e ≡ ask_of cpu e.trace.cmd
+
 abbrev pub EachEntryTells : Type 0
-EachEntryTells = (plan : Plan) (past : List Event) (e : Event) → Extends plan past e → told e ≡ ask_of (cpu_after plan e.trace.cpu past) e.trace.cmd
+EachEntryTells = (plan : Plan) (past : List Event) (e : Event) → Extends plan past e → TellsItsCpu e (cpu_after plan e.trace.cpu past)

@@ -1,10 +1,10 @@
 -- Words at the edge of the grammar, each computed from the definitions.
-use Rattle.std.specs.Prelude.{◌≡◌, true, [], ◌∷◌, codes, Option, Some, None}
+use Rattle.std.specs.Prelude.{◌≡◌, ℕ, ◌-◌, Bool, true, false, List, [], ◌∷◌, ◌++◌, map, replicate, length, take, codes, Option, Some, None, is_some}
 use Rattle.pef_model.specs.declared.config.Config.{Config}
 use Rattle.pef_model.specs.declared.command.Directive.TheVariants.{Once, GoAll}
 use Rattle.pef_model.specs.declared.command.Cmd.TheVariants.{UPagein, UPageout, GLd, GIrq, Go}
 use Rattle.pef_model.specs.Header.{born_one}
-use Rattle.pef_model.specs.Script.{Script, script_of}
+use Rattle.pef_model.specs.Script.{Script, directive_in, script_of}
 use Rattle.pef_model.specs.Words.{number_in, register_in}
 
 -- numbers below 2^64, in 1 to 20 decimal or 1 to 16 hexadecimal digits of either case
@@ -91,6 +91,9 @@ pub record HeadersAtTheEdge : Type 0 where
   pub seal_too_soon : script_of (codes "pef 1\nseal vault\npages 2\nborn 1\nbegin\n") ≡ None
   pub behind_born : script_of (codes "pef 1\nborn 1\nshift 8\nbegin\n") ≡ None
   pub not_born : script_of (codes "pef 1\nshift 8\nbegin\n") ≡ None
+  pub other_version : script_of (codes "pef 2\nborn 1\nbegin\n") ≡ None
+  pub other_guest : script_of (codes "pef 1\nborn 2\nbegin\n") ≡ None
+  pub other_begin : script_of (codes "pef 1\nborn 1\nend\n") ≡ None
   pub not_first : script_of (codes "shift 8\npef 1\nborn 1\nbegin\n") ≡ None
   pub three_words : script_of (codes "pef 1\nshift 8 8\nborn 1\nbegin\n") ≡ None
   pub no_number : script_of (codes "pef 1\nshift\nborn 1\nbegin\n") ≡ None
@@ -115,6 +118,32 @@ pub record CallsAtTheEdge : Type 0 where
   pub go_with_operand : script_of (codes "pef 1\nborn 1\nbegin\n0 go 1\n") ≡ None
   pub go_all_apart : script_of (codes "pef 1\nborn 1\nbegin\n0 go *\n") ≡ None
 
+-- each directive's words
+abbrev pub directives : List (List (List ℕ))
+directives =
+    (codes "h.ld" ∷ codes "0" ∷ [])
+    ∷ (codes "h.st" ∷ codes "0" ∷ codes "0" ∷ [])
+    ∷ (codes "u.pagein" ∷ codes "0" ∷ codes "0" ∷ codes "0" ∷ codes "0" ∷ codes "0" ∷ [])
+    ∷ (codes "u.pageout" ∷ codes "0" ∷ codes "0" ∷ codes "0" ∷ codes "0" ∷ codes "0" ∷ [])
+    ∷ (codes "u.return" ∷ codes "0" ∷ codes "0" ∷ [])
+    ∷ (codes "g.li" ∷ codes "r0" ∷ codes "0" ∷ [])
+    ∷ (codes "g.ld" ∷ codes "r0" ∷ codes "0" ∷ [])
+    ∷ (codes "g.st" ∷ codes "r0" ∷ codes "0" ∷ [])
+    ∷ (codes "g.irq" ∷ [])
+    ∷ (codes "go" ∷ [])
+    ∷ (codes "go*" ∷ [])
+    ∷ []
+
+-- which of some words are a directive
+abbrev pub are_directives : List (List (List ℕ)) → List Bool
+are_directives lists = map (λ words. is_some (directive_in words)) lists
+
+-- each directive is one with its words, and none with a word more or a word less
+pub record DirectivesAtTheEdge : Type 0 where
+  pub right : are_directives directives ≡ replicate 11 true
+  pub one_more : are_directives (map (λ words. words ++ codes "0" ∷ []) directives) ≡ replicate 11 false
+  pub one_less : are_directives (map (λ words. take (length words - 1) words) directives) ≡ replicate 11 false
+
 -- the edge, whole
 pub record WordsAtTheEdge : Type 0 where
   pub numbers : NumbersAtTheEdge
@@ -123,3 +152,4 @@ pub record WordsAtTheEdge : Type 0 where
   pub sizes : SizesAtTheEdge
   pub headers : HeadersAtTheEdge
   pub calls : CallsAtTheEdge
+  pub directives_ : DirectivesAtTheEdge

@@ -1,13 +1,14 @@
 //! The laws of answers and their causes, and of what guests keep: each is the contract of a function that does nothing.
 
-ghost use Rattle.pef_model.specs.CauseLaw.{BusyExactlyWhere, AgainExactlyWhere, HoleExactlyWhere, ContextExactlyWhere, GoneExactlyWhere};
+ghost use Rattle.pef_model.specs.CauseLaw.{BusyExactlyWhere, BeginsExactlyWhere, EntersExactlyWhere, AgainExactlyWhere, HoleExactlyWhere, ContextExactlyWhere, GoneExactlyWhere};
 ghost use Rattle.pef_model.specs.AnswerLaw.{EachAnswerIsOfItsRow};
 ghost use Rattle.pef_model.specs.OldMoveLaw.{OldMovesChangeNothing};
 ghost use Rattle.pef_model.specs.ToldLaw.{AccessTellsItsFrame, EntryAtGuestIsTold};
 ghost use Rattle.pef_model.specs.GuestLaw.{InvalidPageIsZero, WordsAreCounted, CleanIsEachGuests};
-ghost use Rattle.pef_model.specs.TagLaw.{TagBytesTell, VaultImagesDiffer, KeystreamHasBlocks, StreamSealsEachByte};
+ghost use Rattle.pef_model.specs.TagLaw.{TagShowsNumbers, TagBytesTell, VaultImagesDiffer, VaultShowsTagAlone, KeystreamHasBlocks, StreamSealsEachByte};
 ghost use Rattle.pef_model.specs.PublicLaw.{PublicStateHasObjects, AuthorityIsByKind};
 ghost use Rattle.pef_model.specs.StartLaw.{StartsAs};
+ghost use Rattle.pef_model.specs.AddressLaw.{EachAddressIsParted};
 
 /// Each command has, in each context, one of the answers of its row, and in a context that isn't its own Context alone.
 pub fn each_answer_is_of_its_row()
@@ -19,6 +20,18 @@ pub fn each_answer_is_of_its_row()
 /// a mover.
 pub fn busy_exactly_where()
     ensures { BusyExactlyWhere }
+{}
+
+/// UV_PAGE_IN and UV_PAGE_OUT of the hypervisor with right operands begin to move a page exactly where it is at rest and a
+/// secure frame is free, or where it isn't Shared, is at rest, and its guest isn't Starting; no other command of the
+/// hypervisor begins a call.
+pub fn begins_exactly_where()
+    ensures { BeginsExactlyWhere }
+{}
+
+/// UV_RETURN of the hypervisor enters exactly where the selected guest is in a phase for it and the selected vCPU waits.
+pub fn enters_exactly_where()
+    ensures { EntersExactlyWhere }
 {}
 
 /// Again comes exactly at a vCPU's load or store in a page with a mover, of a guest that isn't Normal, under its generation.
@@ -74,6 +87,11 @@ pub fn clean_is_each_guests()
     ensures { CleanIsEachGuests }
 {}
 
+/// A tag's 32 bytes are its guest's number, its generation, its page's number and its version, each a doubleword.
+pub fn tag_shows_numbers()
+    ensures { TagShowsNumbers }
+{}
+
 /// Tags with the same bytes are one.
 pub fn tag_bytes_tell()
     ensures { TagBytesTell }
@@ -82,6 +100,11 @@ pub fn tag_bytes_tell()
 /// The sealed pages that a vault makes under two tags differ.
 pub fn vault_images_differ()
     ensures { VaultImagesDiffer }
+{}
+
+/// A sealed page of a vault is its tag, and zeros behind it.
+pub fn vault_shows_tag_alone()
+    ensures { VaultShowsTagAlone }
 {}
 
 /// Which byte of which digest each byte of a keystream is.
@@ -108,4 +131,10 @@ pub fn authority_is_by_kind()
 /// What each guest, vCPU, page, CPU and frame starts with.
 pub fn starts_as()
     ensures { StartsAs }
+{}
+
+/// Each address is one of a frame or page and of an offset there, whatever the size of pages; it is that of a frame, a page or
+/// a doubleword exactly where it stands at a frame's or page's begin, or at a multiple of 8, and there is such a one.
+pub fn each_address_is_parted()
+    ensures { EachAddressIsParted }
 {}

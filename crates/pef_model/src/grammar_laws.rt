@@ -1,6 +1,6 @@
 //! The laws of the grammar: each is the contract of a function that does nothing.
 
-ghost use Rattle.pef_model.specs.GrammarLaw.{ReadsOne, ReadsScripts, ReadsWhatIsWritten, ReadsWhatCanBeWritten};
+ghost use Rattle.pef_model.specs.GrammarLaw.{ReadsOne, ReadsScripts, ReadsWhatIsWritten, ReadsWhatCanBeWritten, WritableIsCommand};
 
 /// Each text reads as at most one script.
 pub fn reads_one()
@@ -20,4 +20,9 @@ pub fn reads_what_is_written()
 /// What is read is a script that can be written, and its last command's line is the last of the text.
 pub fn reads_what_can_be_written()
     ensures { ReadsWhatCanBeWritten }
+{}
+
+/// Each command that a script can say is one of which the laws of registers and of normal memory speak.
+pub fn writable_is_command()
+    ensures { WritableIsCommand }
 {}
