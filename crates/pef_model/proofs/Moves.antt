@@ -125,7 +125,7 @@ gpr_stays plan (ctx.Guest run) l v cmd a g lpid vid own =
     ap (λ (x : Regs). x.gpr) (others_stay plan (ctx.Guest run) l v cmd a g lpid vid own (λ r0 r2 outs h cmd_is answer_is here this. let no : ⊥ = cc in no))
 
 -- the hypervisor's calls alone are in progress
-runs_alone : (c : Ctx) (run : Run) → vcpu_in c ≡ Some run → c ≡ ctx.Guest run
+pub runs_alone : (c : Ctx) (run : Run) → vcpu_in c ≡ Some run → c ≡ ctx.Guest run
 runs_alone ctx.Hv run h = cc
 runs_alone (ctx.Uv (Inward move)) run h = cc
 runs_alone (ctx.Uv (Outward move)) run h = cc
