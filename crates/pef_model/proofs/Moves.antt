@@ -143,7 +143,7 @@ each_entry_leaves_registers plan past e lpid vid extends =
           ∙ own_registers plan run e.saw.lpid e.saw.vid e.trace.cmd e.trace.answer g lpid vid step.guest_is step.vcpu_is))
           (steps (registers vid) run e.trace.cmd e.trace.answer e.saw.after e.saw.shown
           (subst (λ (c : Ctx). Outcome c e.trace.cmd e.trace.answer e.saw.after e.saw.shown) (runs_alone e.saw.before run step.before) (outcome plan past e extends)));
-      taken = λ (r0 r2 : ℕ) (outs : List ℕ) (takes : TakesUp lpid vid r0 r2 outs e).
+      taken = λ (r0 r2 : ℕ) (outs : List ℕ) (takes : TakesUp lpid vid r0 r2 outs e) nothing.
           subst (λ (x : Regs). IsInterrupted r2 (registers vid) x)
           (sym (is ∙ ap (λ (c : Ctx). registers_by plan c e.saw.lpid e.saw.vid e.trace.cmd e.trace.answer g lpid vid) takes.before
           ∙ ap (λ (cmd : Cmd). registers_by plan ctx.Hv e.saw.lpid e.saw.vid cmd e.trace.answer g lpid vid) takes.cmd_is
@@ -152,11 +152,11 @@ each_entry_leaves_registers plan past e lpid vid extends =
           ∙ ap (λ (v : ℕ). registers_by plan ctx.Hv lpid v (UReturn r0 r2 outs) Enter g lpid vid) takes.vcpu_is
           ∙ taken_registers plan r0 r2 outs g lpid vid))
           (is_interrupted (registers vid) r2);
-      others = λ stays own taken.
+      others = λ keeps own taken.
           is ∙ others_stay plan e.saw.before e.saw.lpid e.saw.vid e.trace.cmd e.trace.answer g lpid vid
           (λ run before here this. own run (record { before = ap vcpu_in before; guest_is = here; vcpu_is = this }))
           (λ r0 r2 outs before cmd_is answer_is here this. taken r0 r2 outs (record { before = before; cmd_is = cmd_is; answer_is = answer_is; guest_is = here; vcpu_is = this }));
-      gpr = λ stays own.
+      gpr = λ keeps own taken.
           ap (λ (x : Regs). x.gpr) is ∙ gpr_stays plan e.saw.before e.saw.lpid e.saw.vid e.trace.cmd e.trace.answer g lpid vid
           (λ run before here this. own run (record { before = ap vcpu_in before; guest_is = here; vcpu_is = this }));
     }
