@@ -144,8 +144,8 @@ gone_cpu_is : (plan : Plan) (past : List Event) (e : Event) → Extends plan pas
 gone_cpu_is plan past e extends is = let given = outcome plan past e extends in grind (arith, common_steps)
 
 -- it keeps the registers of its vCPU
-gone_registers : (regs : Regs) (cmd : Cmd) → registers_after_command regs cmd Gone ≡ regs
-gone_registers regs cmd = grind (arith, common_steps)
+gone_registers : (g : Guest) (regs : Regs) (cmd : Cmd) → registers_after_command g regs cmd Gone ≡ regs
+gone_registers g regs cmd = grind (arith, common_steps)
 
 -- and its guest
 gone_guest : (plan : Plan) (g : Guest) (e : Event) (run : Run) → e.saw.before ≡ ctx.Guest run → e.trace.answer ≡ Gone → next_guest plan g e ≡ g
@@ -159,8 +159,8 @@ gone_guest plan g e run before is =
         content_is : (cmd : Cmd) (gpa : ℕ) → stored_in (ctx.Guest run) plan g cmd Gone e.saw.frame e.bytes gpa ≡ None
         content_is cmd gpa = grind (arith, common_steps)
 
-        registers_are : (cmd : Cmd) (vid : ℕ) → put g.registers run.vid (registers_after_command (g.registers run.vid) cmd Gone) vid ≡ g.registers vid
-        registers_are cmd vid = ap (λ (regs : Regs). put g.registers run.vid regs vid) (gone_registers (g.registers run.vid) cmd) ∙ put-same g.registers run.vid vid
+        registers_are : (cmd : Cmd) (vid : ℕ) → put g.registers run.vid (registers_after_command g (g.registers run.vid) cmd Gone) vid ≡ g.registers vid
+        registers_are cmd vid = ap (λ (regs : Regs). put g.registers run.vid regs vid) (gone_registers g (g.registers run.vid) cmd) ∙ put-same g.registers run.vid vid
 
         clean_is : (b : Bool) → (b && true) ≡ b
         clean_is true = refl
