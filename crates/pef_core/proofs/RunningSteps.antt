@@ -37,9 +37,9 @@ gone_stored : (plan : Plan) (g : GuestWhole) (run : Run) (cmd : Cmd) (frame : Op
 gone_stored plan g run (GSt rs at) frame bytes gpa = refl
 gone_stored plan g run cmd frame bytes gpa = refl
 
-gone_registers : (regs : Regs) (cmd : Cmd) → registers_after_command regs cmd answer.Gone ≡ regs
-gone_registers regs (HLd ra) = refl
-gone_registers regs cmd = refl
+gone_registers : (g : GuestWhole) (regs : Regs) (cmd : Cmd) → registers_after_command g regs cmd answer.Gone ≡ regs
+gone_registers g regs (HLd ra) = refl
+gone_registers g regs cmd = refl
 
 -- a guest shows what agrees with what it shows
 shows_same : {S : Type 0} (stands : S → Tag → List ℕ → List ℕ → Type 0) (image : S → Tag → List ℕ → List ℕ) (plan : Plan) (guest : Guest S) (g : GuestWhole) (registers : ℕ → Regs) (content : ℕ → ℕ) (clean : Bool) →
@@ -73,7 +73,7 @@ module _ {S : Type 0} (stands : S → Tag → List ℕ → List ℕ → Type 0) 
       guest_entry plan past mark run cmd (i + 1) false (nat_lt 0 (pool_after plan past)) (context stands image old n below cpu there plan past (ctx.Guest run) running fits) own lpid_is test refl in
       let same : Shows stands image plan guest (next_guest plan g e) =
       shows_same stands image plan guest g (next_guest plan g e).registers (next_guest plan g e).content (next_guest plan g e).clean
-      (λ vid. ap (λ (regs : Regs). put g.registers run.vid regs vid) (gone_registers (g.registers run.vid) cmd) ∙ put-same g.registers run.vid vid)
+      (λ vid. ap (λ (regs : Regs). put g.registers run.vid regs vid) (gone_registers g (g.registers run.vid) cmd) ∙ put-same g.registers run.vid vid)
       (λ gpa. ap (λ (o : Option ℕ). unwrap_or o (g.content gpa)) (gone_stored plan g run cmd None [] gpa)) shows in
       subst (λ (gs : List (Guest S)). Makes stands image plan (record old { cpus = slice_set old.cpus n new_cpu; guests = gs }) past (next_entry plan past mark cmd) answer.Gone) (set_same old.guests i guest here)
       (makes_at_guest stands image old n below cpu there plan past line place stamp fits cmd e is new_cpu i guest guest old.pool answer.Gone here (touched plan c cmd own) refl

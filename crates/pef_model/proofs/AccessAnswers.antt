@@ -22,7 +22,7 @@ use Rattle.pef_model.specs.Guest.{Guest}
 use Rattle.pef_model.specs.Deed.{Deed, deed_access, deed_gone}
 use Rattle.pef_model.specs.History.{cpu_after, guest_after, pool_after, found_after, Extends}
 use Rattle.pef_model.specs.CountLaw.{part_after}
-use Rattle.pef_model.specs.CauseLaw.{guest_address_in, real_address_in, is_access_in, IsAccess, MeetsMover, AgainExactlyWhere, IsOutside, IsOutOfReach, CannotBeAccessed, HoleExactlyWhere}
+use Rattle.pef_model.specs.CauseLaw.{guest_address_in, real_address_in, is_access_in, IsAccess, MeetsMover, AgainCause, AtAccess, AgainExactlyWhere, IsOutside, IsOutOfReach, CannotBeAccessed, HoleExactlyWhere}
 use Rattle.pef_model.proofs.Folds.{same_test, test_same}
 use Rattle.pef_model.specs.declared.state.Mover.{Mover}
 use Rattle.pef_model.proofs.Outcomes.{Outcome, outcome, moving}
@@ -126,8 +126,8 @@ module _ (plan : Plan) (past : List Event) (e : Event) (extends : Extends plan p
         (success_is_done g e.trace.cmd) (sym (access_answer run gpa access) ∙ is) in
         record { run = run; gpa = gpa; access = access; phase = met.0; place = met.1; mover = met.2 }
 
-  again_to : MeetsMover plan past e → e.trace.answer ≡ Again
-  again_to meeting =
+  again_to : AgainCause plan past e → e.trace.answer ≡ Again
+  again_to (AtAccess meeting) =
       let g : Guest = guest_after plan meeting.run.lpid past in
       access_answer meeting.run meeting.gpa meeting.access
       ∙ meets_again plan g.part meeting.gpa (ask_in cpu (ctx.Guest meeting.run) e.trace.cmd) (success_of g e.trace.cmd) (through_of plan (found_after plan past) e.trace.cmd) (shown_of meeting.run g e.trace.cmd) any
@@ -147,7 +147,7 @@ module _ (plan : Plan) (past : List Event) (e : Event) (extends : Extends plan p
 
 pub again_exactly_where : AgainExactlyWhere
 again_exactly_where plan past e extends = (
-  λ is. again_from plan past e extends is e.saw.before refl (subst (λ (a : Answer). Outcome e.saw.before e.trace.cmd a e.saw.after e.saw.shown) is (outcome plan past e extends)),
+  λ is. AtAccess (again_from plan past e extends is e.saw.before refl (subst (λ (a : Answer). Outcome e.saw.before e.trace.cmd a e.saw.after e.saw.shown) is (outcome plan past e extends))),
   again_to plan past e extends,
 )
 

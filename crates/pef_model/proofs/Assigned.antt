@@ -104,14 +104,14 @@ returned_value gpr outs r0 r2 code r h k small = by_zero (r == 0) refl where
   by_zero false t = by_two t (r == 2) refl
 
 -- a command keeps that there are 32 registers
-length_command : (regs : Regs) (cmd : Cmd) (a : Answer) → IsCommand cmd → length regs.gpr ≡ 32 → length (registers_after_command regs cmd a).gpr ≡ 32
-length_command regs (UPagein lpid src gpa flags order) (Ret code) k h = length-called regs.gpr UV_PAGE_IN lpid src gpa flags order (number_of code) h
-length_command regs (UPageout lpid dest gpa flags order) (Ret code) k h = length-called regs.gpr UV_PAGE_OUT lpid dest gpa flags order (number_of code) h
-length_command regs (UReturn r0 r2 outs) (Ret code) k h = length-returned (loaded regs.gpr r0 r2) outs r0 r2 (number_of code) (length-loaded regs.gpr r0 r2 h) k
-length_command regs (GLi rd value) Done k h = simp length-set h
-length_command regs (GLd rd gpa) (Val value) k h = simp length-set h
-length_command regs (GSt rs gpa) Done k h = h
-length_command regs cmd a k h = h
+length_command : (g : Guest) (regs : Regs) (cmd : Cmd) (a : Answer) → IsCommand cmd → length regs.gpr ≡ 32 → length (registers_after_command g regs cmd a).gpr ≡ 32
+length_command g regs (UPagein lpid src gpa flags order) (Ret code) k h = length-called regs.gpr UV_PAGE_IN lpid src gpa flags order (number_of code) h
+length_command g regs (UPageout lpid dest gpa flags order) (Ret code) k h = length-called regs.gpr UV_PAGE_OUT lpid dest gpa flags order (number_of code) h
+length_command g regs (UReturn r0 r2 outs) (Ret code) k h = length-returned (loaded regs.gpr r0 r2) outs r0 r2 (number_of code) (length-loaded regs.gpr r0 r2 h) k
+length_command g regs (GLi rd value) Done k h = simp length-set h
+length_command g regs (GLd rd gpa) (Val value) k h = simp length-set h
+length_command g regs (GSt rs gpa) Done k h = h
+length_command g regs cmd a k h = h
 
 pub set_value : (gpr : List ℕ) (rd value r : ℕ) → length gpr ≡ 32 → rd < 32 → get_or (slice_set gpr rd value) r 0 ≡ unwrap_or (if r == rd then Some value else None) (get_or gpr r 0)
 set_value gpr rd value r h k = by_test (r == rd) refl where
@@ -121,7 +121,7 @@ set_value gpr rd value r h k = by_test (r == rd) refl where
 
 -- each register after a command of its vCPU
 command_value : (g : Guest) (regs : Regs) (cmd : Cmd) (a : Answer) (r : ℕ) → IsCommand cmd → length regs.gpr ≡ 32 → r < 32 →
-    get_or (registers_after_command regs cmd a).gpr r 0 ≡ unwrap_or (assigned_by_command g cmd a r) (get_or regs.gpr r 0)
+    get_or (registers_after_command g regs cmd a).gpr r 0 ≡ unwrap_or (assigned_by_command g cmd a r) (get_or regs.gpr r 0)
 command_value g regs (UPagein lpid src gpa flags order) (Ret code) r k h small = called_value regs.gpr UV_PAGE_IN lpid src gpa flags order (number_of code) r h
 command_value g regs (UPageout lpid dest gpa flags order) (Ret code) r k h small = called_value regs.gpr UV_PAGE_OUT lpid dest gpa flags order (number_of code) r h
 command_value g regs (UReturn r0 r2 outs) (Ret code) r k h small = returned_value regs.gpr outs r0 r2 (number_of code) r h k small
@@ -155,8 +155,8 @@ full_after ctx.Hv g selected cmd a k full vid = ap length (gpr_in_hypervisor g s
 full_after (ctx.Uv (Inward move)) g selected cmd a k full vid = full vid
 full_after (ctx.Uv (Outward move)) g selected cmd a k full vid = full vid
 full_after (ctx.Guest run) g selected cmd a k full vid = by_test (vid == run.vid) where
-  by_test : (b : Bool) → length (if b then registers_after_command (g.registers run.vid) cmd a else g.registers vid).gpr ≡ 32
-  by_test true = length_command (g.registers run.vid) cmd a k (full run.vid)
+  by_test : (b : Bool) → length (if b then registers_after_command g (g.registers run.vid) cmd a else g.registers vid).gpr ≡ 32
+  by_test true = length_command g (g.registers run.vid) cmd a k (full run.vid)
   by_test false = full vid
 
 value_after_step : (c : Ctx) (g : Guest) (selected : ℕ) (cmd : Cmd) (a : Answer) (vid r : ℕ) → IsCommand cmd → AreFull g.registers → r < 32 →
@@ -166,7 +166,7 @@ value_after_step (ctx.Uv (Inward move)) g selected cmd a vid r k full small = re
 value_after_step (ctx.Uv (Outward move)) g selected cmd a vid r k full small = refl
 value_after_step (ctx.Guest run) g selected cmd a vid r k full small = by_test (vid == run.vid) refl where
   by_test : (b : Bool) → (vid == run.vid) ≡ b →
-      get_or (if b then registers_after_command (g.registers run.vid) cmd a else g.registers vid).gpr r 0
+      get_or (if b then registers_after_command g (g.registers run.vid) cmd a else g.registers vid).gpr r 0
       ≡ unwrap_or (if b then assigned_by_command g cmd a r else None) (get_or (g.registers vid).gpr r 0)
   by_test true t =
       command_value g (g.registers run.vid) cmd a r k (full run.vid) small

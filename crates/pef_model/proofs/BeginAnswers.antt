@@ -1,5 +1,5 @@
 -- Where a page begins to move, and where a vCPU is taken up.
-use Rattle.std.proofs.Common.{◌≡◌, ◌≢◌, ℕ, ◌<◌, List, Bool, true, false, ◌&&◌, nat_le, nat_lt, if◌then◌else◌, Option, Some, None, refl, ap, sym, subst, ◌∙◌, ◌⊎◌, inl, inr, arith}
+use Rattle.std.proofs.Common.{◌≡◌, ◌≢◌, ℕ, ◌<◌, List, Bool, true, false, ◌&&◌, nat_le, nat_lt, if◌then◌else◌, Option, Some, None, refl, ap, sym, subst, ◌∙◌, arith}
 use Rattle.std.specs.Prelude.{is_some, ◌↔◌}
 use Rattle.std.proofs.lemmas.Grind.{common_steps}
 use Rattle.std.proofs.lemmas.Bool.Decides.{nat_tests}
@@ -22,7 +22,7 @@ use Rattle.pef_model.specs.Deed.{Deed, may_return_in, is_waiting, deed_return}
 use Rattle.pef_model.specs.History.{cpu_after, pool_after, deed_after, Extends}
 use Rattle.pef_model.specs.CountLaw.{part_after}
 use Rattle.pef_model.specs.MoveLaw.{page_after}
-use Rattle.pef_model.specs.CauseLaw.{IsReadyIn, IsReadyOut, PageInFinds, PageOutFinds, BeginsExactlyWhere, EntersExactlyWhere}
+use Rattle.pef_model.specs.CauseLaw.{IsReadyIn, IsReadyOut, PageInFinds, PageOutFinds, BeginCause, BeginsPageIn, BeginsPageOut, BeginsExactlyWhere, EntersExactlyWhere}
 use Rattle.pef_model.proofs.Folds.{same_test, test_same}
 use Rattle.pef_model.proofs.BusyAnswers.{in_deed, out_deed, within_test, test_within, not_below, below_not, none_free}
 use Rattle.pef_model.proofs.DeedOf.{ask_in, deed_in, deed_is}
@@ -65,7 +65,6 @@ page_in_from plan past e ask lpid src gpa flags order before cmd_is true t h = r
     phase = grind (arith, common_steps);
     frame = grind (arith, common_steps);
     page = grind (arith, common_steps);
-    kind = grind (arith, common_steps);
     flags_are = not_below PAGE_IN_FLAGS flags (grind (arith, common_steps));
     order_is = test_same order plan.shift (grind (arith, common_steps));
   };
@@ -102,7 +101,7 @@ page_out_from plan past e ask lpid dest gpa flags order before cmd_is true t h =
 
 -- a page that can come in isn't Shared
 comes_unshared : (plan : Plan) (past : List Event) (e : Event) (asks : PageInFinds IsReadyIn plan past e) → is_shared (page_after plan past asks.lpid (page_of plan asks.gpa)).kind ≡ false
-comes_unshared plan past e asks = let kind = asks.right.kind in grind (arith, common_steps)
+comes_unshared plan past e asks = let page = asks.right.page in grind (arith, common_steps)
 
 -- and what names and finds this begins
 page_in_begins : (plan : Plan) (past : List Event) (e : Event) (ask : Ask) (asks : PageInFinds IsReadyIn plan past e) →
@@ -113,7 +112,6 @@ page_in_begins plan past e ask asks =
       asks.right.phase,
       asks.right.frame,
       asks.right.page,
-      asks.right.kind,
       below_not PAGE_IN_FLAGS asks.flags asks.right.flags_are,
       asks.right.order_is,
       same_test plan.shift,
@@ -152,9 +150,9 @@ module _ (plan : Plan) (past : List Event) (e : Event) (extends : Extends plan p
   abbrev cpu : CpuPart
   cpu = cpu_after plan e.trace.cpu past
 
-  begins_from : (cmd : Cmd) → e.trace.cmd ≡ cmd → (deed_in plan past cpu ctx.Hv cmd).answer ≡ Step → PageInFinds IsReadyIn plan past e ⊎ PageOutFinds IsReadyOut plan past e
-  begins_from (UPagein lpid src gpa flags order) cmd_is h = inl (page_in_from plan past e (ask_in cpu ctx.Hv (UPagein lpid src gpa flags order)) lpid src gpa flags order before cmd_is (nat_le 1 lpid && nat_le lpid plan.guests) refl h)
-  begins_from (UPageout lpid dest gpa flags order) cmd_is h = inr (page_out_from plan past e (ask_in cpu ctx.Hv (UPageout lpid dest gpa flags order)) lpid dest gpa flags order before cmd_is (nat_le 1 lpid && nat_le lpid plan.guests) refl h)
+  begins_from : (cmd : Cmd) → e.trace.cmd ≡ cmd → (deed_in plan past cpu ctx.Hv cmd).answer ≡ Step → BeginCause plan past e
+  begins_from (UPagein lpid src gpa flags order) cmd_is h = BeginsPageIn (page_in_from plan past e (ask_in cpu ctx.Hv (UPagein lpid src gpa flags order)) lpid src gpa flags order before cmd_is (nat_le 1 lpid && nat_le lpid plan.guests) refl h)
+  begins_from (UPageout lpid dest gpa flags order) cmd_is h = BeginsPageOut (page_out_from plan past e (ask_in cpu ctx.Hv (UPageout lpid dest gpa flags order)) lpid dest gpa flags order before cmd_is (nat_le 1 lpid && nat_le lpid plan.guests) refl h)
   begins_from (HLd ra) cmd_is h = absurd (load_begins_none plan past (ask_in cpu ctx.Hv (HLd ra)) ra (has_real_place plan ra) h)
   begins_from (HSt ra value) cmd_is h = absurd (store_begins_none plan past (ask_in cpu ctx.Hv (HSt ra value)) ra value (has_real_place plan ra) h)
   begins_from (UReturn r0 r2 outs) cmd_is h = absurd (return_begins_none (part_after plan past cpu.lpid) (ask_in cpu ctx.Hv (UReturn r0 r2 outs)) h)
@@ -163,11 +161,11 @@ module _ (plan : Plan) (past : List Event) (e : Event) (extends : Extends plan p
   answer_is : (cmd : Cmd) → e.trace.cmd ≡ cmd → e.trace.answer ≡ (deed_in plan past cpu ctx.Hv cmd).answer
   answer_is cmd cmd_is = ap (λ (d : Deed). d.answer) (deed_is plan past e ctx.Hv cmd extends before cmd_is)
 
-  begins_to : PageInFinds IsReadyIn plan past e ⊎ PageOutFinds IsReadyOut plan past e → e.trace.answer ≡ Step
-  begins_to (inl asks) =
+  begins_to : BeginCause plan past e → e.trace.answer ≡ Step
+  begins_to (BeginsPageIn asks) =
       let cmd : Cmd = UPagein asks.lpid asks.src asks.gpa asks.flags asks.order in
       answer_is cmd asks.cmd_is ∙ page_in_begins plan past e (ask_in cpu ctx.Hv cmd) asks
-  begins_to (inr asks) =
+  begins_to (BeginsPageOut asks) =
       let cmd : Cmd = UPageout asks.lpid asks.dest asks.gpa asks.flags asks.order in
       answer_is cmd asks.cmd_is ∙ page_out_begins plan past e (ask_in cpu ctx.Hv cmd) asks
 

@@ -23,7 +23,7 @@ use Rattle.pef_model.specs.Deed.{Deed, deed_return}
 use Rattle.pef_model.specs.History.{cpu_after, pool_after, deed_after, Extends}
 use Rattle.pef_model.specs.CountLaw.{part_after}
 use Rattle.pef_model.specs.MoveLaw.{page_after}
-use Rattle.pef_model.specs.CauseLaw.{IsBusyIn, IsBusyOut, PageInFinds, PageOutFinds, BusyExactlyWhere}
+use Rattle.pef_model.specs.CauseLaw.{IsBusyIn, IsBusyOut, PageInFinds, PageOutFinds, BusyCause, BusyPageIn, BusyPageOut, BusyExactlyWhere}
 use Rattle.pef_model.proofs.Folds.{same_test, test_same}
 use Rattle.pef_model.specs.declared.command.TheConstants.{PAGE_IN_FLAGS}
 use Rattle.pef_model.proofs.DeedOf.{ask_in, deed_in, deed_is}
@@ -68,7 +68,6 @@ page_in_from plan past e ask lpid src gpa flags order before cmd_is true t h = r
     phase = grind (arith, common_steps);
     frame = grind (arith, common_steps);
     page = grind (arith, common_steps);
-    kind = grind (arith, common_steps);
     flags_are = not_below PAGE_IN_FLAGS flags (grind (arith, common_steps));
     order_is = test_same order plan.shift (grind (arith, common_steps));
   };
@@ -111,7 +110,7 @@ page_out_from plan past e ask lpid dest gpa flags order before cmd_is true t h =
 -- and what names this is busy
 page_in_busy : (plan : Plan) (past : List Event) (e : Event) (ask : Ask) (asks : PageInFinds IsBusyIn plan past e) → IsBusyIn (page_after plan past asks.lpid (page_of plan asks.gpa)) (pool_after plan past) →
     (in_deed plan past ask asks.lpid asks.src asks.gpa asks.flags asks.order (nat_le 1 asks.lpid && nat_le asks.lpid plan.guests)).answer ≡ Ret UBusy
-page_in_busy plan past e ask asks (inl moves) = rw (test_within asks.lpid plan.guests asks.right.guest, asks.right.phase, asks.right.frame, asks.right.page, asks.right.kind, below_not PAGE_IN_FLAGS asks.flags asks.right.flags_are, asks.right.order_is, same_test plan.shift, moves) refl
+page_in_busy plan past e ask asks (inl moves) = rw (test_within asks.lpid plan.guests asks.right.guest, asks.right.phase, asks.right.frame, asks.right.page, below_not PAGE_IN_FLAGS asks.flags asks.right.flags_are, asks.right.order_is, same_test plan.shift, moves) refl
 page_in_busy plan past e ask asks (inr (other, none)) =
     let within = test_within asks.lpid plan.guests asks.right.guest in
     let right = below_not PAGE_IN_FLAGS asks.flags asks.right.flags_are in
@@ -155,9 +154,9 @@ module _ (plan : Plan) (past : List Event) (e : Event) (extends : Extends plan p
   abbrev cpu : CpuPart
   cpu = cpu_after plan e.trace.cpu past
 
-  busy_from : (c : Ctx) (cmd : Cmd) → e.saw.before ≡ c → e.trace.cmd ≡ cmd → (deed_in plan past cpu c cmd).answer ≡ Ret UBusy → PageInFinds IsBusyIn plan past e ⊎ PageOutFinds IsBusyOut plan past e
-  busy_from ctx.Hv (UPagein lpid src gpa flags order) before cmd_is h = inl (page_in_from plan past e (ask_in cpu ctx.Hv (UPagein lpid src gpa flags order)) lpid src gpa flags order before cmd_is (nat_le 1 lpid && nat_le lpid plan.guests) refl h)
-  busy_from ctx.Hv (UPageout lpid dest gpa flags order) before cmd_is h = inr (page_out_from plan past e (ask_in cpu ctx.Hv (UPageout lpid dest gpa flags order)) lpid dest gpa flags order before cmd_is (nat_le 1 lpid && nat_le lpid plan.guests) refl h)
+  busy_from : (c : Ctx) (cmd : Cmd) → e.saw.before ≡ c → e.trace.cmd ≡ cmd → (deed_in plan past cpu c cmd).answer ≡ Ret UBusy → BusyCause plan past e
+  busy_from ctx.Hv (UPagein lpid src gpa flags order) before cmd_is h = BusyPageIn (page_in_from plan past e (ask_in cpu ctx.Hv (UPagein lpid src gpa flags order)) lpid src gpa flags order before cmd_is (nat_le 1 lpid && nat_le lpid plan.guests) refl h)
+  busy_from ctx.Hv (UPageout lpid dest gpa flags order) before cmd_is h = BusyPageOut (page_out_from plan past e (ask_in cpu ctx.Hv (UPageout lpid dest gpa flags order)) lpid dest gpa flags order before cmd_is (nat_le 1 lpid && nat_le lpid plan.guests) refl h)
   busy_from ctx.Hv (HLd ra) before cmd_is h = absurd (load_not_busy plan past (ask_in cpu ctx.Hv (HLd ra)) ra (has_real_place plan ra) h)
   busy_from ctx.Hv (HSt ra value) before cmd_is h = absurd (store_not_busy plan past (ask_in cpu ctx.Hv (HSt ra value)) ra value (has_real_place plan ra) h)
   busy_from ctx.Hv (UReturn r0 r2 outs) before cmd_is h = absurd (return_not_busy (part_after plan past cpu.lpid) (ask_in cpu ctx.Hv (UReturn r0 r2 outs)) h)
@@ -171,11 +170,11 @@ module _ (plan : Plan) (past : List Event) (e : Event) (extends : Extends plan p
   busy_from (ctx.Guest run) Go before cmd_is h = cc
   busy_from (ctx.Guest run) cmd before cmd_is h = absurd (guest_not_busy plan past run (ask_in cpu (ctx.Guest run) cmd) cmd h)
 
-  busy_to : PageInFinds IsBusyIn plan past e ⊎ PageOutFinds IsBusyOut plan past e → e.trace.answer ≡ Ret UBusy
-  busy_to (inl asks) =
+  busy_to : BusyCause plan past e → e.trace.answer ≡ Ret UBusy
+  busy_to (BusyPageIn asks) =
       let cmd : Cmd = UPagein asks.lpid asks.src asks.gpa asks.flags asks.order in
       ap (λ (d : Deed). d.answer) (deed_is plan past e ctx.Hv cmd extends asks.before asks.cmd_is) ∙ page_in_busy plan past e (ask_in cpu ctx.Hv cmd) asks asks.found
-  busy_to (inr asks) =
+  busy_to (BusyPageOut asks) =
       let cmd : Cmd = UPageout asks.lpid asks.dest asks.gpa asks.flags asks.order in
       ap (λ (d : Deed). d.answer) (deed_is plan past e ctx.Hv cmd extends asks.before asks.cmd_is) ∙ page_out_busy plan past e (ask_in cpu ctx.Hv cmd) asks asks.found.1
 

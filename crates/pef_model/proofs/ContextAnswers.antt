@@ -12,7 +12,7 @@ use Rattle.pef_model.specs.declared.entry.Answer.TheVariants.{Gone, Context}
 use Rattle.pef_model.specs.Plan.{Plan}
 use Rattle.pef_model.specs.Event.{Event}
 use Rattle.pef_model.specs.Memory.{start_pool, next_pool, start_frame, next_frame}
-use Rattle.pef_model.specs.Target.{Ask, Alone, is_hypervisor, is_guest, is_number, target_in, target_of, touches_cpu, touches_guest, touches_pool, touches_frame}
+use Rattle.pef_model.specs.Target.{Ask, Alone, is_hypervisor, vcpu_in, is_guest, is_number, target_in, target_of, touches_cpu, touches_guest, touches_pool, touches_frame}
 use Rattle.pef_model.specs.Cpu.{CpuPart, start_cpu, next_cpu, cpu_by}
 use Rattle.pef_model.specs.Guest.{Guest, start_guest, next_guest, stored_in}
 use Rattle.pef_model.specs.Deed.{Deed, deed_alone, deed_running, deed_gone}
@@ -26,6 +26,7 @@ use Rattle.pef_model.specs.CauseLaw.{gone_cpu}
 use Rattle.pef_model.proofs.Puts.{put-same}
 use Rattle.pef_model.proofs.Outcomes.{Outcome, outcome, moving}
 use Rattle.pef_model.proofs.Steps.{context_leaves}
+use Rattle.pef_model.proofs.Moves.{runs_alone}
 use Rattle.pef_model.proofs.DeedOf.{deed_of, ask_in, deed_in, context_is, selected_is, deed_is}
 
 -- a step answers Context at a command of another context
@@ -116,7 +117,7 @@ module _ (plan : Plan) (past : List Event) (e : Event) (extends : Extends plan p
       let command : is_command_in (ctx.Guest run) e.trace.cmd ≡ true = gone_command (ctx.Guest run) e.trace.cmd e.saw.after e.saw.shown given in
       record {
         run = run;
-        before = before;
+        before = ap vcpu_in before;
         cmd_is = ap (λ (c : Ctx). is_command_in c e.trace.cmd) before ∙ command;
         generation = λ same.
             let g : Guest = guest_after plan run.lpid past in
@@ -131,10 +132,11 @@ module _ (plan : Plan) (past : List Event) (e : Event) (extends : Extends plan p
   gone_deed : (ended : IsOfAnEndedGuest plan past e) → deed_of e ≡ deed_gone (ask_in (cpu_after plan e.trace.cpu past) (ctx.Guest ended.run) e.trace.cmd)
   gone_deed ended =
       let run : Run = ended.run in
+      let before : e.saw.before ≡ ctx.Guest run = runs_alone e.saw.before run ended.before in
       let ask : Ask = ask_in (cpu_after plan e.trace.cpu past) (ctx.Guest run) e.trace.cmd in
       let runs = deed_running plan run (guest_after plan run.lpid past) (found_after plan past) (nat_lt 0 (pool_after plan past)) ask e.trace.cmd in
-      let command : is_command_in (ctx.Guest run) e.trace.cmd ≡ true = ap (λ (c : Ctx). is_command_in c e.trace.cmd) (sym ended.before) ∙ ended.cmd_is in
-      deed_is plan past e (ctx.Guest run) e.trace.cmd extends ended.before refl ∙ command_in plan past (cpu_after plan e.trace.cpu past) run e.trace.cmd command
+      let command : is_command_in (ctx.Guest run) e.trace.cmd ≡ true = ap (λ (c : Ctx). is_command_in c e.trace.cmd) (sym before) ∙ ended.cmd_is in
+      deed_is plan past e (ctx.Guest run) e.trace.cmd extends before refl ∙ command_in plan past (cpu_after plan e.trace.cpu past) run e.trace.cmd command
       ∙ ap (λ (b : Bool). if b then runs else deed_gone ask) (other_test run.generation (guest_after plan run.lpid past).part.generation ended.generation)
 
 -- and it changes its CPU alone
@@ -142,8 +144,8 @@ gone_cpu_is : (plan : Plan) (past : List Event) (e : Event) → Extends plan pas
 gone_cpu_is plan past e extends is = let given = outcome plan past e extends in grind (arith, common_steps)
 
 -- it keeps the registers of its vCPU
-gone_registers : (regs : Regs) (cmd : Cmd) → registers_after_command regs cmd Gone ≡ regs
-gone_registers regs cmd = grind (arith, common_steps)
+gone_registers : (g : Guest) (regs : Regs) (cmd : Cmd) → registers_after_command g regs cmd Gone ≡ regs
+gone_registers g regs cmd = grind (arith, common_steps)
 
 -- and its guest
 gone_guest : (plan : Plan) (g : Guest) (e : Event) (run : Run) → e.saw.before ≡ ctx.Guest run → e.trace.answer ≡ Gone → next_guest plan g e ≡ g
@@ -157,8 +159,8 @@ gone_guest plan g e run before is =
         content_is : (cmd : Cmd) (gpa : ℕ) → stored_in (ctx.Guest run) plan g cmd Gone e.saw.frame e.bytes gpa ≡ None
         content_is cmd gpa = grind (arith, common_steps)
 
-        registers_are : (cmd : Cmd) (vid : ℕ) → put g.registers run.vid (registers_after_command (g.registers run.vid) cmd Gone) vid ≡ g.registers vid
-        registers_are cmd vid = ap (λ (regs : Regs). put g.registers run.vid regs vid) (gone_registers (g.registers run.vid) cmd) ∙ put-same g.registers run.vid vid
+        registers_are : (cmd : Cmd) (vid : ℕ) → put g.registers run.vid (registers_after_command g (g.registers run.vid) cmd Gone) vid ≡ g.registers vid
+        registers_are cmd vid = ap (λ (regs : Regs). put g.registers run.vid regs vid) (gone_registers g (g.registers run.vid) cmd) ∙ put-same g.registers run.vid vid
 
         clean_is : (b : Bool) → (b && true) ≡ b
         clean_is true = refl
@@ -177,7 +179,7 @@ gone_rest plan past e extends ended = record {
   by_guest lpid false t = skips (touches_guest plan lpid) (next_guest plan) (start_guest plan lpid) e past t
   by_guest lpid true t =
       counts (touches_guest plan lpid) (next_guest plan) (start_guest plan lpid) e past t
-      ∙ gone_guest plan (guest_after plan lpid past) e ended.run ended.before (ap (λ (d : Deed). d.answer) deed)
+      ∙ gone_guest plan (guest_after plan lpid past) e ended.run (runs_alone e.saw.before ended.run ended.before) (ap (λ (d : Deed). d.answer) deed)
 
 pub gone_exactly_where : GoneExactlyWhere
 gone_exactly_where plan past e extends = record {

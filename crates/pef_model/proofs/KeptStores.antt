@@ -51,4 +51,4 @@ pub stores_stay : (plan : Plan) (past : List Event) (e : Event) (lpid gpa : ℕ)
 stores_stay plan past e lpid gpa others = content_stays plan past e lpid gpa (others_store_nothing plan past e lpid gpa others)
 
 pub moves_keep_last_store : MovesKeepLastStore
-moves_keep_last_store plan past e lpid gpa legal others same kept = stores_stay plan past e lpid gpa (runs_of_others e.saw.before lpid others)
+moves_keep_last_store plan past e lpid gpa legal others same kept keeps = stores_stay plan past e lpid gpa (runs_of_others e.saw.before lpid others)

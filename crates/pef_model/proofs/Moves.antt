@@ -36,39 +36,39 @@ registers_by_is plan past e lpid vid = by_test (touches_guest plan lpid e) where
   by_test true = refl
   by_test false = refl
 
-steps : (regs : Regs) (run : Run) (cmd : Cmd) (a : Answer) (after : Ctx) (shown : List ℕ) → Outcome (ctx.Guest run) cmd a after shown →
-    Steps cmd a regs (registers_after_command regs cmd a)
-steps regs run (HLd ra) Context after shown h = record { nip = refl; srr0 = refl }
-steps regs run (HSt ra value) Context after shown h = record { nip = refl; srr0 = refl }
-steps regs run (UPagein lpid src gpa flags order) (Ret code) after shown h = record { nip = refl; srr0 = refl }
-steps regs run (UPageout lpid dest gpa flags order) (Ret code) after shown h = record { nip = refl; srr0 = refl }
-steps regs run (UReturn r0 r2 outs) (Ret code) after shown h = record { nip = refl; srr0 = refl }
-steps regs run (GLi rd value) Done after shown h = record { nip = refl; srr0 = refl }
-steps regs run (GLd rd gpa) (Val value) after shown h = record { nip = refl; srr0 = refl }
-steps regs run (GLd rd gpa) Hole after shown h = record { nip = refl; srr0 = refl }
-steps regs run (GLd rd gpa) Again after shown h = record { nip = refl; srr0 = refl }
-steps regs run (GSt rs gpa) Done after shown h = record { nip = refl; srr0 = refl }
-steps regs run (GSt rs gpa) Hole after shown h = record { nip = refl; srr0 = refl }
-steps regs run (GSt rs gpa) Again after shown h = record { nip = refl; srr0 = refl }
-steps regs run GIrq (Exit exit.Irq) after shown h = record { nip = refl; srr0 = refl }
-steps regs run Go Context after shown h = record { nip = refl; srr0 = refl }
-steps regs run (HLd ra) a after shown h = absurd h
-steps regs run (HSt ra value) a after shown h = absurd h
-steps regs run Go a after shown h = absurd h
-steps regs run cmd Gone after shown h = record { nip = refl; srr0 = refl }
-steps regs run cmd a after shown h = absurd h
+steps : (g : Guest) (regs : Regs) (run : Run) (cmd : Cmd) (a : Answer) (after : Ctx) (shown : List ℕ) → Outcome (ctx.Guest run) cmd a after shown →
+    Steps cmd a regs (registers_after_command g regs cmd a)
+steps g regs run (HLd ra) Context after shown h = record { nip = refl; srr0 = refl }
+steps g regs run (HSt ra value) Context after shown h = record { nip = refl; srr0 = refl }
+steps g regs run (UPagein lpid src gpa flags order) (Ret code) after shown h = record { nip = refl; srr0 = refl }
+steps g regs run (UPageout lpid dest gpa flags order) (Ret code) after shown h = record { nip = refl; srr0 = refl }
+steps g regs run (UReturn r0 r2 outs) (Ret code) after shown h = record { nip = refl; srr0 = refl }
+steps g regs run (GLi rd value) Done after shown h = record { nip = refl; srr0 = refl }
+steps g regs run (GLd rd gpa) (Val value) after shown h = record { nip = refl; srr0 = refl }
+steps g regs run (GLd rd gpa) Hole after shown h = record { nip = refl; srr0 = refl }
+steps g regs run (GLd rd gpa) Again after shown h = record { nip = refl; srr0 = refl }
+steps g regs run (GSt rs gpa) Done after shown h = record { nip = refl; srr0 = refl }
+steps g regs run (GSt rs gpa) Hole after shown h = record { nip = refl; srr0 = refl }
+steps g regs run (GSt rs gpa) Again after shown h = record { nip = refl; srr0 = refl }
+steps g regs run GIrq (Exit exit.Irq) after shown h = record { nip = refl; srr0 = refl }
+steps g regs run Go Context after shown h = record { nip = refl; srr0 = refl }
+steps g regs run (HLd ra) a after shown h = absurd h
+steps g regs run (HSt ra value) a after shown h = absurd h
+steps g regs run Go a after shown h = absurd h
+steps g regs run cmd Gone after shown h = record { nip = refl; srr0 = refl }
+steps g regs run cmd a after shown h = absurd h
 
 -- a step that aims at its own guest leaves its vCPU these registers
 aimed_registers : (run : Run) (v : ℕ) (cmd : Cmd) (a : Answer) (g : Guest) (lpid vid : ℕ) → run.lpid ≡ lpid → run.vid ≡ vid →
-    (if run.lpid == lpid then registers_in (ctx.Guest run) g v cmd a vid else g.registers vid) ≡ registers_after_command (g.registers vid) cmd a
+    (if run.lpid == lpid then registers_in (ctx.Guest run) g v cmd a vid else g.registers vid) ≡ registers_after_command g (g.registers vid) cmd a
 aimed_registers run v cmd a g lpid vid here this =
-    subst (λ (x : ℕ). (if run.lpid == x then registers_in (ctx.Guest run) g v cmd a vid else g.registers vid) ≡ registers_after_command (g.registers vid) cmd a) here
-    (subst (λ (x : ℕ). (if run.lpid == run.lpid then registers_in (ctx.Guest run) g v cmd a x else g.registers x) ≡ registers_after_command (g.registers x) cmd a) this
+    subst (λ (x : ℕ). (if run.lpid == x then registers_in (ctx.Guest run) g v cmd a vid else g.registers vid) ≡ registers_after_command g (g.registers vid) cmd a) here
+    (subst (λ (x : ℕ). (if run.lpid == run.lpid then registers_in (ctx.Guest run) g v cmd a x else g.registers x) ≡ registers_after_command g (g.registers x) cmd a) this
     (rw (same_test run.lpid, same_test run.vid) refl))
 
 -- so does one that aims at nothing
 own_registers : (plan : Plan) (run : Run) (l v : ℕ) (cmd : Cmd) (a : Answer) (g : Guest) (lpid vid : ℕ) → run.lpid ≡ lpid → run.vid ≡ vid →
-    registers_by plan (ctx.Guest run) l v cmd a g lpid vid ≡ registers_after_command (g.registers vid) cmd a
+    registers_by plan (ctx.Guest run) l v cmd a g lpid vid ≡ registers_after_command g (g.registers vid) cmd a
 own_registers plan run l v (HLd ra) a g lpid vid here this = refl
 own_registers plan run l v (HSt ra value) a g lpid vid here this = refl
 own_registers plan run l v Go a g lpid vid here this = refl
@@ -110,7 +110,7 @@ others_stay plan ctx.Hv l v cmd a g lpid vid own taken = either_same (is_guest l
 others_stay plan (ctx.Uv (Inward move)) l v cmd a g lpid vid own taken = either_same (is_guest lpid (target_in plan (ctx.Uv (Inward move)) l cmd)) (g.registers vid)
 others_stay plan (ctx.Uv (Outward move)) l v cmd a g lpid vid own taken = either_same (is_guest lpid (target_in plan (ctx.Uv (Outward move)) l cmd)) (g.registers vid)
 others_stay plan (ctx.Guest run) l v cmd a g lpid vid own taken =
-    put_elsewhere (is_guest lpid (target_in plan (ctx.Guest run) l cmd)) g.registers (registers_after_command (g.registers run.vid) cmd a) lpid vid run.vid
+    put_elsewhere (is_guest lpid (target_in plan (ctx.Guest run) l cmd)) g.registers (registers_after_command g (g.registers run.vid) cmd a) lpid vid run.vid
     (λ t u. absurd (own run refl (own_guest plan run l lpid cmd u) (sym (test_same vid run.vid t))))
 
 gpr_stays : (plan : Plan) (c : Ctx) (l v : ℕ) (cmd : Cmd) (a : Answer) (g : Guest) (lpid vid : ℕ) →
@@ -125,7 +125,7 @@ gpr_stays plan (ctx.Guest run) l v cmd a g lpid vid own =
     ap (λ (x : Regs). x.gpr) (others_stay plan (ctx.Guest run) l v cmd a g lpid vid own (λ r0 r2 outs h cmd_is answer_is here this. let no : ⊥ = cc in no))
 
 -- the hypervisor's calls alone are in progress
-runs_alone : (c : Ctx) (run : Run) → vcpu_in c ≡ Some run → c ≡ ctx.Guest run
+pub runs_alone : (c : Ctx) (run : Run) → vcpu_in c ≡ Some run → c ≡ ctx.Guest run
 runs_alone ctx.Hv run h = cc
 runs_alone (ctx.Uv (Inward move)) run h = cc
 runs_alone (ctx.Uv (Outward move)) run h = cc
@@ -141,9 +141,9 @@ each_entry_leaves_registers plan past e lpid vid extends =
           subst (λ (x : Regs). Steps e.trace.cmd e.trace.answer (registers vid) x)
           (sym (is ∙ ap (λ (c : Ctx). registers_by plan c e.saw.lpid e.saw.vid e.trace.cmd e.trace.answer g lpid vid) (runs_alone e.saw.before run step.before)
           ∙ own_registers plan run e.saw.lpid e.saw.vid e.trace.cmd e.trace.answer g lpid vid step.guest_is step.vcpu_is))
-          (steps (registers vid) run e.trace.cmd e.trace.answer e.saw.after e.saw.shown
+          (steps g (registers vid) run e.trace.cmd e.trace.answer e.saw.after e.saw.shown
           (subst (λ (c : Ctx). Outcome c e.trace.cmd e.trace.answer e.saw.after e.saw.shown) (runs_alone e.saw.before run step.before) (outcome plan past e extends)));
-      taken = λ (r0 r2 : ℕ) (outs : List ℕ) (takes : TakesUp lpid vid r0 r2 outs e).
+      taken = λ (r0 r2 : ℕ) (outs : List ℕ) (takes : TakesUp lpid vid r0 r2 outs e) nothing.
           subst (λ (x : Regs). IsInterrupted r2 (registers vid) x)
           (sym (is ∙ ap (λ (c : Ctx). registers_by plan c e.saw.lpid e.saw.vid e.trace.cmd e.trace.answer g lpid vid) takes.before
           ∙ ap (λ (cmd : Cmd). registers_by plan ctx.Hv e.saw.lpid e.saw.vid cmd e.trace.answer g lpid vid) takes.cmd_is
@@ -152,11 +152,11 @@ each_entry_leaves_registers plan past e lpid vid extends =
           ∙ ap (λ (v : ℕ). registers_by plan ctx.Hv lpid v (UReturn r0 r2 outs) Enter g lpid vid) takes.vcpu_is
           ∙ taken_registers plan r0 r2 outs g lpid vid))
           (is_interrupted (registers vid) r2);
-      others = λ stays own taken.
+      others = λ keeps own taken.
           is ∙ others_stay plan e.saw.before e.saw.lpid e.saw.vid e.trace.cmd e.trace.answer g lpid vid
           (λ run before here this. own run (record { before = ap vcpu_in before; guest_is = here; vcpu_is = this }))
           (λ r0 r2 outs before cmd_is answer_is here this. taken r0 r2 outs (record { before = before; cmd_is = cmd_is; answer_is = answer_is; guest_is = here; vcpu_is = this }));
-      gpr = λ stays own.
+      gpr = λ keeps own taken.
           ap (λ (x : Regs). x.gpr) is ∙ gpr_stays plan e.saw.before e.saw.lpid e.saw.vid e.trace.cmd e.trace.answer g lpid vid
           (λ run before here this. own run (record { before = ap vcpu_in before; guest_is = here; vcpu_is = this }));
     }

@@ -3,7 +3,7 @@ use Rattle.std.specs.Prelude.{◌≡◌, ◌≢◌, ◌⊎◌, ◌↔◌, ℕ, �
 use Rattle.pef_model.specs.declared.state.Phase.{Phase}
 use Rattle.pef_model.specs.declared.state.Phase.TheVariants.{Starting, Normal}
 use Rattle.pef_model.specs.declared.state.Kind.{Kind}
-use Rattle.pef_model.specs.declared.state.Kind.TheVariants.{Invalid, Secure, Out, Shared}
+use Rattle.pef_model.specs.declared.state.Kind.TheVariants.{Invalid, Secure}
 use Rattle.pef_model.specs.declared.state.Run.{Run}
 use Rattle.pef_model.specs.declared.state.Ctx.{Ctx}
 use Rattle.pef_model.specs.declared.state.Ctx.TheVariants as ctx
@@ -15,11 +15,11 @@ use Rattle.pef_model.specs.declared.entry.Answer.TheVariants as answer
 use Rattle.pef_model.specs.Plan.{Plan, IsWithin}
 use Rattle.pef_model.specs.Event.{Event}
 use Rattle.pef_model.specs.Registers.{zero_registers}
-use Rattle.pef_model.specs.Target.{frame_of}
+use Rattle.pef_model.specs.Target.{frame_of, vcpu_in}
 use Rattle.pef_model.specs.Cpu.{CpuPart}
 use Rattle.pef_model.specs.GuestPart.{Page, GuestPart, page_of, has_place}
 use Rattle.pef_model.specs.PageOut.{may_page_out_in, can_go_out, is_shared, has_frame, has_page}
-use Rattle.pef_model.specs.PageIn.{may_page_in_in, can_come_in}
+use Rattle.pef_model.specs.PageIn.{may_page_in_in, may_come_in}
 use Rattle.pef_model.specs.Deed.{may_return_in, is_waiting}
 use Rattle.pef_model.specs.History.{cpu_after, guest_after, pool_after, frame_after, Extends}
 use Rattle.pef_model.specs.CountLaw.{part_after}
@@ -38,8 +38,7 @@ pub record IsRightIn (plan : Plan) (past : List Event) (lpid src gpa flags order
   pub guest : IsWithin 1 plan.guests lpid
   pub phase : may_page_in_in (part_after plan past lpid).phase ≡ true
   pub frame : has_frame plan src ≡ true
-  pub page : has_page plan gpa ≡ true
-  pub kind : can_come_in (page_after plan past lpid (page_of plan gpa)).kind ≡ true
+  pub page : may_come_in plan (part_after plan past lpid) gpa ≡ true
   pub flags_are : flags ≤ PAGE_IN_FLAGS
   pub order_is : order ≡ plan.shift
 
@@ -77,9 +76,14 @@ pub record PageOutFinds (IsFound : Phase → Page → Type 0) (plan : Plan) (pas
   pub right : IsRightOut plan past lpid dest gpa flags order
   pub found : IsFound (part_after plan past lpid).phase (page_after plan past lpid (page_of plan gpa))
 
--- the calls that find a page which can't move at present answer U_BUSY, and nothing else does
+-- what has U_BUSY as its answer, a case for each call: it finds a page that can't move at present
+pub data BusyCause (plan : Plan) (past : List Event) (e : Event) : Type 0 where
+  BusyPageIn : PageInFinds IsBusyIn plan past e → BusyCause plan past e
+  BusyPageOut : PageOutFinds IsBusyOut plan past e → BusyCause plan past e
+
+-- these entries answer U_BUSY, and nothing else does
 abbrev pub BusyExactlyWhere : Type 0
-BusyExactlyWhere = (plan : Plan) (past : List Event) (e : Event) → Extends plan past e → (e.trace.answer ≡ answer.Ret UBusy) ↔ (PageInFinds IsBusyIn plan past e ⊎ PageOutFinds IsBusyOut plan past e)
+BusyExactlyWhere = (plan : Plan) (past : List Event) (e : Event) → Extends plan past e → (e.trace.answer ≡ answer.Ret UBusy) ↔ BusyCause plan past e
 
 -- a page can come in at present: it is at rest, and where it isn't Shared a secure frame is free
 abbrev pub IsReadyIn : Page → ℕ → Type 0
@@ -89,11 +93,16 @@ IsReadyIn page free = (page.mover ≡ None) × (is_shared page.kind ≡ false �
 abbrev pub IsReadyOut : Phase → Page → Type 0
 IsReadyOut phase page = (is_shared page.kind ≡ false) × (phase ≢ Starting) × (page.mover ≡ None)
 
--- the calls that find a page which can move at present begin to move it, and no other command of the hypervisor begins a call
+-- what begins a call of the hypervisor, a case for each call: it finds a page that can move at present
+pub data BeginCause (plan : Plan) (past : List Event) (e : Event) : Type 0 where
+  BeginsPageIn : PageInFinds IsReadyIn plan past e → BeginCause plan past e
+  BeginsPageOut : PageOutFinds IsReadyOut plan past e → BeginCause plan past e
+
+-- these entries begin a call, and no other command of the hypervisor does
 abbrev pub BeginsExactlyWhere : Type 0
 BeginsExactlyWhere =
     (plan : Plan) (past : List Event) (e : Event) → Extends plan past e → e.saw.before ≡ ctx.Hv →
-    (e.trace.answer ≡ answer.Step) ↔ (PageInFinds IsReadyIn plan past e ⊎ PageOutFinds IsReadyOut plan past e)
+    (e.trace.answer ≡ answer.Step) ↔ BeginCause plan past e
 
 -- UV_RETURN of the hypervisor enters exactly where the selected guest is in a phase for it and the selected vCPU waits
 abbrev pub EntersExactlyWhere : Type 0
@@ -122,9 +131,13 @@ pub record MeetsMover (plan : Plan) (past : List Event) (e : Event) : Type 0 whe
   pub place : has_place plan gpa ≡ true
   pub mover : IsSome (page_after plan past run.lpid (page_of plan gpa)).mover
 
--- these accesses answer Again, and nothing else does
+-- what has Again as its answer, a case for each kind of step
+pub data AgainCause (plan : Plan) (past : List Event) (e : Event) : Type 0 where
+  AtAccess : MeetsMover plan past e → AgainCause plan past e
+
+-- these entries answer Again, and nothing else does
 abbrev pub AgainExactlyWhere : Type 0
-AgainExactlyWhere = (plan : Plan) (past : List Event) (e : Event) → Extends plan past e → (e.trace.answer ≡ answer.Again) ↔ MeetsMover plan past e
+AgainExactlyWhere = (plan : Plan) (past : List Event) (e : Event) → Extends plan past e → (e.trace.answer ≡ answer.Again) ↔ AgainCause plan past e
 
 -- the real address at which a command loads or stores
 abbrev pub real_address_in : Cmd → Option ℕ
@@ -146,8 +159,7 @@ IsOutside plan ra = (ra % 8 ≢ 0) ⊎ (plan.normal ≤ frame_of plan ra)
 abbrev pub IsOutOfReach : Kind → ℕ → Type 0
 IsOutOfReach Invalid free = free ≡ 0
 IsOutOfReach Secure free = ⊥
-IsOutOfReach Out free = Unit {0}
-IsOutOfReach (Shared frame fresh) free = Unit {0}
+IsOutOfReach other free = Unit {0}
 
 -- an address of a guest that isn't Normal can't be accessed: it is none of a doubleword of a page, or its page is at rest and out of reach
 abbrev pub CannotBeAccessed : Plan → GuestPart → ℕ → ℕ → Type 0
@@ -198,10 +210,10 @@ pub record ContextComes (plan : Plan) (past : List Event) (e : Event) : Type 0 w
 abbrev pub ContextExactlyWhere : Type 0
 ContextExactlyWhere = (plan : Plan) (past : List Event) (e : Event) → Extends plan past e → ContextComes plan past e
 
--- an entry is a command of a vCPU under another generation than its guest's
+-- an entry is a command of a vCPU, or a step of its call in progress, under another generation than its guest's
 pub record IsOfAnEndedGuest (plan : Plan) (past : List Event) (e : Event) : Type 0 where
   pub run : Run
-  pub before : e.saw.before ≡ ctx.Guest run
+  pub before : vcpu_in e.saw.before ≡ Some run
   pub cmd_is : is_command_in e.saw.before e.trace.cmd ≡ true
   pub generation : run.generation ≢ (part_after plan past run.lpid).generation
 

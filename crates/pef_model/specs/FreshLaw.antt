@@ -45,11 +45,11 @@ pub record IsFresh (plan : Plan) (past : List Event) (move : Move) (e : Event) :
 abbrev pub Freshness : Type 0
 Freshness = (plan : Plan) (past : List Event) (move : Move) (e : Event) → IsLegal plan (e ∷ past) → EndsPageIn plan past move e → IsFresh plan past move e
 
--- as long as the guest stays in one generation, no step but one of its own changes what it last stored in a page that isn't Invalid
+-- as long as the guest stays in one generation, no step but one of its own changes what it last stored in a page that isn't Invalid before it nor after it
 abbrev pub MovesKeepLastStore : Type 0
 MovesKeepLastStore =
     (plan : Plan) (past : List Event) (e : Event) (lpid gpa : ℕ) → IsLegal plan (e ∷ past) → ((run : Run) → vcpu_in e.saw.before ≡ Some run → run.lpid ≢ lpid) →
-    (guest_after plan lpid (e ∷ past)).part.generation ≡ (guest_after plan lpid past).part.generation → (page_after plan past lpid (page_of plan gpa)).kind ≢ Invalid →
+    (guest_after plan lpid (e ∷ past)).part.generation ≡ (guest_after plan lpid past).part.generation → (page_after plan past lpid (page_of plan gpa)).kind ≢ Invalid → (page_after plan (e ∷ past) lpid (page_of plan gpa)).kind ≢ Invalid →
     last_store plan (e ∷ past) lpid gpa ≡ last_store plan past lpid gpa
 
 -- the part of a history before its first clash

@@ -40,15 +40,15 @@ stored_by plan g e gpa = stored_in e.saw.before plan g e.trace.cmd e.trace.answe
 abbrev pub at_next_instruction : Regs → List ℕ → Regs
 at_next_instruction regs gpr = record regs { gpr = gpr; nip = (regs.nip + 4) % 2 ^ 64 }
 
--- a vCPU's registers after a command of its own, by its answer: one that met a hole, a page on the move or an interrupt, or whose guest has ended, keeps them
-abbrev pub registers_after_command : Regs → Cmd → Answer → Regs
-registers_after_command regs (UPagein lpid src gpa flags order) (answer.Ret code) = at_next_instruction regs (with_code (load_page_in regs.gpr lpid src gpa flags order) code)
-registers_after_command regs (UPageout lpid dest gpa flags order) (answer.Ret code) = at_next_instruction regs (with_code (load_page_out regs.gpr lpid dest gpa flags order) code)
-registers_after_command regs (UReturn r0 r2 outs) (answer.Ret code) = at_next_instruction regs (with_code (load_return regs.gpr r0 r2 outs) code)
-registers_after_command regs (GLi rd value) answer.Done = at_next_instruction regs (slice_set regs.gpr rd value)
-registers_after_command regs (GLd rd gpa) (answer.Val value) = at_next_instruction regs (slice_set regs.gpr rd value)
-registers_after_command regs (GSt rs gpa) answer.Done = at_next_instruction regs regs.gpr
-registers_after_command regs cmd a = regs
+-- the registers of a guest's vCPU after a command of its own, by its answer: one that met a hole, a page on the move or an interrupt, or whose guest has ended, keeps them
+abbrev pub registers_after_command : Guest → Regs → Cmd → Answer → Regs
+registers_after_command g regs (UPagein lpid src gpa flags order) (answer.Ret code) = at_next_instruction regs (with_code (load_page_in regs.gpr lpid src gpa flags order) code)
+registers_after_command g regs (UPageout lpid dest gpa flags order) (answer.Ret code) = at_next_instruction regs (with_code (load_page_out regs.gpr lpid dest gpa flags order) code)
+registers_after_command g regs (UReturn r0 r2 outs) (answer.Ret code) = at_next_instruction regs (with_code (load_return regs.gpr r0 r2 outs) code)
+registers_after_command g regs (GLi rd value) answer.Done = at_next_instruction regs (slice_set regs.gpr rd value)
+registers_after_command g regs (GLd rd gpa) (answer.Val value) = at_next_instruction regs (slice_set regs.gpr rd value)
+registers_after_command g regs (GSt rs gpa) answer.Done = at_next_instruction regs regs.gpr
+registers_after_command g regs cmd a = regs
 
 -- UV_RETURN goes on at the address in R2, where it isn't 0, and keeps where the vCPU was in SRR0
 abbrev pub entered_at : Regs → ℕ → Regs
@@ -68,7 +68,7 @@ registers_of_call g caller a = g.registers
 abbrev pub registers_in : Ctx → Guest → ℕ → Cmd → Answer → ℕ → Regs
 registers_in ctx.Hv g vid cmd a = registers_of_hypervisor g vid a cmd
 registers_in (ctx.Uv work) g vid cmd a = registers_of_call g (caller work) a
-registers_in (ctx.Guest run) g vid cmd a = put g.registers run.vid (registers_after_command (g.registers run.vid) cmd a)
+registers_in (ctx.Guest run) g vid cmd a = put g.registers run.vid (registers_after_command g (g.registers run.vid) cmd a)
 
 -- the registers of a guest's vCPUs after an entry
 abbrev pub next_registers : Plan → Guest → Event → ℕ → Regs

@@ -27,12 +27,16 @@ can_come_in kind.Secure = false
 can_come_in kind.Out = true
 can_come_in (kind.Shared frame fresh) = false
 
+-- whether a guest address is that of a page that may come in
+abbrev pub may_come_in : Plan → GuestPart → ℕ → Bool
+may_come_in plan g gpa = has_page plan gpa && can_come_in (g.pages (page_of plan gpa)).kind
+
 -- the code with which UV_PAGE_IN comes back by what it names, from left to right; None where all is well
 abbrev pub page_in_operands : Plan → GuestPart → ℕ → ℕ → ℕ → ℕ → Option Code
 page_in_operands plan g src gpa flags order =
     if not (may_page_in_in g.phase) then Some UParameter
     else if not (has_frame plan src) then Some UP2
-    else if not (has_page plan gpa && can_come_in (g.pages (page_of plan gpa)).kind) then Some UP3
+    else if not (may_come_in plan g gpa) then Some UP3
     else if nat_lt PAGE_IN_FLAGS flags then Some UP4
     else if not (order == plan.shift) then Some UP5
     else if is_some (g.pages (page_of plan gpa)).mover then Some UBusy

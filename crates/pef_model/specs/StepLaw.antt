@@ -1,6 +1,10 @@
 -- Laws of one entry: what it makes of its CPU and lets out, and what it makes of a vCPU's registers.
-use Rattle.std.specs.Prelude.{◌≡◌, ℕ, ◌+◌, ◌%◌, ◌^◌, ◌==◌, ◌<◌, Bool, true, false, ◌||◌, if◌then◌else◌, List, [], ◌∷◌, Option, Some, None, unwrap_or, slice_index}
+use Rattle.std.specs.Prelude.{◌≡◌, ◌≢◌, ℕ, ◌+◌, ◌%◌, ◌^◌, ◌==◌, ◌<◌, Bool, true, false, ◌||◌, if◌then◌else◌, List, [], ◌∷◌, Option, Some, None, unwrap_or, slice_index}
 use Rattle.std.specs.List.{AllByRecursion}
+use Rattle.pef_model.specs.declared.state.Phase.TheVariants as phase
+use Rattle.pef_model.specs.declared.state.Pending.TheVariants as pending
+use Rattle.pef_model.specs.declared.state.VState.{VState}
+use Rattle.pef_model.specs.declared.state.VState.TheVariants as vstate
 use Rattle.pef_model.specs.declared.state.Run.{Run}
 use Rattle.pef_model.specs.declared.state.Regs.{Regs}
 use Rattle.pef_model.specs.declared.state.Ctx.{Ctx}
@@ -158,21 +162,34 @@ pub record IsInterrupted (r2 : ℕ) (old new : Regs) : Type 0 where
 abbrev pub registers_of : Plan → List Event → ℕ → ℕ → Regs
 registers_of plan past lpid vid = (guest_after plan lpid past).registers vid
 
+-- whether UV_RETURN gives a vCPU in this state no value: it hasn't run yet, or an interrupt took it from its CPU
+abbrev pub takes_nothing : VState → Bool
+takes_nothing vstate.Fresh = true
+takes_nothing (vstate.Parked pending.Irq) = true
+takes_nothing other = false
+
+-- what holds of a guest while no step but of its own vCPUs, and the UV_RETURN that takes one up, changes a register: it has one generation, and is neither Normal nor Starting
+pub record KeepsRegisters (plan : Plan) (past : List Event) (e : Event) (lpid : ℕ) : Type 0 where
+  pub generation : (guest_after plan lpid (e ∷ past)).part.generation ≡ (guest_after plan lpid past).part.generation
+  pub normal : (guest_after plan lpid past).part.phase ≢ phase.Normal
+  pub starting : (guest_after plan lpid past).part.phase ≢ phase.Starting
+
 -- what an entry makes of a vCPU's registers
 pub record LeavesRegisters (plan : Plan) (past : List Event) (e : Event) (lpid vid : ℕ) : Type 0 where
   -- its own step moves it on
   pub own : (run : Run) → IsStepOf lpid vid run e → Steps e.trace.cmd e.trace.answer (registers_of plan past lpid vid) (registers_of plan (e ∷ past) lpid vid)
   -- UV_RETURN that takes it up may interrupt it
-  pub taken : (r0 r2 : ℕ) (outs : List ℕ) → TakesUp lpid vid r0 r2 outs e → IsInterrupted r2 (registers_of plan past lpid vid) (registers_of plan (e ∷ past) lpid vid)
-  -- while its guest has one generation no other entry changes a register of it
+  pub taken :
+      (r0 r2 : ℕ) (outs : List ℕ) → TakesUp lpid vid r0 r2 outs e → takes_nothing ((guest_after plan lpid past).part.vcpus vid).state ≡ true →
+      IsInterrupted r2 (registers_of plan past lpid vid) (registers_of plan (e ∷ past) lpid vid)
+  -- no other entry changes a register of it
   pub others :
-      (guest_after plan lpid (e ∷ past)).part.generation ≡ (guest_after plan lpid past).part.generation →
-      ((run : Run) → IsStepOf lpid vid run e → ⊥) → ((r0 r2 : ℕ) (outs : List ℕ) → TakesUp lpid vid r0 r2 outs e → ⊥) →
+      KeepsRegisters plan past e lpid → ((run : Run) → IsStepOf lpid vid run e → ⊥) → ((r0 r2 : ℕ) (outs : List ℕ) → TakesUp lpid vid r0 r2 outs e → ⊥) →
       registers_of plan (e ∷ past) lpid vid ≡ registers_of plan past lpid vid
   -- and no entry that isn't its own step changes one of R0 to R31
   pub gpr :
-      (guest_after plan lpid (e ∷ past)).part.generation ≡ (guest_after plan lpid past).part.generation →
-      ((run : Run) → IsStepOf lpid vid run e → ⊥) →
+      KeepsRegisters plan past e lpid → ((run : Run) → IsStepOf lpid vid run e → ⊥) →
+      ((r0 r2 : ℕ) (outs : List ℕ) → TakesUp lpid vid r0 r2 outs e → takes_nothing ((guest_after plan lpid past).part.vcpus vid).state ≡ true) →
       (registers_of plan (e ∷ past) lpid vid).gpr ≡ (registers_of plan past lpid vid).gpr
 
 abbrev pub EachEntryLeavesRegisters : Type 0

@@ -10,8 +10,9 @@ pub fn each_entry_leaves_cpu()
     ensures { EachEntryLeavesCpu }
 {}
 
-/// A vCPU's next instruction changes at its own steps and where UV_RETURN takes it up, SRR0 at the latter alone, and R0 to
-/// R31 at its own steps alone.
+/// While its guest has one generation and is neither Normal nor Starting, a vCPU's next instruction changes at its own steps
+/// and where UV_RETURN takes it up, SRR0 at the latter alone, and R0 to R31 at its own steps and where UV_RETURN gives it
+/// something: nothing to one that hasn't run yet or was interrupted.
 pub fn each_entry_leaves_registers()
     ensures { EachEntryLeavesRegisters }
 {}
