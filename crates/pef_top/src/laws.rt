@@ -15,7 +15,8 @@ pub fn memory_is_taken_in_order()
     ensures { MemoryIsTakenInOrder }
 {}
 
-/// The three limits: 16 MiB for a script, 64 MiB for all frames, 64 MiB for all pages of the guests, and what is told of each.
+/// The four limits: 16 MiB for a script, 200,000 command lines, 64 MiB for all frames, 64 MiB for all pages of the guests, and what
+/// is told of each.
 pub fn limits_are_told()
     ensures { LimitsAreTold }
 {}
