@@ -1,16 +1,11 @@
 -- A CPU is still one of the machine's after each step of a move, and its page is ready for the end.
-use Rattle.std.proofs.Common.{◌≡◌, ℕ, ◌+◌, ◌-◌, ◌<◌, ◌≤◌, ◌^◌, true, List, length, Option, Some, None, get_or, refl, ap, sym, subst, ◌∙◌, arith}
+use Rattle.std.proofs.Common.{◌≡◌, ℕ, ◌+◌, ◌-◌, ◌<◌, ◌≤◌, ◌^◌, List, length, Option, Some, None, get_or, refl, ap, sym, subst, ◌∙◌, arith}
 use Rattle.std.specs.Prelude.{slice_get, slice_set}
 use Rattle.std.proofs.lemmas.Option.{slice_get_within}
 use Rattle.pef_model.specs.declared.state.Way.{Way}
-use Rattle.pef_model.specs.declared.state.Way.TheVariants as way
 use Rattle.pef_model.specs.declared.state.Mover.{Mover}
 use Rattle.pef_model.specs.declared.state.Move.{Move}
-use Rattle.pef_model.specs.declared.state.Work.TheVariants.{Inward, Outward}
 use Rattle.pef_model.specs.declared.state.Ctx.{Ctx}
-use Rattle.pef_model.specs.declared.state.Ctx.TheVariants as ctx
-use Rattle.pef_model.specs.declared.entry.Answer.{Answer}
-use Rattle.pef_model.specs.declared.entry.Answer.TheVariants as answer
 use Rattle.pef_frames.specs.Frame.{FrameState}
 use Rattle.pef_pages.specs.declared.cell.Cell.{Cell}
 use Rattle.pef_pages.specs.declared.cell.Cell.TheVariants as cell
@@ -19,11 +14,9 @@ use Rattle.pef_pages.specs.Pages.{cell_at, mover_at}
 use Rattle.pef_guest.specs.declared.cpu.Cpu.{Cpu}
 use Rattle.pef_guest.specs.declared.guest.Guest.{Guest}
 use Rattle.pef_guest.specs.Keeps.{KeepsGuest}
-use Rattle.pef_move.specs.PageOut.{BeginsOrBack, KeepsCpu, ComesBackWith}
-use Rattle.pef_move.specs.PageIn.{ComesOrBack}
+use Rattle.pef_guest.specs.Ready.{MayEnd, HasRoomFor}
 use Rattle.pef_core.specs.Normal.{NormalState}
-use Rattle.pef_core.specs.State.{State, HasContext, HasSteps, IsCpuOf, IsGuestOf, IsMoveOf, IsWholeMachine, IsVcpu, MovesPage, Works, FramesOnce}
-use Rattle.pef_core.proofs.WholeAfter.{vcpu_stays}
+use Rattle.pef_core.specs.State.{State, HasContext, HasSteps, IsCpuOf, IsGuestOf, IsMoveOf, IsWholeMachine, MovesPage, FramesOnce}
 use Rattle.pef_core.proofs.Places.{read_at, found_cpu, get_set}
 use Rattle.pef_core.proofs.Room.{room}
 
@@ -58,68 +51,19 @@ module _ {S : Type 0} (guests : List (Guest S)) (normal : NormalState) (n : ℕ)
   after : List (Guest S)
   after = slice_set guests i new_guest
 
-  selects : IsVcpu (slice_set guests i new_guest) cpu.lpid cpu.vid
-  selects = vcpu_stays guests i guest new_guest here keeps cpu.lpid cpu.vid is.selects
-
   -- a move of a page of the guest that has begun is one of the machine's
-  begun_move : (heading : Way) (move : Move) → guest.lpid ≡ i + 1 → guest.normal ≡ length normal.frames → new.number ≡ n → move.lpid ≡ new_guest.lpid →
+  pub begun_move : (heading : Way) (move : Move) → guest.lpid ≡ i + 1 → guest.normal ≡ length normal.frames → new.number ≡ n → move.lpid ≡ new_guest.lpid → move.generation ≡ new_guest.generation →
       mover_at new_guest.pages move.gfn ≡ Some (record { cpu = new.number; way = heading }) → move.frame < new_guest.normal → IsMoveOf (slice_set guests i new_guest) normal (record { cpu = n; way = heading }) move
-  begun_move heading move lpid_is frames number lpid_same mover frame =
+  begun_move heading move lpid_is frames number lpid_same life mover frame =
       let lpid : move.lpid ≡ i + 1 = lpid_same ∙ keeps.lpid ∙ lpid_is in
       let place : move.lpid - 1 ≡ i = omega arith in
       let there : slice_get (slice_set guests i new_guest) (move.lpid - 1) ≡ Some new_guest = ap (slice_get (slice_set guests i new_guest)) place ∙ get_set guests i guest new_guest here in
       let moved : mover_at new_guest.pages move.gfn ≡ Some (record { cpu = n; way = heading }) = mover ∙ ap (λ (k : ℕ). Some (let m : Mover = record { cpu = k; way = heading } in m)) number in
       record {
         least = omega arith;
-        moves = subst (λ o. MovesPage o move.generation move.gfn (record { cpu = n; way = heading })) (sym there) (λ same. moved);
+        moves = subst (λ o. MovesPage o move.generation move.gfn (record { cpu = n; way = heading })) (sym there) (omega (arith, life), λ same. moved);
         frame = subst (λ (k : ℕ). move.frame < k) (keeps.normal ∙ frames) frame;
       }
-
-  begun_cpu : KeepsCpu cpu new → Works (slice_set guests i new_guest) normal n new.ctx → IsCpuOf (slice_set guests i new_guest) normal n new
-  begun_cpu kept works = record {
-    number = kept.number ∙ is.number;
-    selects = subst (λ l. IsVcpu (slice_set guests i new_guest) l new.vid) (sym kept.lpid) (subst (λ v. IsVcpu (slice_set guests i new_guest) cpu.lpid v) (sym kept.vid) selects);
-    works = works;
-    hand = kept.hand ∙ is.hand;
-  }
-
-  -- the CPU after UV_PAGE_OUT
-  pub leaving_cpu : guest.lpid ≡ i + 1 → guest.normal ≡ length normal.frames → KeepsCpu cpu new → BeginsOrBack new_guest new new.ctx → IsCpuOf (slice_set guests i new_guest) normal n new
-  leaving_cpu lpid_is frames kept leaves = begun_cpu kept (by_context new.ctx leaves) where
-    by_context : (c : Ctx) → BeginsOrBack new_guest new c → Works (slice_set guests i new_guest) normal n c
-    by_context ctx.Hv h = tt
-    by_context (ctx.Uv (Inward move)) h = absurd h
-    by_context (ctx.Uv (Outward move)) h = begun_move way.Outward move lpid_is frames (kept.number ∙ is.number) h.lpid h.mover h.frame
-    by_context (ctx.Guest run) h = absurd h
-
-  -- the CPU after UV_PAGE_IN
-  pub coming_cpu : guest.lpid ≡ i + 1 → guest.normal ≡ length normal.frames → KeepsCpu cpu new → ComesOrBack new_guest new new.ctx → IsCpuOf (slice_set guests i new_guest) normal n new
-  coming_cpu lpid_is frames kept comes = begun_cpu kept (by_context new.ctx comes) where
-    by_context : (c : Ctx) → ComesOrBack new_guest new c → Works (slice_set guests i new_guest) normal n c
-    by_context ctx.Hv h = tt
-    by_context (ctx.Uv (Inward move)) h = begun_move way.Inward move lpid_is frames (kept.number ∙ is.number) h.lpid h.mover h.frame
-    by_context (ctx.Uv (Outward move)) h = absurd h
-    by_context (ctx.Guest run) h = absurd h
-
-  -- the CPU after the end of a move
-  pub ended_cpu : (a : Answer) → ComesBackWith cpu new a → IsCpuOf (slice_set guests i new_guest) normal n new
-  ended_cpu (answer.Ret code) back = subst (IsCpuOf (slice_set guests i new_guest) normal n) (sym back) (record { number = is.number; selects = selects; works = tt; hand = is.hand })
-  ended_cpu a back = absurd back
-
--- the CPU after a copy
-module _ {S : Type 0} (guests : List (Guest S)) (normal : NormalState) (n : ℕ) (cpu new : Cpu) (move : Move) (is : IsCpuOf guests normal n cpu) where
-  pub copied_cpu : new ≡ record cpu { ctx = ctx.Uv (Outward (record move { copied = true })) } → cpu.ctx ≡ ctx.Uv (Outward move) → IsCpuOf guests normal n new
-  copied_cpu new_is working =
-      let moves : IsMoveOf guests normal (record { cpu = n; way = way.Outward }) move = subst (Works guests normal n) working is.works in
-      subst (IsCpuOf guests normal n) (sym new_is)
-      (record { number = is.number; selects = is.selects; works = record { least = moves.least; moves = moves.moves; frame = moves.frame }; hand = is.hand })
-
-  -- that of a page-in has the normal frame in its hand
-  pub read_cpu : (frame : List ℕ) → new ≡ record cpu { ctx = ctx.Uv (Inward (record move { copied = true })); hand = frame } → cpu.ctx ≡ ctx.Uv (Inward move) → length new.hand ≡ 2 ^ normal.shift → IsCpuOf guests normal n new
-  read_cpu frame new_is working size =
-      let moves : IsMoveOf guests normal (record { cpu = n; way = way.Inward }) move = subst (Works guests normal n) working is.works in
-      subst (IsCpuOf guests normal n) (sym new_is)
-      (record { number = is.number; selects = is.selects; works = record { least = moves.least; moves = moves.moves; frame = moves.frame }; hand = ap (λ (one : Cpu). length one.hand) (sym new_is) ∙ size })
 
 -- a page that moves has a frame
 moving_frame : (c : Cell FrameState) (mover : Mover) → mover_of c ≡ Some mover → (frame : FrameState) × (frame_in c ≡ Some frame)
@@ -131,13 +75,19 @@ moving_frame (cell.Out digest) mover is = cc
 moving_frame (cell.Shared frame) mover is = cc
 moving_frame (cell.Unbacked fresh) mover is = cc
 
--- a CPU's page is ready for the end: the CPU moves it still, and the pool has room for its frame
-pub ready : {S : Type 0} (m : State S) (n : ℕ) (cpu : Cpu) (heading : Way) (move : Move) (guest : Guest S) → FramesOnce m → cpu.number ≡ n → IsMoveOf m.guests m.normal (record { cpu = n; way = heading }) move →
-    slice_get m.guests (move.lpid - 1) ≡ Some guest → move.generation ≡ guest.generation → (mover_at guest.pages move.gfn ≡ Some (record { cpu = cpu.number; way = heading })) × (length m.pool.free < m.pool.count)
-ready m n cpu heading move guest once number moves here same =
-    let mover : mover_at guest.pages move.gfn ≡ Some (record { cpu = n; way = heading }) = (subst (λ o. MovesPage o move.generation move.gfn (record { cpu = n; way = heading })) here moves.moves) same in
+-- a page whose move is of the guest's generation is moved by its CPU still
+pub moved_by : {S : Type 0} (m : State S) (n : ℕ) (cpu : Cpu) (heading : Way) (move : Move) (guest : Guest S) → cpu.number ≡ n → IsMoveOf m.guests m.normal (record { cpu = n; way = heading }) move →
+    slice_get m.guests (move.lpid - 1) ≡ Some guest → MayEnd guest cpu heading move
+moved_by m n cpu heading move guest number moves here same =
+    (subst (λ o. MovesPage o move.generation move.gfn (record { cpu = n; way = heading })) here moves.moves).1 same ∙ ap (λ (k : ℕ). Some (let x : Mover = record { cpu = k; way = heading } in x)) (sym number)
+
+-- and the pool has room for its frame
+pub has_room : {S : Type 0} (m : State S) (n : ℕ) (heading : Way) (move : Move) (guest : Guest S) → FramesOnce m → IsMoveOf m.guests m.normal (record { cpu = n; way = heading }) move →
+    slice_get m.guests (move.lpid - 1) ≡ Some guest → HasRoomFor guest m.pool move
+has_room m n heading move guest once moves here same =
+    let mover : mover_at guest.pages move.gfn ≡ Some (record { cpu = n; way = heading }) = (subst (λ o. MovesPage o move.generation move.gfn (record { cpu = n; way = heading })) here moves.moves).1 same in
     let has = moving_frame (cell_at guest.pages move.gfn) (record { cpu = n; way = heading }) mover in
-    (mover ∙ ap (λ (k : ℕ). Some (let x : Mover = record { cpu = k; way = heading } in x)) (sym number), room m once (move.lpid - 1) guest here move.gfn has.0 has.1)
+    room m once (move.lpid - 1) guest here move.gfn has.0 has.1
 
 -- the guest of a move is one of the machine's
 pub move_below : {S : Type 0} (guests : List (Guest S)) (normal : NormalState) (mover : Mover) (move : Move) → IsMoveOf guests normal mover move → move.lpid - 1 < length guests

@@ -1,115 +1,76 @@
 -- Where a step finds its CPU and its guest in the machine that it has open.
-use Rattle.std.proofs.Common.{◌≡◌, ℕ, ◌+◌, ◌-◌, ◌<◌, ◌≤◌, true, length, Some, get_or, ap, sym, subst, arith}
+use Rattle.std.proofs.Common.{◌≡◌, ℕ, ◌+◌, ◌-◌, ◌<◌, ◌≤◌, false, length, Some, get_or, ap, sym, subst, refl, ◌∙◌, arith}
 use Rattle.std.specs.Prelude.{slice_get}
-use Rattle.std.proofs.lemmas.Bool.Decides.{nat_tests}
-use Rattle.pef_model.specs.declared.state.Way.{Way}
-use Rattle.pef_model.specs.declared.state.Way.TheVariants as way
-use Rattle.pef_model.specs.declared.state.Move.{Move}
-use Rattle.pef_model.specs.declared.state.Run.{Run}
-use Rattle.pef_model.specs.declared.state.Work.{Work}
-use Rattle.pef_model.specs.declared.state.Work.TheVariants.{Inward, Outward}
-use Rattle.pef_model.specs.declared.state.Ctx.{Ctx}
-use Rattle.pef_model.specs.declared.state.Ctx.TheVariants as ctx
 use Rattle.pef_guest.specs.declared.cpu.Cpu.{Cpu}
 use Rattle.pef_guest.specs.declared.guest.Guest.{Guest}
-use Rattle.pef_core.specs.State.{State, HasContext, HasSteps, IsCpuOf, IsMoveOf, IsWholeMachine, Works}
+use Rattle.pef_core.specs.State.{State, HasContext, HasSteps, IsCpuOf, IsWholeMachine}
 use Rattle.pef_core.specs.declared.machine.Machine.TheInside.{Inside}
-use Rattle.pef_core.proofs.Places.{found_cpu, works_there, guest_below}
-use Rattle.pef_core.proofs.Moving.{Site, site, move_below}
-use Rattle.pef_core.proofs.PageSteps.{is_one_of}
+use Rattle.pef_core.proofs.Places.{read_at, has_context, sized}
+use Rattle.pef_core.specs.Does.{AimsAt, Targets}
+use Rattle.pef_core.proofs.Lists.{element_at}
+use Rattle.pef_core.proofs.AtGuest.{in_range}
+use Rattle.pef_model.specs.Plan.{Plan}
+use Rattle.pef_model.specs.Target.{Target, AtGuest}
+use Rattle.pef_model.specs.declared.command.Cmd.{Cmd}
+use Rattle.pef_core.proofs.Moving.{Site, site}
 
 -- the state of a machine that is open
 abbrev pub state_of : {S : Type 0} → Inside S → State S
 state_of m = record { cpus = m.cpus.items; guests = m.guests.items; pool = m.pool; normal = m.normal; steps = m.steps }
 
--- a call that moves a page this way
-abbrev pub work_of : Way → Move → Work
-work_of way.Inward move = Inward move
-work_of way.Outward move = Outward move
-
--- a step has found its CPU, in a context
-pub record OwnSite {S : Type 0} (m : State S) (n : ℕ) (cpu : Cpu) (c : Ctx) : Type 0 where
-  pub there : slice_get m.cpus n ≡ Some cpu
-  pub context : cpu.ctx ≡ c
-  pub is_cpu : IsCpuOf m.guests m.normal n cpu
+-- a step has found the guest at which it aims
+pub record AimedSite {S : Type 0} (takes : S → ℕ → ℕ → Type 0) (m : State S) (n : ℕ) (cpu : Cpu) (cmd : Cmd) (lpid : ℕ) (guest : Guest S) : Type 0 where
+  pub found : Site takes m n cpu cpu.ctx (lpid - 1) guest
+  pub aims : Targets (length m.guests) m.normal cpu cmd (AtGuest (lpid - 1 + 1))
   pub below : n < length m.cpus
+  pub here : lpid - 1 < length m.guests
 
--- a call has found the guest that it names
-pub record CallSite {S : Type 0} (takes : S → ℕ → ℕ → Type 0) (m : State S) (n : ℕ) (cpu : Cpu) (lpid : ℕ) (guest : Guest S) : Type 0 where
-  pub named : is_one_of (length m.guests) lpid ≡ true
-  pub lpid_is : lpid ≡ lpid - 1 + 1
-  pub found : Site takes m n cpu ctx.Hv (lpid - 1) guest
-
--- the end of a move has found the guest whose page it is
-pub record MoveSite {S : Type 0} (takes : S → ℕ → ℕ → Type 0) (m : State S) (n : ℕ) (cpu : Cpu) (heading : Way) (move : Move) (guest : Guest S) : Type 0 where
-  pub moves : IsMoveOf m.guests m.normal (record { cpu = n; way = heading }) move
-  pub lpid_is : move.lpid ≡ move.lpid - 1 + 1
-  pub found : Site takes m n cpu (ctx.Uv (work_of heading move)) (move.lpid - 1) guest
-
--- a vCPU's command has found its guest
-pub record RunSite {S : Type 0} (takes : S → ℕ → ℕ → Type 0) (m : State S) (n : ℕ) (cpu : Cpu) (run : Run) (guest : Guest S) : Type 0 where
-  pub runs : Works m.guests m.normal n (ctx.Guest run)
-  pub lpid_is : run.lpid ≡ run.lpid - 1 + 1
-  pub found : Site takes m n cpu (ctx.Guest run) (run.lpid - 1) guest
+-- a step has found its CPU, and knows at what it aims
+pub record OwnAims {S : Type 0} (m : State S) (n : ℕ) (cpu : Cpu) (cmd : Cmd) (t : Target) : Type 0 where
+  pub there : slice_get m.cpus n ≡ Some cpu
+  pub below : n < length m.cpus
+  pub is_cpu : IsCpuOf m.guests m.normal n cpu
+  pub targets : Targets (length m.guests) m.normal cpu cmd t
 
 -- where the machine that is open is the one that the step was given
 module _ {S : Type 0} (takes : S → ℕ → ℕ → Type 0) (m now : State S) (n : ℕ) (view : m ≡ now) (whole : IsWholeMachine takes m) where
-  -- the machine that is open has its CPUs
-  same_cpus : now.cpus ≡ m.cpus
-  same_cpus = ap (λ (x : State S). x.cpus) (sym view)
+  -- a guest at which a step aims is one of the machine's
+  pub aimed_range : (cmd : Cmd) (lpid : ℕ) → AimsAt n cmd (AtGuest lpid) now → (1 ≤ lpid) × (lpid - 1 < length m.guests)
+  aimed_range cmd lpid aimed =
+      let at : AimsAt n cmd (AtGuest lpid) m = subst (AimsAt n cmd (AtGuest lpid)) (sym view) aimed in
+      let own = element_at m.cpus n at.below in
+      let is_cpu = whole.cpus n own.0 own.1 in
+      in_range (sized m) m.guests m.normal n own.0.lpid own.0.vid own.0.ctx cmd lpid refl is_cpu.selects is_cpu.works (at.aims own.0 own.1 (sized m) refl refl refl)
 
-  -- what the CPU does is one of the machine's vCPUs or moves
-  pub works_at : (c : Ctx) → HasContext now.cpus n c → Works m.guests m.normal n c
-  works_at c has = works_there m.guests m.cpus now m.normal n c same_cpus has whole.cpus
+  -- what the target of a CPU says
+  pub aims_found : (cpu : Cpu) → cpu ≡ get_or m.cpus n cpu → n < length now.cpus → HasSteps now → (cmd : Cmd) (t one : Target) → Targets (length m.guests) m.normal cpu cmd t → t ≡ one → AimsAt n cmd one now
+  aims_found cpu cpu_read below steps cmd t one targets is =
+      let there : slice_get m.cpus n ≡ Some cpu = read_at m.cpus n cpu (subst (λ (x : State S). n < length x.cpus) (sym view) below) cpu_read in
+      subst (AimsAt n cmd one) view (record {
+        below = subst (λ (x : State S). n < length x.cpus) (sym view) below;
+        aims = λ own is_own. subst (λ (x : Cpu). Targets (length m.guests) m.normal x cmd one) (let same : cpu ≡ own = (let two = sym there ∙ is_own in cc) in same) (subst (Targets (length m.guests) m.normal cpu cmd) is targets);
+        steps = subst HasSteps (sym view) steps;
+      })
 
-  -- a move in progress is one of a page of the machine
-  pub move_at : (heading : Way) (move : Move) → HasContext now.cpus n (ctx.Uv (work_of heading move)) → IsMoveOf m.guests m.normal (record { cpu = n; way = heading }) move
-  move_at way.Inward move has = works_at (ctx.Uv (Inward move)) has
-  move_at way.Outward move has = works_at (ctx.Uv (Outward move)) has
+  -- a step has found its CPU, and knows at what it aims
+  pub own_aims : (cpu : Cpu) → cpu ≡ get_or m.cpus n cpu → (cmd : Cmd) (t : Target) → AimsAt n cmd t now → OwnAims m n cpu cmd t
+  own_aims cpu cpu_read cmd t aimed =
+      let at : AimsAt n cmd t m = subst (AimsAt n cmd t) (sym view) aimed in
+      let there : slice_get m.cpus n ≡ Some cpu = read_at m.cpus n cpu at.below cpu_read in
+      record { there = there; below = at.below; is_cpu = whole.cpus n cpu there; targets = at.aims cpu there }
 
-  -- the guest of a move is one of the machine's
-  pub move_guest : (heading : Way) (move : Move) → HasContext now.cpus n (ctx.Uv (work_of heading move)) → move.lpid - 1 < length m.guests
-  move_guest heading move has = move_below m.guests m.normal (record { cpu = n; way = heading }) move (move_at heading move has)
-
-  -- the CPU that was read is the machine's, in the context that the step was given
-  pub own_site : (c : Ctx) (cpu : Cpu) → HasContext now.cpus n c → cpu ≡ get_or m.cpus n cpu → OwnSite m n cpu c
-  own_site c cpu has read =
-      let own = found_cpu m.cpus now n cpu c same_cpus has read in
-      record { there = own.0; context = own.1; is_cpu = whole.cpus n cpu own.0; below = subst (λ (x : State S). n < length x.cpus) (sym view) has.below }
-
-  module _ (steps : HasSteps now) (cpu : Cpu) (cpu_read : cpu ≡ get_or m.cpus n cpu) where
-    -- a call whose number is that of a guest has found it
-    pub call_site : (lpid : ℕ) (guest : Guest S) → HasContext now.cpus n ctx.Hv → is_one_of (length now.guests) lpid ≡ true → guest ≡ get_or m.guests (lpid - 1) guest → CallSite takes m n cpu lpid guest
-    call_site lpid guest has is_one guest_read =
-        let named : is_one_of (length m.guests) lpid ≡ true = subst (λ (x : State S). is_one_of (length x.guests) lpid ≡ true) (sym view) is_one in
-        let least : 1 ≤ lpid = grind (arith, nat_tests) in
-        let below : lpid - 1 < length m.guests = grind (arith, nat_tests) in
-        record { named = named; lpid_is = omega arith; found = site takes m now n cpu ctx.Hv (lpid - 1) guest view whole has steps cpu_read below guest_read }
-
-    -- the end of a move has found its guest, which is one of the machine's
-    pub move_site : (heading : Way) (move : Move) (guest : Guest S) → HasContext now.cpus n (ctx.Uv (work_of heading move)) → guest ≡ get_or m.guests (move.lpid - 1) guest → MoveSite takes m n cpu heading move guest
-    move_site heading move guest has guest_read =
-        let moves = move_at heading move has in
-        let least = moves.least in
-        record {
-          moves = moves;
-          lpid_is = omega arith;
-          found = site takes m now n cpu (ctx.Uv (work_of heading move)) (move.lpid - 1) guest view whole has steps cpu_read (move_guest heading move has) guest_read;
-        }
-
-    -- UV_RETURN has found the guest that its CPU selects
-    pub return_site : (guest : Guest S) → HasContext now.cpus n ctx.Hv → guest ≡ get_or m.guests (cpu.lpid - 1) guest → Site takes m n cpu ctx.Hv (cpu.lpid - 1) guest
-    return_site guest has guest_read =
-        let own = own_site ctx.Hv cpu has cpu_read in
-        site takes m now n cpu ctx.Hv (cpu.lpid - 1) guest view whole has steps cpu_read (guest_below m.guests cpu.lpid cpu.vid own.is_cpu.selects) guest_read
-
-    -- the command of a vCPU has found its guest, which is one of the machine's
-    pub run_site : (run : Run) (guest : Guest S) → HasContext now.cpus n (ctx.Guest run) → guest ≡ get_or m.guests (run.lpid - 1) guest → RunSite takes m n cpu run guest
-    run_site run guest has guest_read =
-        let runs = works_at (ctx.Guest run) has in
-        let least = runs.0.least in
-        record {
-          runs = runs;
-          lpid_is = omega arith;
-          found = site takes m now n cpu (ctx.Guest run) (run.lpid - 1) guest view whole has steps cpu_read (guest_below m.guests run.lpid run.vid runs.0) guest_read;
-        }
+  -- a step that aims at a guest has found it
+  pub aimed_site : (cpu : Cpu) → cpu ≡ get_or m.cpus n cpu → (cmd : Cmd) (lpid : ℕ) (guest : Guest S) → AimsAt n cmd (AtGuest lpid) now → guest ≡ get_or m.guests (lpid - 1) guest → AimedSite takes m n cpu cmd lpid guest
+  aimed_site cpu cpu_read cmd lpid guest aimed guest_read =
+      let at : AimsAt n cmd (AtGuest lpid) m = subst (AimsAt n cmd (AtGuest lpid)) (sym view) aimed in
+      let there : slice_get m.cpus n ≡ Some cpu = read_at m.cpus n cpu at.below cpu_read in
+      let range = aimed_range cmd lpid aimed in
+      let least = range.0 in
+      let has : HasContext now.cpus n cpu.ctx = subst (λ xs. HasContext xs n cpu.ctx) (ap (λ (x : State S). x.cpus) view) (has_context m.cpus n cpu cpu.ctx at.below cpu_read refl) in
+      let one : lpid ≡ lpid - 1 + 1 = omega arith in
+      record {
+        found = site takes m now n cpu cpu.ctx (lpid - 1) guest view whole has aimed.steps cpu_read range.1 guest_read;
+        aims = subst (λ (x : ℕ). Targets (length m.guests) m.normal cpu cmd (AtGuest x)) one (at.aims cpu there);
+        below = at.below;
+        here = range.1;
+      }

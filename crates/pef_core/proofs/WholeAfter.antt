@@ -42,13 +42,14 @@ module _ {S : Type 0} (guests : List (Guest S)) (i : ℕ) (g g' : Guest S) (is :
 
   may_run_stays : (lpid generation : ℕ) → MayRun (guest_at guests lpid) generation → MayRun (guest_at (slice_set guests i g') lpid) generation
   may_run_stays lpid generation h =
-      at_set (λ x. MayRun x generation) guests i (lpid - 1) g g' is (λ may same. ap may_return_in keeps.phase ∙ may (same ∙ keeps.generation)) h
+      at_set (λ x. MayRun x generation) guests i (lpid - 1) g g' is (λ may. (omega (arith, may.0, keeps.generation), λ same. (let back : generation ≡ g.generation = omega (arith, may.0, keeps.generation, same) in ap may_return_in (keeps.phase (sym same ∙ back)) ∙ may.1 back))) h
 
   -- a page that another CPU moves is moved by it still
   move_stays : (normal : NormalState) (n : ℕ) (mover : Mover) (move : Move) → mover.cpu ≢ n → KeepsMovers n g g' → IsMoveOf guests normal mover move → IsMoveOf (slice_set guests i g') normal mover move
   move_stays normal n mover move other movers h = record {
     least = h.least;
-    moves = at_set (λ x. MovesPage x move.generation move.gfn mover) guests i (move.lpid - 1) g g' is (λ moves same. movers move.gfn mover other (moves (same ∙ keeps.generation))) h.moves;
+    moves = at_set (λ x. MovesPage x move.generation move.gfn mover) guests i (move.lpid - 1) g g' is
+        (λ moves. (omega (arith, moves.0, keeps.generation), λ same. (let back : move.generation ≡ g.generation = omega (arith, moves.0, keeps.generation, same) in movers move.gfn mover (sym same ∙ back) other (moves.1 back)))) h.moves;
     frame = h.frame;
   }
 

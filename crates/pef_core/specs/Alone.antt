@@ -1,36 +1,17 @@
 -- What a step leaves as it was, whatever history the machine has behind it.
-use Rattle.std.specs.Prelude.{◌≡◌, ◌≢◌, ℕ, ◌+◌, Bool, true, false, if◌then◌else◌, List, length, Option, Some, None, ◌⊎◌, slice_get, slice_set}
-use Rattle.pef_model.specs.declared.state.Work.TheVariants.{Inward, Outward}
+use Rattle.std.specs.Prelude.{◌≡◌, ◌≢◌, ℕ, ◌+◌, Bool, false, if◌then◌else◌, List, length, Option, Some, ◌⊎◌, slice_get, slice_set}
+use Rattle.pef_model.specs.declared.state.Work.TheVariants.{Outward}
 use Rattle.pef_model.specs.declared.state.Ctx.{Ctx}
 use Rattle.pef_model.specs.declared.state.Ctx.TheVariants as ctx
 use Rattle.pef_model.specs.declared.command.Cmd.{Cmd}
-use Rattle.pef_model.specs.declared.command.Cmd.TheVariants.{HSt, UPagein, UPageout, UReturn, GLd, GSt, Go}
+use Rattle.pef_model.specs.declared.command.Cmd.TheVariants.{HSt, Go}
 use Rattle.pef_guest.specs.declared.cpu.Cpu.{Cpu}
 use Rattle.pef_guest.specs.declared.guest.Guest.{Guest}
-use Rattle.pef_guest.specs.Keeps.{KeepsGuest, KeepsMovers}
-use Rattle.pef_core.specs.Access.{has_place, place_at}
+use Rattle.pef_guest.specs.Keeps.{KeepsGuest, KeepsLife, KeepsMovers}
+use Rattle.pef_access.specs.Access.{has_place, place_at}
 use Rattle.pef_core.specs.Normal.{NormalState, with_value}
-use Rattle.pef_core.specs.Rows.{is_no_guests}
 use Rattle.pef_core.specs.State.{State}
-
--- the guest that a step may change, by its number: the one that runs, the one whose page a call moves, or the one that the hypervisor names or, for UV_RETURN, selects
-abbrev pub guest_aimed : Ctx → ℕ → Cmd → Option ℕ
-guest_aimed ctx.Hv selected (UPagein lpid src gpa flags order) = Some lpid
-guest_aimed ctx.Hv selected (UPageout lpid dest gpa flags order) = Some lpid
-guest_aimed ctx.Hv selected (UReturn r0 r2 outs) = Some selected
-guest_aimed (ctx.Uv (Inward move)) selected Go = if move.copied then Some move.lpid else None
-guest_aimed (ctx.Uv (Outward move)) selected Go = if move.copied then Some move.lpid else None
-guest_aimed (ctx.Guest run) selected cmd = if is_no_guests cmd then None else Some run.lpid
-guest_aimed before selected cmd = None
-
--- whether a step may take a free secure frame or give one back: a load or store of a guest, UV_PAGE_IN and the end of a move
-abbrev pub uses_pool : Ctx → Cmd → Bool
-uses_pool ctx.Hv (UPagein lpid src gpa flags order) = true
-uses_pool (ctx.Uv (Inward move)) Go = move.copied
-uses_pool (ctx.Uv (Outward move)) Go = move.copied
-uses_pool (ctx.Guest run) (GLd rd gpa) = true
-uses_pool (ctx.Guest run) (GSt rs gpa) = true
-uses_pool before cmd = false
+use Rattle.pef_guest.specs.Aims.{guest_aimed, uses_pool, changes_life}
 
 -- the normal frames after a step: a store of the hypervisor and the copy of a page-out write there, and nothing else does
 abbrev pub normal_after : Ctx → List ℕ → Cmd → NormalState → NormalState
@@ -38,11 +19,12 @@ normal_after ctx.Hv hand (HSt ra value) normal = if has_place normal.shift (leng
 normal_after (ctx.Uv (Outward move)) hand Go normal = if move.copied then normal else record normal { frames = slice_set normal.frames move.frame hand }
 normal_after before hand cmd normal = normal
 
--- of a machine a step changes its CPU, the guest at which it aims, the free frames that it takes or gives and what it writes into normal frames, and nothing else but the count of steps; of each guest it keeps what no step changes, and the pages that other CPUs move
+-- of a machine a step changes its CPU, the guest at which it aims, the free frames that it takes or gives and what it writes into normal frames, and nothing else but the count of steps; of each guest it keeps what no step changes, the pages that other CPUs move, and its phase and generation where the command may not change them
 pub record LeavesBut {S : Type 0} (n : ℕ) (own : Cpu) (cmd : Cmd) (old new : State S) : Type 0 where
   pub cpus : (k : ℕ) → k ≢ n → slice_get new.cpus k ≡ slice_get old.cpus k
   pub guests : (k : ℕ) → guest_aimed own.ctx own.lpid cmd ≢ Some (k + 1) → slice_get new.guests k ≡ slice_get old.guests k
   pub keeps : (k : ℕ) (g h : Guest S) → slice_get old.guests k ≡ Some g → slice_get new.guests k ≡ Some h → (h ≡ g) ⊎ KeepsGuest g h
+  pub lives : changes_life own.ctx cmd ≡ false → (k : ℕ) (g h : Guest S) → slice_get old.guests k ≡ Some g → slice_get new.guests k ≡ Some h → KeepsLife g h
   pub movers : (k : ℕ) (g h : Guest S) → slice_get old.guests k ≡ Some g → slice_get new.guests k ≡ Some h → KeepsMovers n g h
   pub pool : uses_pool own.ctx cmd ≡ false → new.pool ≡ old.pool
   pub normal : new.normal ≡ normal_after own.ctx own.hand cmd old.normal

@@ -1,10 +1,10 @@
-pub mod Access
 pub mod Normal
-pub mod Rows
 pub mod State
 pub mod Start
 pub mod Steps
 pub mod Refused
 pub mod Alone
-pub mod Calls
+pub mod Frames
+pub mod Does
+pub mod Lent
 pub mod Places

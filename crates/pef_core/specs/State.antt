@@ -38,15 +38,15 @@ pub record IsVcpu {S : Type 0} (guests : List (Guest S)) (lpid vid : ℕ) : Type
   pub least : 1 ≤ lpid
   pub has : HasVcpu (guest_at guests lpid) vid
 
--- where a guest is still in a generation, its phase lets a vCPU run
+-- a generation is none that a guest has yet to come to, and where the guest is still in it, its phase lets a vCPU run
 abbrev pub MayRun : {S : Type 0} → Option (Guest S) → ℕ → Type 0
 MayRun None generation = ⊥
-MayRun (Some guest) generation = generation ≡ guest.generation → may_return_in guest.phase ≡ true
+MayRun (Some guest) generation = (generation ≤ guest.generation) × (generation ≡ guest.generation → may_return_in guest.phase ≡ true)
 
--- where a guest is still in a generation, this CPU moves its page of this number this way
+-- a generation is none that a guest has yet to come to, and where the guest is still in it, this CPU moves its page of this number this way
 abbrev pub MovesPage : {S : Type 0} → Option (Guest S) → ℕ → ℕ → Mover → Type 0
 MovesPage None generation gfn mover = ⊥
-MovesPage (Some guest) generation gfn mover = generation ≡ guest.generation → mover_at guest.pages gfn ≡ Some mover
+MovesPage (Some guest) generation gfn mover = (generation ≤ guest.generation) × (generation ≡ guest.generation → mover_at guest.pages gfn ≡ Some mover)
 
 -- a move of a CPU is one of a page of the machine, from or into one of its normal frames
 pub record IsMoveOf {S : Type 0} (guests : List (Guest S)) (normal : NormalState) (mover : Mover) (move : Move) : Type 0 where

@@ -1,11 +1,17 @@
 //! One step of a machine is the one entry that the model gives next, whatever history the machine has behind it.
 #![tactic(auto)]
 
-mod access;
-mod hypervisor;
+mod aim;
+mod at_frame;
+mod at_guest;
+mod lent;
 mod machine;
 mod normal;
-mod place;
-mod running;
+mod own;
 
+pub use aim::{Aim, target};
+pub use at_frame::apply_frame;
+pub use at_guest::apply_guest;
+pub use lent::{Inner, Want, needs};
 pub use machine::Machine;
+pub use own::apply_own;

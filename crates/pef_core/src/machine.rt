@@ -11,17 +11,19 @@ ghost use Rattle.pef_core.specs.Start.{IsServed, AreStartCpus, AreStartGuests};
 ghost use Rattle.pef_core.specs.Steps.{Fits, Continues};
 ghost use Rattle.pef_core.specs.Refused.{LeavesRest};
 ghost use Rattle.pef_core.specs.Alone.{LeavesOthers};
-ghost use Rattle.pef_core.specs.Calls.{moves_page};
+ghost use Rattle.pef_model.specs.Target.{Alone, AtGuest, AtFrame};
+ghost use Rattle.pef_core.specs.Does.{AimsAt, DoesStep};
 ghost use Rattle.pef_guest.specs.declared.cpu.Cpu.{Cpu};
 ghost use Rattle.pef_core.specs.Places.{EachPageIsPlaced};
-ghost use Rattle.pef_core.specs.Rows.{is_no_guests};
 
+use crate::aim::{self, Aim};
+use crate::at_guest::apply_guest;
+use crate::lent::{Inner, Want, needs};
 use crate::normal::Normal;
-use crate::{hypervisor, running};
+use crate::own::apply_own;
 use pef_frames::{NormalFrame, Pool};
 use pef_guest::{Cpu, Guest};
-use pef_model::{Answer, Cmd, Config, Ctx, Move, Run, Work};
-use pef_move::PageCall;
+use pef_model::{Answer, Cmd, Config, Ctx};
 use pef_seal::Seal;
 use std::alloc::{AllocError, Global};
 use std::marker::Model;
@@ -79,22 +81,6 @@ fn build_guests<S: Seal>(
     Ok(guests)
 }
 
-/// Whether a command is one that no guest gives: a load or store of the hypervisor, or the next step of a call.
-fn is_no_guests(cmd: &Cmd) -> bool
-    ensures { result ≡ is_no_guests cmd.now }
-{
-    match cmd {
-        Cmd::HLd { .. } | Cmd::HSt { .. } | Cmd::Go => true,
-        Cmd::UPagein { .. }
-        | Cmd::UPageout { .. }
-        | Cmd::UReturn { .. }
-        | Cmd::GLi { .. }
-        | Cmd::GLd { .. }
-        | Cmd::GSt { .. }
-        | Cmd::GIrq => false,
-    }
-}
-
 impl<S: Seal> Machine<S> {
     /// The machine of a configuration, before its first step, with a sealer for each guest in order of lpid. The one error
     /// is that there is no memory for it.
@@ -124,284 +110,61 @@ impl<S: Seal> Machine<S> {
         requires count { self.old.steps < 2 ^ 63 }
         ensures step { Continues S.stands S.image self.old self.new cpu cmd.now result }
         ensures frames_once { FramesOnce self.new }
-        ensures refused { (own : Cpu) → slice_get self.old.cpus cpu ≡ Some own → LeavesRest cpu own.ctx self.old self.new result }
+        ensures refused { (own : Cpu) → slice_get self.old.cpus cpu ≡ Some own → LeavesRest cpu own.ctx cmd.now self.old self.new result }
         ensures alone { LeavesOthers cpu cmd.now self.old self.new }
         ensures count { self.new.steps ≡ self.old.steps + 1 }
         ensures cpus { length self.new.cpus ≡ length self.old.cpus }
         ensures guests { length self.new.guests ≡ length self.old.guests }
     {
         self.steps += 1;
-        match self.cpus[cpu as usize].ctx {
-            Ctx::Hv => self.step_hypervisor(cpu, cmd),
-            Ctx::Uv(work) => self.step_working(cpu, work, cmd),
-            Ctx::Guest(run) => self.step_running(cpu, run, cmd),
+        self.counted(cpu, cmd)
+    }
+
+    /// A step that is counted: at its CPU alone, at a guest or at a normal frame.
+    fn counted(&mut self, cpu: u8, cmd: &Cmd) -> Answer
+        requires cpu { cpu < length self.old.cpus }
+        requires steps { HasSteps self.old }
+        ensures { DoesStep S.stands S.image cpu cmd.now self.old self.new result }
+    {
+        match aim::target(
+            &self.cpus[cpu as usize],
+            cmd,
+            &self.normal,
+            self.guests.len() as u64,
+        ) {
+            Aim::Own => self.at_own(cpu, cmd),
+            Aim::Guest(lpid) => self.at_guest(cpu, lpid, cmd),
+            Aim::Frame(frame) => self.at_frame(cpu, frame, cmd),
         }
     }
 
-    /// A command on a CPU on which the hypervisor runs; one of a guest does nothing.
-    fn step_hypervisor(&mut self, cpu: u8, cmd: &Cmd) -> Answer
-        requires hypervisor { HasContext self.old.cpus cpu Ctx.Hv }
-        requires steps { HasSteps self.old }
-        requires frames_once { FramesOnce self.old }
-        ensures frames_once { FramesOnce self.new }
-        ensures refused { LeavesRest cpu Ctx.Hv self.old self.new result }
-        ensures alone { LeavesOthers cpu cmd.now self.old self.new }
-        ensures step { Continues S.stands S.image self.old self.new cpu cmd.now result }
-        ensures count { self.new.steps ≡ self.old.steps }
-        ensures cpus { length self.new.cpus ≡ length self.old.cpus }
-        ensures guests { length self.new.guests ≡ length self.old.guests }
+    /// A command that aims at nothing.
+    fn at_own(&mut self, cpu: u8, cmd: &Cmd) -> Answer
+        requires { AimsAt cpu cmd.now Alone self.old }
+        ensures { DoesStep S.stands S.image cpu cmd.now self.old self.new result }
     {
-        match cmd {
-            Cmd::HLd { ra } => hypervisor::load(&mut self.cpus[cpu as usize], &self.normal, *ra),
-            Cmd::HSt { ra, value } => {
-                let own = &mut self.cpus[cpu as usize];
-                hypervisor::store(own, &mut self.normal, *ra, *value)
-            }
-            Cmd::UPagein { .. } => self.step_page_call(cpu, cmd),
-            Cmd::UPageout { .. } => self.step_page_call(cpu, cmd),
-            Cmd::UReturn { r0, r2, outs } => self.step_return(cpu, *r0, *r2, outs),
-            Cmd::GLi { .. } => Answer::Context,
-            Cmd::GLd { .. } => Answer::Context,
-            Cmd::GSt { .. } => Answer::Context,
-            Cmd::GIrq => Answer::Context,
-            Cmd::Go => Answer::Context,
-        }
+        apply_own(&mut self.cpus[cpu as usize], cmd)
     }
 
-    /// A call that moves a page, on a CPU on which the hypervisor runs.
-    fn step_page_call(&mut self, cpu: u8, cmd: &Cmd) -> Answer
-        requires page { moves_page cmd.now ≡ true }
-        requires hypervisor { HasContext self.old.cpus cpu Ctx.Hv }
-        requires steps { HasSteps self.old }
-        requires frames_once { FramesOnce self.old }
-        ensures frames_once { FramesOnce self.new }
-        ensures refused { LeavesRest cpu Ctx.Hv self.old self.new result }
-        ensures alone { LeavesOthers cpu cmd.now self.old self.new }
-        ensures step { Continues S.stands S.image self.old self.new cpu cmd.now result }
-        ensures count { self.new.steps ≡ self.old.steps }
-        ensures cpus { length self.new.cpus ≡ length self.old.cpus }
-        ensures guests { length self.new.guests ≡ length self.old.guests }
-    {
-        match cmd {
-            Cmd::UPagein {
-                lpid,
-                src,
-                gpa,
-                flags,
-                order,
-            } => self.step_page_in(
-                cpu,
-                PageCall {
-                    lpid: *lpid,
-                    ra: *src,
-                    gpa: *gpa,
-                    flags: *flags,
-                    order: *order,
-                },
-            ),
-            Cmd::UPageout {
-                lpid,
-                dest,
-                gpa,
-                flags,
-                order,
-            } => self.step_page_out(
-                cpu,
-                PageCall {
-                    lpid: *lpid,
-                    ra: *dest,
-                    gpa: *gpa,
-                    flags: *flags,
-                    order: *order,
-                },
-            ),
-            _ => unreachable!(),
-        }
-    }
-
-    /// UV_PAGE_IN on a CPU on which the hypervisor runs. U_PARAMETER where it names no guest.
-    fn step_page_in(&mut self, cpu: u8, call: PageCall) -> Answer
-        requires hypervisor { HasContext self.old.cpus cpu Ctx.Hv }
-        requires steps { HasSteps self.old }
-        requires frames_once { FramesOnce self.old }
-        ensures frames_once { FramesOnce self.new }
-        ensures refused { LeavesRest cpu Ctx.Hv self.old self.new result }
-        ensures alone { LeavesOthers cpu (Cmd.UPagein call.lpid call.ra call.gpa call.flags call.order) self.old self.new }
-        ensures step { Continues S.stands S.image self.old self.new cpu (Cmd.UPagein call.lpid call.ra call.gpa call.flags call.order) result }
-        ensures count { self.new.steps ≡ self.old.steps }
-        ensures cpus { length self.new.cpus ≡ length self.old.cpus }
-        ensures guests { length self.new.guests ≡ length self.old.guests }
-    {
-        if !self.has_guest(call.lpid) {
-            return pef_move::page_in_of_none(&mut self.cpus[cpu as usize], &call);
-        }
-        let own = &mut self.cpus[cpu as usize];
-        let guest = &mut self.guests[call.lpid as usize - 1];
-        pef_move::page_in_begin(guest, own, &mut self.pool, &call)
-    }
-
-    /// UV_PAGE_OUT on a CPU on which the hypervisor runs. U_PARAMETER where it names no guest.
-    fn step_page_out(&mut self, cpu: u8, call: PageCall) -> Answer
-        requires hypervisor { HasContext self.old.cpus cpu Ctx.Hv }
-        requires steps { HasSteps self.old }
-        requires frames_once { FramesOnce self.old }
-        ensures frames_once { FramesOnce self.new }
-        ensures refused { LeavesRest cpu Ctx.Hv self.old self.new result }
-        ensures alone { LeavesOthers cpu (Cmd.UPageout call.lpid call.ra call.gpa call.flags call.order) self.old self.new }
-        ensures step { Continues S.stands S.image self.old self.new cpu (Cmd.UPageout call.lpid call.ra call.gpa call.flags call.order) result }
-        ensures count { self.new.steps ≡ self.old.steps }
-        ensures cpus { length self.new.cpus ≡ length self.old.cpus }
-        ensures guests { length self.new.guests ≡ length self.old.guests }
-    {
-        if !self.has_guest(call.lpid) {
-            return pef_move::page_out_of_none(&mut self.cpus[cpu as usize], &call);
-        }
-        let own = &mut self.cpus[cpu as usize];
-        let guest = &mut self.guests[call.lpid as usize - 1];
-        pef_move::page_out_begin(guest, own, &call)
-    }
-
-    /// Whether a number is that of a guest, from 1.
-    fn has_guest(&self, lpid: u64) -> bool
-        ensures { result ≡ (nat_le 1 lpid && nat_le lpid (length self.now.guests)) }
-    {
-        1 <= lpid && lpid <= self.guests.len() as u64
-    }
-
-    /// A command on a CPU with a call in progress: its next step, and no other.
-    fn step_working(&mut self, cpu: u8, work: Work, cmd: &Cmd) -> Answer
-        requires working { HasContext self.old.cpus cpu (Ctx.Uv work) }
-        requires steps { HasSteps self.old }
-        requires frames_once { FramesOnce self.old }
-        ensures frames_once { FramesOnce self.new }
-        ensures refused { LeavesRest cpu (Ctx.Uv work) self.old self.new result }
-        ensures alone { LeavesOthers cpu cmd.now self.old self.new }
-        ensures step { Continues S.stands S.image self.old self.new cpu cmd.now result }
-        ensures count { self.new.steps ≡ self.old.steps }
-        ensures cpus { length self.new.cpus ≡ length self.old.cpus }
-        ensures guests { length self.new.guests ≡ length self.old.guests }
-    {
-        match (cmd, work) {
-            (Cmd::Go, Work::Inward(inward)) if inward.copied => self.step_page_in_end(cpu, inward),
-            (Cmd::Go, Work::Inward(inward)) => self.step_page_in_copy(cpu, inward),
-            (Cmd::Go, Work::Outward(outward)) if outward.copied => self.step_page_out_end(
-                cpu, outward,
-            ),
-            (Cmd::Go, Work::Outward(outward)) => self.step_page_out_copy(cpu, outward),
-            _ => Answer::Context,
-        }
-    }
-
-    /// The copy of a page-in: what the normal frame that the call names holds goes into the CPU's hand.
-    fn step_page_in_copy(&mut self, cpu: u8, inward: Move) -> Answer
-        requires working { HasContext self.old.cpus cpu (Ctx.Uv (Work.Inward inward)) }
-        requires copied { inward.copied ≡ false }
-        requires frames_once { FramesOnce self.old }
-        ensures frames_once { FramesOnce self.new }
-        ensures refused { LeavesRest cpu (Ctx.Uv (Work.Inward inward)) self.old self.new result }
-        ensures alone { LeavesOthers cpu Cmd.Go self.old self.new }
-        ensures step { Continues S.stands S.image self.old self.new cpu Cmd.Go result }
-        ensures count { self.new.steps ≡ self.old.steps }
-        ensures cpus { length self.new.cpus ≡ length self.old.cpus }
-        ensures guests { length self.new.guests ≡ length self.old.guests }
-    {
-        self.normal.copy_in(&mut self.cpus[cpu as usize], inward)
-    }
-
-    /// The end of a page-in, at the guest whose page it is.
-    fn step_page_in_end(&mut self, cpu: u8, inward: Move) -> Answer
-        requires working { HasContext self.old.cpus cpu (Ctx.Uv (Work.Inward inward)) }
-        requires copied { inward.copied ≡ true }
-        requires steps { HasSteps self.old }
-        requires frames_once { FramesOnce self.old }
-        ensures frames_once { FramesOnce self.new }
-        ensures refused { LeavesRest cpu (Ctx.Uv (Work.Inward inward)) self.old self.new result }
-        ensures alone { LeavesOthers cpu Cmd.Go self.old self.new }
-        ensures step { Continues S.stands S.image self.old self.new cpu Cmd.Go result }
-        ensures count { self.new.steps ≡ self.old.steps }
-        ensures cpus { length self.new.cpus ≡ length self.old.cpus }
-        ensures guests { length self.new.guests ≡ length self.old.guests }
+    /// A command at the guest at which it aims, with the pool where it needs it.
+    fn at_guest(&mut self, cpu: u8, lpid: u64, cmd: &Cmd) -> Answer
+        requires { AimsAt cpu cmd.now (AtGuest lpid) self.old }
+        ensures { DoesStep S.stands S.image cpu cmd.now self.old self.new result }
     {
         let own = &mut self.cpus[cpu as usize];
-        let guest = &mut self.guests[inward.lpid as usize - 1];
-        pef_move::page_in_end(guest, own, inward, &mut self.pool)
-    }
-
-    /// The copy of a page-out: what the CPU has in its hand goes into the normal frame that the call names.
-    fn step_page_out_copy(&mut self, cpu: u8, outward: Move) -> Answer
-        requires working { HasContext self.old.cpus cpu (Ctx.Uv (Work.Outward outward)) }
-        requires copied { outward.copied ≡ false }
-        requires frames_once { FramesOnce self.old }
-        ensures frames_once { FramesOnce self.new }
-        ensures refused { LeavesRest cpu (Ctx.Uv (Work.Outward outward)) self.old self.new result }
-        ensures alone { LeavesOthers cpu Cmd.Go self.old self.new }
-        ensures step { Continues S.stands S.image self.old self.new cpu Cmd.Go result }
-        ensures count { self.new.steps ≡ self.old.steps }
-        ensures cpus { length self.new.cpus ≡ length self.old.cpus }
-        ensures guests { length self.new.guests ≡ length self.old.guests }
-    {
-        self.normal.copy_out(&mut self.cpus[cpu as usize], outward)
-    }
-
-    /// The end of a page-out, at the guest whose page it is.
-    fn step_page_out_end(&mut self, cpu: u8, outward: Move) -> Answer
-        requires working { HasContext self.old.cpus cpu (Ctx.Uv (Work.Outward outward)) }
-        requires copied { outward.copied ≡ true }
-        requires steps { HasSteps self.old }
-        requires frames_once { FramesOnce self.old }
-        ensures frames_once { FramesOnce self.new }
-        ensures refused { LeavesRest cpu (Ctx.Uv (Work.Outward outward)) self.old self.new result }
-        ensures alone { LeavesOthers cpu Cmd.Go self.old self.new }
-        ensures step { Continues S.stands S.image self.old self.new cpu Cmd.Go result }
-        ensures count { self.new.steps ≡ self.old.steps }
-        ensures cpus { length self.new.cpus ≡ length self.old.cpus }
-        ensures guests { length self.new.guests ≡ length self.old.guests }
-    {
-        let own = &mut self.cpus[cpu as usize];
-        let guest = &mut self.guests[outward.lpid as usize - 1];
-        pef_move::page_out_end(guest, own, outward, &mut self.pool)
-    }
-
-    /// UV_RETURN on a CPU on which the hypervisor runs.
-    fn step_return(&mut self, cpu: u8, r0: u64, r2: u64, outs: &[u64; 9]) -> Answer
-        requires hypervisor { HasContext self.old.cpus cpu Ctx.Hv }
-        requires steps { HasSteps self.old }
-        requires frames_once { FramesOnce self.old }
-        ensures frames_once { FramesOnce self.new }
-        ensures refused { LeavesRest cpu Ctx.Hv self.old self.new result }
-        ensures alone { LeavesOthers cpu (Cmd.UReturn r0 r2 outs.now) self.old self.new }
-        ensures step { Continues S.stands S.image self.old self.new cpu (Cmd.UReturn r0 r2 outs.now) result }
-        ensures count { self.new.steps ≡ self.old.steps }
-        ensures cpus { length self.new.cpus ≡ length self.old.cpus }
-        ensures guests { length self.new.guests ≡ length self.old.guests }
-    {
-        let own = &mut self.cpus[cpu as usize];
-        let guest = &mut self.guests[own.lpid as usize - 1];
-        hypervisor::uv_return(guest, own, r0, r2, outs)
-    }
-
-    /// A command on a CPU on which a vCPU runs. One of the hypervisor does nothing, even where the guest has ended.
-    fn step_running(&mut self, cpu: u8, run: Run, cmd: &Cmd) -> Answer
-        requires runs { HasContext self.old.cpus cpu (Ctx.Guest run) }
-        requires steps { HasSteps self.old }
-        requires frames_once { FramesOnce self.old }
-        ensures frames_once { FramesOnce self.new }
-        ensures refused { LeavesRest cpu (Ctx.Guest run) self.old self.new result }
-        ensures alone { LeavesOthers cpu cmd.now self.old self.new }
-        ensures step { Continues S.stands S.image self.old self.new cpu cmd.now result }
-        ensures count { self.new.steps ≡ self.old.steps }
-        ensures cpus { length self.new.cpus ≡ length self.old.cpus }
-        ensures guests { length self.new.guests ≡ length self.old.guests }
-    {
-        if is_no_guests(cmd) {
-            return Answer::Context;
+        let guest = &mut self.guests[lpid as usize - 1];
+        match needs(own, cmd) {
+            Want::Nothing => apply_guest(guest, own, Inner::Nothing, cmd),
+            Want::Pool => apply_guest(guest, own, Inner::Pool(&mut self.pool), cmd),
         }
-        if run.generation != self.guests[run.lpid as usize - 1].generation {
-            return self.cpus[cpu as usize].gone();
-        }
-        let own = &mut self.cpus[cpu as usize];
-        let guest = &mut self.guests[run.lpid as usize - 1];
-        running::command(guest, own, &mut self.pool, run, cmd)
+    }
+
+    /// A command at the normal frame at which it aims.
+    fn at_frame(&mut self, cpu: u8, frame: u32, cmd: &Cmd) -> Answer
+        requires { AimsAt cpu cmd.now (AtFrame frame) self.old }
+        ensures { DoesStep S.stands S.image cpu cmd.now self.old self.new result }
+    {
+        self.normal.apply(&mut self.cpus[cpu as usize], frame, cmd)
     }
 
     /// Whether a CPU, which is below the number of CPUs, has a call in progress.

@@ -1,17 +1,16 @@
-//! The normal frames are all of one size, and a store changes one doubleword of one of them.
+//! The normal frames are all of one size, and a step changes at most one of them.
 
 ghost use Rattle.std.specs.Prelude.{◌≡◌, ◌+◌, ◌^◌, ◌<◌, ◌≤◌, length, slice_set, true, IfOk, IfSome, if◌then◌else◌};
 ghost use Rattle.pef_model.specs.Plan.{IsWithin};
-ghost use Rattle.pef_model.specs.Doubleword.{doubleword};
-ghost use Rattle.pef_move.specs.PageIn.{CopiesPageIn};
-ghost use Rattle.pef_move.specs.PageOut.{CopiesPageOut};
-ghost use Rattle.pef_core.specs.Access.{has_place, place_at};
-ghost use Rattle.pef_core.specs.Normal.{zero_frames, frame_at, with_value, IsPlaceIn};
+ghost use Rattle.pef_core.specs.Frames.{AimsAtFrame, DoesFrame};
+ghost use Rattle.pef_access.specs.Access.{has_place, place_at};
+ghost use Rattle.pef_core.specs.Normal.{zero_frames, frame_at, IsPlaceIn};
 
-use crate::place::place_below;
+use crate::at_frame::apply_frame;
+use pef_access::place_below;
 use pef_frames::NormalFrame;
 use pef_guest::Cpu;
-use pef_model::{Answer, Ctx, Move, Work};
+use pef_model::{Answer, Cmd};
 use pef_num::Place;
 use std::alloc::{AllocError, Global};
 use std::marker::Model;
@@ -70,45 +69,15 @@ impl Normal {
         place_below(ra, self.shift, self.count())
     }
 
-    /// The doubleword at a place.
-    pub fn load(&self, place: Place) -> u64
-        requires { IsPlaceIn self.now place }
-        ensures { result ≡ doubleword (frame_at self.now.frames place.page) place.off }
-    {
-        self.frames[place.page as usize].load(place.off)
-    }
-
-    /// Puts a doubleword at a place.
-    pub fn store(&mut self, place: Place, value: u64)
-        requires { IsPlaceIn self.old place }
-        ensures { self.new ≡ with_value self.old place.page place.off value }
-    {
-        self.frames[place.page as usize].store(place.off, value);
-    }
-
-    /// The copy of a page-in: what the normal frame that the call in progress names holds goes into the CPU's hand.
-    pub fn copy_in(&self, cpu: &mut Cpu, inward: Move) -> Answer
-        requires working { cpu.old.ctx ≡ Ctx.Uv (Work.Inward inward) }
-        requires frame { inward.frame < length self.now.frames }
-        requires hand { length cpu.old.hand ≡ 2 ^ self.now.shift }
-        ensures answer { result ≡ Answer.Step }
-        ensures cpu { cpu.new ≡ record cpu.old { ctx = Ctx.Uv (Work.Inward (record inward { copied = true })); hand = frame_at self.now.frames inward.frame } }
-        ensures hand { length cpu.new.hand ≡ 2 ^ self.now.shift }
-        ensures row { CopiesPageIn inward cpu.old cpu.new (frame_at self.now.frames inward.frame) result }
-    {
-        pef_move::page_in_copy(cpu, inward, self.frame(inward.frame))
-    }
-
-    /// The copy of a page-out: the CPU's hand is written into the normal frame that the call in progress names.
-    pub fn copy_out(&mut self, cpu: &mut Cpu, outward: Move) -> Answer
-        requires working { cpu.old.ctx ≡ Ctx.Uv (Work.Outward outward) }
-        requires frame { outward.frame < length self.old.frames }
+    /// A command of a CPU at one of the frames, by its number from 0.
+    pub fn apply(&mut self, cpu: &mut Cpu, number: u32, cmd: &Cmd) -> Answer
+        requires number { number < length self.old.frames }
+        requires aims { AimsAtFrame cpu.old.ctx cmd.now }
         requires hand { length cpu.old.hand ≡ 2 ^ self.old.shift }
-        ensures answer { result ≡ Answer.Step }
-        ensures cpu { cpu.new ≡ record cpu.old { ctx = Ctx.Uv (Work.Outward (record outward { copied = true })) } }
-        ensures normal { self.new ≡ record self.old { frames = slice_set self.old.frames outward.frame cpu.old.hand } }
-        ensures row { CopiesPageOut outward cpu.old cpu.new (frame_at self.old.frames outward.frame) cpu.old.hand result }
+        ensures does { DoesFrame cmd.now cpu.old cpu.new (frame_at self.old.frames number) (frame_at self.new.frames number) result }
+        ensures size { length (frame_at self.old.frames number) ≡ 2 ^ self.old.shift }
+        ensures rest { self.new ≡ record self.old { frames = slice_set self.old.frames number (frame_at self.new.frames number) } }
     {
-        pef_move::page_out_copy(cpu, outward, &mut self.frames[outward.frame as usize])
+        apply_frame(cpu, &mut self.frames[number as usize], cmd)
     }
 }

@@ -1,1 +1,5 @@
 pub mod Loading
+pub mod OnePage
+pub mod Wholes
+pub mod OneVcpu
+pub mod Asked

@@ -1,9 +1,13 @@
--- What a call leaves of the registers.
-use Rattle.std.proofs.Common.{◌≡◌, ◌≢◌, ℕ, ◌+◌, ◌-◌, ◌<◌, ◌≤◌, List, ◌++◌, length, take, drop, slice_set, get_or, arith, ap, ◌∙◌, length-take}
-use Rattle.std.proofs.lemmas.List.{get_or-append_right, get_or-drop, get_or-set_other, length-set}
+-- What a call leaves of the registers, and of its CPU where it comes back at once.
+use Rattle.std.proofs.Common.{◌≡◌, ◌≢◌, ℕ, ◌+◌, ◌-◌, ◌<◌, ◌≤◌, List, ◌++◌, length, take, drop, slice_set, get_or, arith, refl, ap, ◌∙◌, length-take}
+use Rattle.std.proofs.lemmas.List.{get_or-append_right, get_or-drop, get_or-set_same, get_or-set_other, length-set}
 use Rattle.std.proofs.lemmas.Grind.{common_steps}
 use Rattle.pef_model.specs.declared.command.TheConstants.{UV_RETURN}
-use Rattle.pef_model.specs.Registers.{load_return}
+use Rattle.pef_model.specs.declared.command.Code.{Code}
+use Rattle.pef_model.specs.declared.entry.Answer.TheVariants.{Ret}
+use Rattle.pef_model.specs.Registers.{load_return, number_of, with_code}
+use Rattle.pef_guest.specs.declared.cpu.Cpu.{Cpu}
+use Rattle.pef_guest.specs.Refused.{ComesBack, RefusesCpu}
 use Rattle.pef_guest.specs.Loads.{LoadsCall}
 
 -- what lies past a middle part that was replaced stays
@@ -45,3 +49,17 @@ loads_five gpr operands number size five = record { first = grind (arith, common
       let not_three : r ≢ 3 = omega arith in
       beyond 4 5 loaded operands r front five (omega arith)
       ∙ get_or-set_other gpr 3 r number 0 not_three
+
+-- a code in R3 leaves what the call loaded elsewhere
+comes_back : (old loaded : List ℕ) (code : Code) → 3 < length loaded → LoadsCall old loaded → ComesBack old (with_code loaded code) code
+comes_back old loaded code long rest = record {
+  given = get_or-set_same loaded 3 (number_of code) 0 long;
+  rest = record {
+    first = get_or-set_other loaded 3 1 (number_of code) 0 (λ same. cc) ∙ rest.first;
+    others = λ r above. get_or-set_other loaded 3 r (number_of code) 0 (λ same. absurd (omega arith)) ∙ rest.others r above;
+  };
+}
+
+-- a call that comes back at once with a code
+pub refuses : (cpu : Cpu) (loaded : List ℕ) (code : Code) → 3 < length loaded → LoadsCall cpu.gpr loaded → RefusesCpu cpu (record cpu { gpr = with_code loaded code; last = Ret code }) code
+refuses cpu loaded code long rest = record { number = refl; ctx = refl; lpid = refl; vid = refl; hand = refl; gpr = comes_back cpu.gpr loaded code long rest; last = refl }

@@ -1,5 +1,5 @@
 -- What a step on a guest keeps, whatever it does.
-use Rattle.std.specs.Prelude.{◌≡◌, ◌≢◌, ℕ, ◌+◌, ◌^◌, ◌==◌, length, Some}
+use Rattle.std.specs.Prelude.{◌≡◌, ◌≢◌, ℕ, ◌+◌, ◌^◌, ◌≤◌, ◌==◌, length, Some}
 use Rattle.std.specs.List.{count_by}
 use Rattle.pef_model.specs.declared.state.Mover.{Mover}
 use Rattle.pef_frames.specs.Frame.{FrameState}
@@ -13,17 +13,22 @@ pub record IsPoolOf {S : Type 0} (guest : Guest S) (pool : PoolState) : Type 0 w
   pub count : pool.count ≡ guest.secure
   pub size : pool.size ≡ 2 ^ guest.shift
 
--- what no step changes of a guest
+-- what no step changes of a guest: its number and its sizes stay, and its phase and generation do, or the generation has risen
 pub record KeepsGuest {S : Type 0} (old new : Guest S) : Type 0 where
   pub lpid : new.lpid ≡ old.lpid
   pub shift : new.shift ≡ old.shift
   pub normal : new.normal ≡ old.normal
   pub secure : new.secure ≡ old.secure
-  pub phase : new.phase ≡ old.phase
-  pub generation : new.generation ≡ old.generation
   pub pages : length new.pages.pages ≡ length old.pages.pages
   pub vcpus : length new.vcpus.items ≡ length old.vcpus.items
+  pub generation : old.generation ≤ new.generation
+  pub phase : new.generation ≡ old.generation → new.phase ≡ old.phase
   pub steps : new.steps ≡ old.steps + 1
+
+-- a guest's phase and generation stay
+pub record KeepsLife {S : Type 0} (old new : Guest S) : Type 0 where
+  pub phase : new.phase ≡ old.phase
+  pub generation : new.generation ≡ old.generation
 
 -- how often a number is that of a frame which a guest holds
 abbrev pub times_held : {S : Type 0} → Guest S → ℕ → ℕ
@@ -35,6 +40,6 @@ pub record KeepsFrames {S : Type 0} (old new : Guest S) (pool pool_new : PoolSta
   pub size : pool_new.size ≡ pool.size
   pub frames : (number : ℕ) → times_held new number + times_free pool_new number ≡ times_held old number + times_free pool number
 
--- each page that another CPU moves is moved by it still
+-- each page that another CPU moves is moved by it still, as long as the guest's generation stays
 abbrev pub KeepsMovers : {S : Type 0} → ℕ → Guest S → Guest S → Type 0
-KeepsMovers cpu old new = (gfn : ℕ) (mover : Mover) → mover.cpu ≢ cpu → mover_at old.pages gfn ≡ Some mover → mover_at new.pages gfn ≡ Some mover
+KeepsMovers cpu old new = (gfn : ℕ) (mover : Mover) → new.generation ≡ old.generation → mover.cpu ≢ cpu → mover_at old.pages gfn ≡ Some mover → mover_at new.pages gfn ≡ Some mover

@@ -3,5 +3,8 @@ pub mod Start
 pub mod Whole
 pub mod Shows
 pub mod Keeps
+pub mod Aims
 pub mod Refused
 pub mod Rows
+pub mod Ready
+pub mod Does

@@ -18,10 +18,10 @@ use Rattle.pef_guest.specs.Shows.{kept_in, digest_by}
 use Rattle.pef_guest.specs.Whole.{IsOutside, IsWhole}
 use Rattle.pef_move.specs.declared.page_call.PageCall.{PageCall}
 use Rattle.pef_move.specs.declared.route.Route.{Route}
-use Rattle.pef_move.specs.PageOut.{BeginsOrBack}
 use Rattle.pef_move.specs.Route.{page_begun, IsRoute, HasBegun}
-use Rattle.pef_move.proofs.OnePage.{each_with_page}
-use Rattle.pef_move.proofs.Wholes.{stepped_with, keeps_with, movers_with, whole_with}
+use Rattle.pef_guest.proofs.OnePage.{each_with_page}
+use Rattle.pef_guest.proofs.Wholes.{stepped_with, keeps_with, movers_with, whole_with}
+use Rattle.pef_guest.specs.Ready.{WorksAt}
 
 -- a page that is Secure and at rest has its frame, and nothing else
 pub at_rest : {F : Type 0} (c : Cell F) (frame : F) → kind_of c ≡ kind.Secure → mover_of c ≡ None → frame_in c ≡ Some frame → c ≡ cell.Secure frame
@@ -73,13 +73,12 @@ module _ {S : Type 0} (stands : S → Tag → List ℕ → List ℕ → Type 0) 
       }))
 
   -- a CPU moves the page of the guest from now on, into the normal frame
-  pub leaves : BeginsOrBack new cpu_new cpu_new.ctx
-  leaves = subst (BeginsOrBack new cpu_new) (sym (ap (λ (one : Cpu). one.ctx) begun.cpu_is)) (record {
+  pub leaves : WorksAt new cpu_new cpu_new.ctx
+  leaves = subst (WorksAt new cpu_new) (sym (ap (λ (one : Cpu). one.ctx) begun.cpu_is)) (record {
     lpid = sym (ap (λ (guest : Guest S). guest.lpid) guest_is);
     generation = sym (ap (λ (guest : Guest S). guest.generation) guest_is);
     mover = ap (λ (guest : Guest S). mover_at guest.pages route.gfn) guest_is ∙ here ∙ ap (λ (one : Cpu). Some (record { cpu = one.number; way = way.Outward })) (sym begun.cpu_is);
     frame = subst (λ (guest : Guest S). route.frame < guest.normal) (sym guest_is) is.normal;
-    copied = refl;
   }) where
     here : mover_at (with_page old.pages route.gfn page) route.gfn ≡ Some (record { cpu = cpu.number; way = way.Outward })
     here = each_with_page (λ (n : ℕ) (one : Page FrameState). n ≡ route.gfn → mover_of one.cell ≡ Some (record { cpu = cpu.number; way = way.Outward })) old.pages route.gfn page is.below

@@ -34,7 +34,7 @@ use Rattle.pef_move.specs.declared.page_call.PageCall.{PageCall}
 use Rattle.pef_move.specs.declared.route.Route.{Route}
 use Rattle.pef_move.specs.Route.{next_tag, code_for, IsRoute, HasBegun}
 use Rattle.pef_move.proofs.PageBytes.{page_bytes-is}
-use Rattle.pef_move.proofs.OnePage.{IsShownPage, shows_with, shows_counted}
+use Rattle.pef_guest.proofs.OnePage.{IsShownPage, shows_with, shows_counted}
 use Rattle.pef_move.proofs.Codes.{code_is}
 use Rattle.pef_move.proofs.Begun.{page, cell_is, guest_is}
 

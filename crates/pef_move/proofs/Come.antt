@@ -22,7 +22,7 @@ use Rattle.pef_guest.specs.Shows.{kept_in}
 use Rattle.pef_guest.specs.Whole.{IsFrameOf, IsOutside, IsWhole}
 use Rattle.pef_move.proofs.Ended.{no_frame, no_mover}
 use Rattle.pef_move.proofs.OnWayIn.{IsOnWayIn, on_way_in}
-use Rattle.pef_move.proofs.Wholes.{stepped_with, movers_with, whole_with}
+use Rattle.pef_guest.proofs.Wholes.{stepped_with, movers_with, whole_with}
 
 -- a page whose frame was written and that was then accepted is Secure in that frame, and last in the order
 pub accepted_is : (pages : PagesState FrameState) (gfn cpu : ℕ) (old frame : FrameState) (digest : Option Digest32) → gfn < length pages.pages → cell_at pages gfn ≡ cell.MovesIn old cpu digest →

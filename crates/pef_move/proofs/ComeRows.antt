@@ -33,7 +33,7 @@ use Rattle.pef_guest.specs.Shows.{HoldsPage, ShowsCpu, Shows, kept_in, first_the
 use Rattle.pef_guest.specs.Rows.{RowWithPool, ask_inward}
 use Rattle.pef_move.specs.Unseal.{last_tag}
 use Rattle.pef_move.proofs.Ended.{no_frame, no_mover}
-use Rattle.pef_move.proofs.OnePage.{IsShownPage, shows_with, shows_counted}
+use Rattle.pef_guest.proofs.OnePage.{IsShownPage, shows_with, shows_counted}
 use Rattle.pef_move.proofs.OnWayIn.{last_sealed, sealed_is}
 use Rattle.pef_move.proofs.Come.{comes, refused, page_refused, refused_is, accepted, page_accepted, kept_without, kind_without_frame}
 

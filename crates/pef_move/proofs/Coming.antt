@@ -23,10 +23,10 @@ use Rattle.pef_guest.specs.Keeps.{IsPoolOf, KeepsFrames, KeepsMovers, times_held
 use Rattle.pef_guest.specs.Whole.{IsFrameOf, IsWhole}
 use Rattle.pef_move.specs.declared.page_call.PageCall.{PageCall}
 use Rattle.pef_move.specs.declared.route.Route.{Route}
-use Rattle.pef_move.specs.PageIn.{ComesOrBack}
 use Rattle.pef_move.specs.Route.{IsRouteIn}
-use Rattle.pef_move.proofs.OnePage.{each_with_page}
-use Rattle.pef_move.proofs.Wholes.{stepped_with, movers_with, whole_with}
+use Rattle.pef_guest.proofs.OnePage.{each_with_page}
+use Rattle.pef_guest.proofs.Wholes.{stepped_with, movers_with, whole_with}
+use Rattle.pef_guest.specs.Ready.{WorksAt}
 
 -- a page that is Out and at rest keeps a digest, and has nothing else
 pub record IsOut {F : Type 0} (c : Cell F) : Type 0 where
@@ -97,13 +97,12 @@ module _ {S : Type 0} (old : Guest S) (cpu : Cpu) (call : PageCall) (route : Rou
 
   -- a CPU moves the page of the guest from now on, from the normal frame
   pub comes : (cpu_new : Cpu) → cpu_new.number ≡ cpu.number →
-      ComesOrBack coming cpu_new (ctx.Uv (Inward (record { lpid = old.lpid; generation = old.generation; gfn = route.gfn; frame = route.frame; copied = false })))
+      WorksAt coming cpu_new (ctx.Uv (Inward (record { lpid = old.lpid; generation = old.generation; gfn = route.gfn; frame = route.frame; copied = false })))
   comes cpu_new same = record {
     lpid = refl;
     generation = refl;
     mover = here ∙ ap (λ (n : ℕ). Some (record { cpu = n; way = way.Inward })) (sym same);
     frame = is.normal;
-    copied = refl;
   } where
     here : mover_at (with_page old.pages route.gfn page) route.gfn ≡ Some (record { cpu = cpu.number; way = way.Inward })
     here = each_with_page (λ (n : ℕ) (one : Page FrameState). n ≡ route.gfn → mover_of one.cell ≡ Some (record { cpu = cpu.number; way = way.Inward })) old.pages route.gfn page is.below

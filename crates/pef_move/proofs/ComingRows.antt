@@ -32,7 +32,7 @@ use Rattle.pef_guest.specs.Rows.{RowWithPool, ask_hypervisor}
 use Rattle.pef_move.specs.declared.page_call.PageCall.{PageCall}
 use Rattle.pef_move.specs.declared.route.Route.{Route}
 use Rattle.pef_move.specs.Route.{operands_for, IsRouteIn}
-use Rattle.pef_move.proofs.OnePage.{IsShownPage, shows_with, shows_counted}
+use Rattle.pef_guest.proofs.OnePage.{IsShownPage, shows_with, shows_counted}
 use Rattle.pef_move.proofs.CodesIn.{operands_are}
 use Rattle.pef_move.proofs.Coming.{page, out, cell_is, coming, first_is}
 

@@ -37,8 +37,8 @@ use Rattle.pef_guest.specs.Keeps.{KeepsFrames, times_held}
 use Rattle.pef_guest.specs.Shows.{ShowsCpu, Shows, kept_in, first_there, sealed_of, digest_by}
 use Rattle.pef_guest.specs.Whole.{IsWhole}
 use Rattle.pef_guest.specs.Rows.{RowWithPool, ask_outward}
-use Rattle.pef_move.proofs.OnePage.{IsShownPage, shows_with, shows_counted}
-use Rattle.pef_move.proofs.Wholes.{stepped_with, whole_with}
+use Rattle.pef_guest.proofs.OnePage.{IsShownPage, shows_with, shows_counted}
+use Rattle.pef_guest.proofs.Wholes.{stepped_with, whole_with}
 
 -- a page that a CPU moves outward, with its frame, and with the digest that it is to have
 pub record IsOnWay {F : Type 0} (c : Cell F) (frame : F) (cpu : ℕ) : Type 0 where

@@ -1,7 +1,5 @@
 pub mod PageBytes
-pub mod OnePage
 pub mod Codes
-pub mod Wholes
 pub mod Begun
 pub mod BegunRows
 pub mod Ended
@@ -11,3 +9,4 @@ pub mod ComingRows
 pub mod OnWayIn
 pub mod Come
 pub mod ComeRows
+mod Bundle

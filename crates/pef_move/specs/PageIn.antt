@@ -24,23 +24,9 @@ use Rattle.pef_pages.specs.Pages.{mover_at, frame_at, kind_at, digest_at, ended_
 use Rattle.pef_guest.specs.declared.cpu.Cpu.{Cpu}
 use Rattle.pef_guest.specs.declared.guest.Guest.{Guest}
 use Rattle.pef_guest.specs.Shows.{ShowsCpu, Shows, digest_by}
-use Rattle.pef_guest.specs.Refused.{RefusesCpu, SameGuest}
+use Rattle.pef_guest.specs.Refused.{RefusesCpu, SameGuest, PutsBack}
 use Rattle.pef_guest.specs.Rows.{RowWithPool, ask_hypervisor, ask_reading, ask_inward}
 use Rattle.pef_move.specs.declared.page_call.PageCall.{PageCall}
-
--- a page is on its way in by a CPU, from a normal frame of the machine, and not copied yet
-pub record IsComing {S : Type 0} (guest : Guest S) (cpu : Cpu) (move : Move) : Type 0 where
-  pub lpid : move.lpid ≡ guest.lpid
-  pub generation : move.generation ≡ guest.generation
-  pub mover : mover_at guest.pages move.gfn ≡ Some (record { cpu = cpu.number; way = IsInward })
-  pub frame : move.frame < guest.normal
-  pub copied : move.copied ≡ false
-
--- a context after UV_PAGE_IN: the hypervisor runs, or a page is on its way in
-abbrev pub ComesOrBack : {S : Type 0} → Guest S → Cpu → Ctx → Type 0
-ComesOrBack guest cpu ctx.Hv = Unit {0}
-ComesOrBack guest cpu (ctx.Uv (Inward move)) = IsComing guest cpu move
-ComesOrBack guest cpu other = ⊥
 
 -- a call that comes back at once changes its caller's registers and last answer, and nothing else but a count of steps
 abbrev pub RefusesPageIn : {S : Type 0} → PageCall → Guest S → Guest S → Cpu → Cpu → PoolState → PoolState → Answer → Type 0
@@ -68,25 +54,11 @@ abbrev pub CopiesPageIn : Move → Cpu → Cpu → List ℕ → Answer → Type 
 CopiesPageIn move cpu cpu_new frame answer =
     (c : CpuPart) (mark : Mark) (n : ℕ) → ShowsCpu cpu c → RowRead c (entry_of (ask_reading move c) mark Go (deed_page_in_copy move n frame (ask_reading move c))) cpu_new answer
 
--- a page whose move is of the guest's generation is moved by the CPU, and the pool has room for its frame
-abbrev pub IsReadyIn : {S : Type 0} → Guest S → Cpu → PoolState → Move → Type 0
-IsReadyIn guest cpu pool move =
-    move.generation ≡ guest.generation → (mover_at guest.pages move.gfn ≡ Some (record { cpu = cpu.number; way = IsInward })) × (length pool.free < pool.count)
-
 -- an end under another generation comes back with U_PARAMETER, and changes the CPU alone, and a count of steps
 abbrev pub EndsOldIn : {S : Type 0} → Move → Guest S → Guest S → Cpu → Cpu → PoolState → PoolState → Answer → Type 0
 EndsOldIn move old new cpu cpu_new pool pool_new a =
     move.generation ≢ old.generation →
     (a ≡ answer.Ret UParameter) × (cpu_new ≡ record cpu { ctx = ctx.Hv; gpr = with_code cpu.gpr UParameter; last = answer.Ret UParameter }) × SameGuest old new × (pool_new ≡ pool)
-
--- a page that was refused is at rest as it was, with the digest that it kept, and its frame is free
-pub record PutsBack {S : Type 0} (move : Move) (old new : Guest S) (pool pool_new : PoolState) : Type 0 where
-  pub frame : FrameState
-  pub there : frame_at old.pages move.gfn ≡ Some frame
-  pub pool_is : pool_new ≡ with_free pool frame.number
-  pub pages : new.pages ≡ ended_in old.pages move.gfn false
-  pub kind_is : kind_at new.pages move.gfn ≡ kind_at old.pages move.gfn
-  pub digest : digest_at new.pages move.gfn ≡ digest_at old.pages move.gfn
 
 -- where the end answers U_P2 the page was refused
 abbrev pub RefusesLate : {S : Type 0} → Move → Guest S → Guest S → PoolState → PoolState → Answer → Type 0

@@ -29,20 +29,6 @@ use Rattle.pef_guest.specs.Refused.{RefusesCpu, SameGuest}
 use Rattle.pef_guest.specs.Rows.{Row, RowWithPool, ask_hypervisor, ask_outward}
 use Rattle.pef_move.specs.declared.page_call.PageCall.{PageCall}
 
--- a page is on its way out by a CPU, into a normal frame of the machine, and not copied yet
-pub record IsBegun {S : Type 0} (guest : Guest S) (cpu : Cpu) (move : Move) : Type 0 where
-  pub lpid : move.lpid ≡ guest.lpid
-  pub generation : move.generation ≡ guest.generation
-  pub mover : mover_at guest.pages move.gfn ≡ Some (record { cpu = cpu.number; way = IsOutward })
-  pub frame : move.frame < guest.normal
-  pub copied : move.copied ≡ false
-
--- a context after UV_PAGE_OUT: the hypervisor runs, or a page is on its way out
-abbrev pub BeginsOrBack : {S : Type 0} → Guest S → Cpu → Ctx → Type 0
-BeginsOrBack guest cpu ctx.Hv = Unit {0}
-BeginsOrBack guest cpu (ctx.Uv (Outward move)) = IsBegun guest cpu move
-BeginsOrBack guest cpu other = ⊥
-
 -- what UV_PAGE_OUT keeps of a CPU
 pub record KeepsCpu (old new : Cpu) : Type 0 where
   pub number : new.number ≡ old.number
@@ -81,11 +67,6 @@ CopiesPageOut move cpu cpu_new frame frame_new answer =
 abbrev pub ComesBackWith : Cpu → Cpu → Answer → Type 0
 ComesBackWith old new (answer.Ret code) = new ≡ record old { ctx = ctx.Hv; gpr = with_code old.gpr code; last = answer.Ret code }
 ComesBackWith old new other = ⊥
-
--- a page whose move is of the guest's generation is moved by the CPU, and the pool has room for its frame
-abbrev pub IsReady : {S : Type 0} → Guest S → Cpu → PoolState → Move → Type 0
-IsReady guest cpu pool move =
-    move.generation ≡ guest.generation → (mover_at guest.pages move.gfn ≡ Some (record { cpu = cpu.number; way = IsOutward })) × (length pool.free < pool.count)
 
 -- an end under another generation comes back with U_PARAMETER, and changes the CPU alone, and a count of steps
 abbrev pub EndsOld : {S : Type 0} → Move → Guest S → Guest S → Cpu → Cpu → PoolState → PoolState → Answer → Type 0

@@ -7,10 +7,13 @@ ghost use Rattle.pef_pages.specs.Pages.{mover_at, frame_at, digest_at};
 ghost use Rattle.pef_guest.specs.Shows.{digest_by};
 ghost use Rattle.pef_model.specs.Registers.{load_page_in, with_code};
 ghost use Rattle.pef_guest.specs.Refused.{RefusesCpu};
+ghost use Rattle.pef_guest.specs.Does.{DoesRow};
+ghost use Rattle.pef_model.specs.declared.command.Cmd.{Cmd};
 ghost use Rattle.pef_guest.specs.Whole.{IsFrameOf, IsWhole};
 ghost use Rattle.pef_guest.specs.Keeps.{IsPoolOf, KeepsGuest, KeepsFrames, KeepsMovers};
 ghost use Rattle.pef_move.specs.PageOut.{KeepsCpu, ComesBackWith};
-ghost use Rattle.pef_move.specs.PageIn.{ComesOrBack, RefusesPageIn, BeginsPageIn, CopiesPageIn, IsReadyIn, EndsOldIn, AcceptsByDigest, RefusesLate, EndsPageIn};
+ghost use Rattle.pef_guest.specs.Ready.{MayEnd, HasRoomFor};
+ghost use Rattle.pef_move.specs.PageIn.{RefusesPageIn, CopiesPageIn, EndsOldIn, AcceptsByDigest, RefusesLate};
 ghost use Rattle.pef_move.specs.Route.{operands_for, code_or_busy};
 ghost use Rattle.pef_move.specs.Unseal.{GivesBack, Unseals};
 
@@ -18,7 +21,7 @@ use crate::page_call::PageCall;
 use crate::route::route_in;
 use pef_frames::{NormalFrame, Pool, SecFrame};
 use pef_guest::{Cpu, Guest, registers};
-use pef_model::{Answer, Code, Ctx, Move, Tag, Way, Work};
+use pef_model::{Answer, Cmd, Code, Ctx, Move, Tag, Way, Work};
 use pef_pages::Pages;
 use pef_seal::{Seal, digest_of};
 
@@ -44,16 +47,10 @@ pub fn page_in_begin<S: Seal>(
     requires whole { IsWhole S.takes guest.old }
     requires pool { IsPoolOf guest.old pool.old }
     requires steps { guest.old.steps < 2 ^ 63 }
-    ensures whole { IsWhole S.takes guest.new }
-    ensures keeps { KeepsGuest guest.old guest.new }
-    ensures frames { KeepsFrames guest.old guest.new pool.old pool.new }
-    ensures movers { KeepsMovers cpu.old.number guest.old guest.new }
-    ensures cpu { KeepsCpu cpu.old cpu.new }
-    ensures leaves { ComesOrBack guest.new cpu.new cpu.new.ctx }
+    ensures does { DoesRow S.takes S.stands S.image (Cmd.UPagein call.now.lpid call.now.ra call.now.gpa call.now.flags call.now.order) guest.old guest.new cpu.old cpu.new pool.old pool.new result }
     ensures sealer { guest.new.sealer ≡ guest.old.sealer }
     ensures code { (code : Code) → (result ≡ Answer.Ret code) ↔ (code_or_busy (operands_for guest.old call.now) pool.old.free ≡ Some code) }
     ensures refused { RefusesPageIn call.now guest.old guest.new cpu.old cpu.new pool.old pool.new result }
-    ensures row { BeginsPageIn S.stands S.image call.now guest.old guest.new cpu.old cpu.new pool.old pool.new result }
 {
     guest.steps += 1;
     registers::load_page_in(&mut cpu.gpr, call.operands());
@@ -112,22 +109,20 @@ pub fn page_in_end<S: Seal>(
     pool: &mut Pool,
 ) -> Answer
     requires working { cpu.old.ctx ≡ Ctx.Uv (Work.Inward inward) }
+    requires copied { inward.copied ≡ true }
     requires whole { IsWhole S.takes guest.old }
     requires hand { length cpu.old.hand ≡ 2 ^ guest.old.shift }
     requires pool { IsPoolOf guest.old pool.old }
-    requires ready { IsReadyIn guest.old cpu.old pool.old inward }
+    requires ready { MayEnd guest.old cpu.old Way.Inward inward }
+    requires room { HasRoomFor guest.old pool.old inward }
     requires steps { guest.old.steps < 2 ^ 63 }
-    ensures whole { IsWhole S.takes guest.new }
-    ensures keeps { KeepsGuest guest.old guest.new }
-    ensures frames { KeepsFrames guest.old guest.new pool.old pool.new }
-    ensures movers { KeepsMovers cpu.old.number guest.old guest.new }
+    ensures does { DoesRow S.takes S.stands S.image Cmd.Go guest.old guest.new cpu.old cpu.new pool.old pool.new result }
     ensures back { ComesBackWith cpu.old cpu.new result }
     ensures sealer { guest.new.sealer ≡ guest.old.sealer }
     ensures old { EndsOldIn inward guest.old guest.new cpu.old cpu.new pool.old pool.new result }
     ensures accepted { inward.generation ≡ guest.old.generation → AcceptsByDigest inward guest.old cpu.old.hand result }
     ensures refused { RefusesLate inward guest.old guest.new pool.old pool.new result }
     ensures parameter { result ≡ Answer.Ret Code.UParameter → inward.generation ≢ guest.old.generation }
-    ensures row { EndsPageIn S.stands S.image inward guest.old guest.new cpu.old cpu.new pool.old pool.new result }
 {
     guest.steps += 1;
     if inward.generation != guest.generation {

@@ -7,14 +7,18 @@ ghost use Rattle.pef_num.specs.DoublewordLaw.{AreBytes};
 ghost use Rattle.pef_guest.specs.Whole.{IsWhole};
 ghost use Rattle.pef_guest.specs.Keeps.{IsPoolOf, KeepsGuest, KeepsFrames, KeepsMovers, times_held};
 ghost use Rattle.pef_guest.specs.Refused.{RefusesCpu};
-ghost use Rattle.pef_move.specs.PageOut.{BeginsOrBack, ComesBackWith, KeepsCpu, RefusesCall, BeginsPageOut, CopiesPageOut, IsReady, EndsOld, EndsNow, EndsPageOut};
+ghost use Rattle.pef_guest.specs.Does.{DoesRow};
+ghost use Rattle.pef_frames.specs.Pool.{PoolState};
+ghost use Rattle.pef_model.specs.declared.command.Cmd.{Cmd};
+ghost use Rattle.pef_guest.specs.Ready.{MayEnd, HasRoomFor};
+ghost use Rattle.pef_move.specs.PageOut.{ComesBackWith, RefusesCall, CopiesPageOut, EndsOld, EndsNow};
 ghost use Rattle.pef_move.specs.Route.{code_for, CanBegin, HasBegun};
 
 use crate::page_call::PageCall;
 use crate::route::{Route, route_of};
 use pef_frames::{NormalFrame, Pool, SecFrame};
 use pef_guest::{Cpu, Guest, registers};
-use pef_model::{Answer, Code, Ctx, Move, Tag, Work};
+use pef_model::{Answer, Cmd, Code, Ctx, Move, Tag, Way, Work};
 use pef_seal::{Seal, digest_of};
 
 /// UV_PAGE_OUT of the hypervisor, the begin: the page is sealed into the CPU's hand under its next version, and moves from
@@ -35,16 +39,10 @@ pub fn page_out_begin<S: Seal>(guest: &mut Guest<S>, cpu: &mut Cpu, call: &PageC
     requires whole { IsWhole S.takes guest.old }
     requires hand { length cpu.old.hand ≡ 2 ^ guest.old.shift }
     requires steps { guest.old.steps < 2 ^ 63 }
-    ensures whole { IsWhole S.takes guest.new }
-    ensures keeps { KeepsGuest guest.old guest.new }
-    ensures frames { (number : ℕ) → times_held guest.new number ≡ times_held guest.old number }
-    ensures movers { KeepsMovers cpu.old.number guest.old guest.new }
-    ensures cpu { KeepsCpu cpu.old cpu.new }
-    ensures leaves { BeginsOrBack guest.new cpu.new cpu.new.ctx }
+    ensures does { (pool : PoolState) → DoesRow S.takes S.stands S.image (Cmd.UPageout call.now.lpid call.now.ra call.now.gpa call.now.flags call.now.order) guest.old guest.new cpu.old cpu.new pool pool result }
     ensures sealer { (tag : Tag) (page sealed : List ℕ) → tag.gfn ≢ call.now.gpa / 2 ^ guest.old.shift → S.stands guest.new.sealer tag page sealed ↔ S.stands guest.old.sealer tag page sealed }
     ensures code { (code : Code) → (result ≡ Answer.Ret code) ↔ (code_for guest.old call.now ≡ Some code) }
     ensures refused { RefusesCall call.now guest.old guest.new cpu.old cpu.new result }
-    ensures row { BeginsPageOut S.stands S.image call.now guest.old guest.new cpu.old cpu.new result }
 {
     guest.steps += 1;
     registers::load_page_out(&mut cpu.gpr, call.operands());
@@ -92,20 +90,18 @@ pub fn page_out_end<S: Seal>(
     pool: &mut Pool,
 ) -> Answer
     requires working { cpu.old.ctx ≡ Ctx.Uv (Work.Outward outward) }
+    requires copied { outward.copied ≡ true }
     requires whole { IsWhole S.takes guest.old }
     requires pool { IsPoolOf guest.old pool.old }
-    requires ready { IsReady guest.old cpu.old pool.old outward }
+    requires ready { MayEnd guest.old cpu.old Way.Outward outward }
+    requires room { HasRoomFor guest.old pool.old outward }
     requires steps { guest.old.steps < 2 ^ 63 }
-    ensures whole { IsWhole S.takes guest.new }
-    ensures keeps { KeepsGuest guest.old guest.new }
-    ensures frames { KeepsFrames guest.old guest.new pool.old pool.new }
-    ensures movers { KeepsMovers cpu.old.number guest.old guest.new }
+    ensures does { DoesRow S.takes S.stands S.image Cmd.Go guest.old guest.new cpu.old cpu.new pool.old pool.new result }
     ensures back { ComesBackWith cpu.old cpu.new result }
     ensures sealer { guest.new.sealer ≡ guest.old.sealer }
     ensures old { EndsOld outward guest.old guest.new cpu.old cpu.new pool.old pool.new result }
     ensures ended { EndsNow outward guest.old guest.new pool.old pool.new result }
     ensures parameter { result ≡ Answer.Ret Code.UParameter → outward.generation ≢ guest.old.generation }
-    ensures row { EndsPageOut S.stands S.image outward guest.old guest.new cpu.old cpu.new pool.old pool.new result }
 {
     guest.steps += 1;
     if outward.generation != guest.generation {

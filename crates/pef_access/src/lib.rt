@@ -1,0 +1,9 @@
+//! A load or store of a guest finds its page in a secure frame, backs it with one, or says why not.
+#![tactic(auto)]
+
+mod access;
+mod place;
+mod row;
+
+pub use place::place_below;
+pub use row::{load, store};

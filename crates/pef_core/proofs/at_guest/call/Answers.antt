@@ -1,0 +1,7 @@
+use Rattle.pef_core.proofs.at_guest.call.Goals as goal
+
+pub returns-in-UPageout : goal.returns-in-UPageout
+returns-in-UPageout g c pool = rw c.in-UPageout.is (c.page_out_begin.ensures.does pool)
+
+pub returns-in-UReturn : goal.returns-in-UReturn
+returns-in-UReturn g c pool = rw c.in-UReturn.is (c.uv_return.ensures pool)

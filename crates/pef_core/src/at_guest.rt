@@ -1,0 +1,175 @@
+//! A command at the guest at which it aims: the row of its context and its name.
+
+ghost use Rattle.std.specs.Prelude.{◌≡◌, true, false};
+ghost use Rattle.pef_frames.specs.Pool.{PoolState};
+ghost use Rattle.pef_guest.specs.Aims.{uses_pool};
+ghost use Rattle.pef_guest.specs.Ready.{IsReadyFor, IsReadyPool, IsRunning};
+ghost use Rattle.pef_guest.specs.Does.{DoesRow};
+ghost use Rattle.pef_core.specs.Lent.{IsLent, pool_of, pool_left};
+
+use crate::lent::Inner;
+use pef_frames::Pool;
+use pef_guest::{Cpu, Guest};
+use pef_model::{Answer, Cmd, Ctx, Run, Work};
+use pef_move::PageCall;
+use pef_seal::Seal;
+
+/// A command of a CPU at the guest at which it aims, which is lent what `needs` says.
+pub fn apply_guest<S: Seal>(
+    guest: &mut Guest<S>,
+    cpu: &mut Cpu,
+    inner: Inner<'_>,
+    cmd: &Cmd,
+) -> Answer
+    requires ready { IsReadyFor S.takes cmd.now guest.old cpu.old }
+    requires lent { IsLent guest.old cpu.old (uses_pool cpu.old.ctx cmd.now) inner }
+    ensures { (pool : PoolState) → DoesRow S.takes S.stands S.image cmd.now guest.old guest.new cpu.old cpu.new (pool_of pool inner.entry) (pool_left pool inner.exit) result }
+{
+    match inner {
+        Inner::Nothing => without_pool(guest, cpu, cmd),
+        Inner::Pool(pool) => with_pool(guest, cpu, pool, cmd),
+        Inner::Frame(_) => unreachable!(),
+    }
+}
+
+/// A command that is lent the pool.
+fn with_pool<S: Seal>(guest: &mut Guest<S>, cpu: &mut Cpu, pool: &mut Pool, cmd: &Cmd) -> Answer
+    requires ready { IsReadyFor S.takes cmd.now guest.old cpu.old }
+    requires pool { IsReadyPool guest.old cpu.old pool.old }
+    requires wanted { uses_pool cpu.old.ctx cmd.now ≡ true }
+    ensures { DoesRow S.takes S.stands S.image cmd.now guest.old guest.new cpu.old cpu.new pool.old pool.new result }
+{
+    match cpu.ctx {
+        Ctx::Hv => call_with_pool(guest, cpu, pool, cmd),
+        Ctx::Uv(Work::Inward(inward)) => pef_move::page_in_end(guest, cpu, inward, pool),
+        Ctx::Uv(Work::Outward(outward)) => pef_move::page_out_end(guest, cpu, outward, pool),
+        Ctx::Guest(run) if run.generation != guest.generation => pef_reflect::gone(guest, cpu, run),
+        Ctx::Guest(run) => access(guest, cpu, pool, run, cmd),
+    }
+}
+
+/// A call of the hypervisor that is lent the pool.
+fn call_with_pool<S: Seal>(
+    guest: &mut Guest<S>,
+    cpu: &mut Cpu,
+    pool: &mut Pool,
+    cmd: &Cmd,
+) -> Answer
+    requires ready { IsReadyFor S.takes cmd.now guest.old cpu.old }
+    requires pool { IsReadyPool guest.old cpu.old pool.old }
+    requires hypervisor { cpu.old.ctx ≡ Ctx.Hv }
+    requires wanted { uses_pool Ctx.Hv cmd.now ≡ true }
+    ensures { DoesRow S.takes S.stands S.image cmd.now guest.old guest.new cpu.old cpu.new pool.old pool.new result }
+{
+    match cmd {
+        Cmd::UPagein {
+            lpid,
+            src,
+            gpa,
+            flags,
+            order,
+        } => pef_move::page_in_begin(
+            guest,
+            cpu,
+            pool,
+            &PageCall {
+                lpid: *lpid,
+                ra: *src,
+                gpa: *gpa,
+                flags: *flags,
+                order: *order,
+            },
+        ),
+        _ => unreachable!(),
+    }
+}
+
+/// A load or store of the vCPU that the CPU runs.
+fn access<S: Seal>(guest: &mut Guest<S>, cpu: &Cpu, pool: &mut Pool, run: Run, cmd: &Cmd) -> Answer
+    requires ready { IsReadyFor S.takes cmd.now guest.old cpu.now }
+    requires pool { IsReadyPool guest.old cpu.now pool.old }
+    requires runs { IsRunning cpu.now guest.old run }
+    requires wanted { uses_pool (Ctx.Guest run) cmd.now ≡ true }
+    ensures { DoesRow S.takes S.stands S.image cmd.now guest.old guest.new cpu.now cpu.now pool.old pool.new result }
+{
+    match cmd {
+        Cmd::GLd { rd, gpa } => pef_access::load(guest, cpu, pool, run, *rd, *gpa),
+        Cmd::GSt { rs, gpa } => pef_access::store(guest, cpu, pool, run, *rs, *gpa),
+        _ => unreachable!(),
+    }
+}
+
+/// A command that is lent nothing.
+fn without_pool<S: Seal>(guest: &mut Guest<S>, cpu: &mut Cpu, cmd: &Cmd) -> Answer
+    requires ready { IsReadyFor S.takes cmd.now guest.old cpu.old }
+    requires unwanted { uses_pool cpu.old.ctx cmd.now ≡ false }
+    ensures { (pool : PoolState) → DoesRow S.takes S.stands S.image cmd.now guest.old guest.new cpu.old cpu.new pool pool result }
+{
+    match cpu.ctx {
+        Ctx::Hv => call(guest, cpu, cmd),
+        Ctx::Uv(_) => unreachable!(),
+        Ctx::Guest(run) if run.generation != guest.generation => pef_reflect::gone(guest, cpu, run),
+        Ctx::Guest(run) => command(guest, cpu, run, cmd),
+    }
+}
+
+/// A call of the hypervisor that is lent nothing.
+fn call<S: Seal>(guest: &mut Guest<S>, cpu: &mut Cpu, cmd: &Cmd) -> Answer
+    requires ready { IsReadyFor S.takes cmd.now guest.old cpu.old }
+    requires hypervisor { cpu.old.ctx ≡ Ctx.Hv }
+    requires unwanted { uses_pool Ctx.Hv cmd.now ≡ false }
+    ensures { (pool : PoolState) → DoesRow S.takes S.stands S.image cmd.now guest.old guest.new cpu.old cpu.new pool pool result }
+{
+    match cmd {
+        Cmd::UPageout {
+            lpid,
+            dest,
+            gpa,
+            flags,
+            order,
+        } => pef_move::page_out_begin(
+            guest,
+            cpu,
+            &PageCall {
+                lpid: *lpid,
+                ra: *dest,
+                gpa: *gpa,
+                flags: *flags,
+                order: *order,
+            },
+        ),
+        Cmd::UReturn { r0, r2, outs } => pef_reflect::uv_return(guest, cpu, *r0, *r2, outs),
+        _ => unreachable!(),
+    }
+}
+
+/// A command of the vCPU that the CPU runs, which is lent nothing.
+fn command<S: Seal>(guest: &mut Guest<S>, cpu: &mut Cpu, run: Run, cmd: &Cmd) -> Answer
+    requires ready { IsReadyFor S.takes cmd.now guest.old cpu.old }
+    requires runs { IsRunning cpu.old guest.old run }
+    requires unwanted { uses_pool (Ctx.Guest run) cmd.now ≡ false }
+    ensures { (pool : PoolState) → DoesRow S.takes S.stands S.image cmd.now guest.old guest.new cpu.old cpu.new pool pool result }
+{
+    match cmd {
+        Cmd::UPagein {
+            lpid,
+            src,
+            gpa,
+            flags,
+            order,
+        } => pef_reflect::refuse_page_in(guest, cpu, run, [*lpid, *src, *gpa, *flags, *order]),
+        Cmd::UPageout {
+            lpid,
+            dest,
+            gpa,
+            flags,
+            order,
+        } => pef_reflect::refuse_page_out(guest, cpu, run, [*lpid, *dest, *gpa, *flags, *order]),
+        Cmd::UReturn { r0, r2, outs } => pef_reflect::refuse_return(
+            guest, cpu, run, *r0, *r2, outs,
+        ),
+        Cmd::GLi { rd, value } => pef_reflect::load_immediate(guest, cpu, run, *rd, *value),
+        Cmd::GIrq => pef_reflect::interrupt(guest, cpu, run),
+        _ => unreachable!(),
+    }
+}

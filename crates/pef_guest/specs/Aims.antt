@@ -1,0 +1,41 @@
+-- Which objects a step may change, by its CPU's context and its command.
+use Rattle.std.specs.Prelude.{ℕ, Bool, true, false, if◌then◌else◌, Option, Some, None}
+use Rattle.pef_model.specs.declared.state.Work.TheVariants.{Inward, Outward}
+use Rattle.pef_model.specs.declared.state.Ctx.{Ctx}
+use Rattle.pef_model.specs.declared.state.Ctx.TheVariants as ctx
+use Rattle.pef_model.specs.declared.command.Code.{Code}
+use Rattle.pef_model.specs.declared.command.Code.TheVariants.{USuccess}
+use Rattle.pef_model.specs.declared.command.Cmd.{Cmd}
+use Rattle.pef_model.specs.declared.command.Cmd.TheVariants.{HLd, HSt, UPagein, UPageout, UReturn, GLd, GSt, Go}
+
+-- the guest that a step may change, by its number: the one that runs, the one whose page a call moves, or the one that the hypervisor names or, for UV_RETURN, selects
+abbrev pub guest_aimed : Ctx → ℕ → Cmd → Option ℕ
+guest_aimed ctx.Hv selected (UPagein lpid src gpa flags order) = Some lpid
+guest_aimed ctx.Hv selected (UPageout lpid dest gpa flags order) = Some lpid
+guest_aimed ctx.Hv selected (UReturn r0 r2 outs) = Some selected
+guest_aimed (ctx.Uv (Inward move)) selected Go = if move.copied then Some move.lpid else None
+guest_aimed (ctx.Uv (Outward move)) selected Go = if move.copied then Some move.lpid else None
+guest_aimed (ctx.Guest run) selected (HLd ra) = None
+guest_aimed (ctx.Guest run) selected (HSt ra value) = None
+guest_aimed (ctx.Guest run) selected Go = None
+guest_aimed (ctx.Guest run) selected cmd = Some run.lpid
+guest_aimed before selected cmd = None
+
+-- whether a step may take a free secure frame or give one back: a load or store of a guest, UV_PAGE_IN and the end of a move
+abbrev pub uses_pool : Ctx → Cmd → Bool
+uses_pool ctx.Hv (UPagein lpid src gpa flags order) = true
+uses_pool (ctx.Uv (Inward move)) Go = move.copied
+uses_pool (ctx.Uv (Outward move)) Go = move.copied
+uses_pool (ctx.Guest run) (GLd rd gpa) = true
+uses_pool (ctx.Guest run) (GSt rs gpa) = true
+uses_pool before cmd = false
+
+-- whether a step may change a guest's phase or its generation: none of the commands does
+abbrev pub changes_life : Ctx → Cmd → Bool
+changes_life before cmd = false
+
+-- whether a call that comes back at once with a code has changed nothing but its caller: U_SUCCESS says that it is done, and for a page-out that there was nothing to do
+abbrev pub is_refusal : Cmd → Code → Bool
+is_refusal (UPageout lpid dest gpa flags order) USuccess = true
+is_refusal cmd USuccess = false
+is_refusal cmd code = true

@@ -1,0 +1,3 @@
+mod ReturnRow
+mod OwnRow
+mod GoneRow
