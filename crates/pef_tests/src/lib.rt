@@ -1,14 +1,6 @@
-//! A script goes in, and its report comes out; what is no script goes in, and nothing comes out.
+//! How a top call ends where a device fails or a text is at its limit. Scripts and their reports are run by `pef_rows`.
 #![tactic(auto)]
 
-#[cfg(test)]
-mod config;
-#[cfg(test)]
-mod faulty;
-#[cfg(test)]
-mod page_in;
-#[cfg(test)]
-mod page_out;
 #[cfg(test)]
 mod script;
 #[cfg(test)]

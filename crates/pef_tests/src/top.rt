@@ -1,6 +1,6 @@
-//! Each way in which a top call ends, and the reports of scripts without page moves.
+//! Each way in which a top call ends that no pair of files can show: devices that fail, and texts at their limits.
 
-use crate::script::{call, report_each};
+use crate::script::{answers, call};
 use pef_io::{Failed, MemSink, MemSource, Sink, Source};
 use pef_top::{RunOutcome, SCRIPT_LIMIT};
 use std::alloc::{AllocError, Global};
@@ -151,29 +151,20 @@ fn a_script_past_the_limit_is_read_one_byte_past_it(rt: HostRuntime) -> Result<(
 }
 
 #[test]
-fn the_report_shows_each_frame_that_is_not_zero(rt: HostRuntime) -> Result<(), Fail> {
-    // The digests are those of Python's hashlib over the bytes written down by hand.
-    report_each(
-        &rt,
-        rt.alloc(),
-        "pef 1\nborn 1\nbegin\n",
-        &[
-            (
-                "0 h.st 0 0x0102030405060708\n0 h.ld 0\n",
-                "4 0 h.st done\n5 0 h.ld val 0x102030405060708\nframe 0 ef0e2c4e17a614b9546566d1c7eea08a6aaadefcc8ea85eb720cc95375d65333\nfree 16\nend\n",
-            ),
-            (
-                "0 h.st 0xfff8 7\n0 h.st 0xf0008 0xffffffffffffffff\n0 h.st 0xf0010 1\n",
-                "4 0 h.st done\n5 0 h.st done\n6 0 h.st done\nframe 0 9f0d9fb12cfd8baaf0dcbd4f0a2b80708824a045954c09bf794f178951327687\nframe 15 0558b88dfecc5c2984e807a9c5ac04957a2c6d7cefcee49c430cb090b2e4b73a\nfree 16\nend\n",
-            ),
-            (
-                "0 h.ld 0xffff8\n0 h.ld 0x100000\n0 h.ld 1\n0 h.ld 0xfffffffffffffff8\n0 h.st 4 1\n0 h.st 0x100000 1\n",
-                "4 0 h.ld val 0x0\n5 0 h.ld hole\n6 0 h.ld hole\n7 0 h.ld hole\n8 0 h.st hole\n9 0 h.st hole\nfree 16\nend\n",
-            ),
-            (
-                "0 h.st 8 5\n0 h.st 8 0\n0 u.return 0 0\n0 h.ld 8\n0 h.st 8 1\n",
-                "4 0 h.st done\n5 0 h.st done\n6 0 u.return enter\n7 0 h.ld context\n8 0 h.st context\nfree 16\nend\n",
-            ),
-        ],
-    )
+fn too_many_command_lines_are_refused_where_none_is_faulty(rt: HostRuntime) -> Result<(), Fail> {
+    let alloc = rt.alloc();
+    let mut text = b"pef 1\nbegin\n".as_slice().to_vec(alloc)?;
+    for _ in 0..200_001u32 {
+        text.extend_from_slice(b"0 go\n")?;
+    }
+    let mut faulty = text.as_slice().to_vec(alloc)?;
+    faulty.extend_from_slice(b"0 gox\n")?;
+    let wanted = RunOutcome {
+        status: 6,
+        line: 2,
+        left: 200_001,
+        right: 200_000,
+    };
+    answers(&rt, alloc, text, wanted, b"")?;
+    answers(&rt, alloc, faulty, RunOutcome::script_fault(200_004), b"")
 }

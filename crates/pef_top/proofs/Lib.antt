@@ -2,6 +2,7 @@ pub mod OneWord
 pub mod FramesText
 pub mod RunText
 pub mod Clean
+mod FaultLines
 pub mod Wrote
 pub mod ReportText
 pub mod GoSteps

@@ -3,6 +3,7 @@ pub mod Outcome
 pub mod Input
 pub mod Text
 pub mod Fault
+pub mod FaultLine
 pub mod Top
 pub mod InMemory
 pub mod LimitLaw

@@ -2,6 +2,7 @@
 #![tactic(auto)]
 
 mod fault;
+mod fault_line;
 mod input;
 pub mod laws;
 mod limits;
@@ -11,6 +12,7 @@ mod sealers;
 mod top;
 mod words;
 
+pub use fault_line::put_fault;
 pub use input::{InputFault, read_all};
 pub use limits::{COMMAND_LIMIT, MEMORY_LIMIT};
 pub use outcome::{RunOutcome, SCRIPT_LIMIT};

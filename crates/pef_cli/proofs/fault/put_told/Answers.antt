@@ -2,7 +2,7 @@ use Rattle.std.proofs.Common.{◌≡◌, List, ℕ, ◌++◌, ap, ◌∙◌, app
 use Rattle.std.proofs.lemmas.Result.{on_err_weaker, on_ok_weaker}
 use Rattle.pef_io.specs.Sink.{AppendsPrefix}
 use Rattle.pef_io.proofs.SinkLemmas.{on_err_holds, AppendsPrefix-append, AppendsPrefix-after}
-use Rattle.pef_cli.specs.Fault.{fault_text}
+use Rattle.pef_top.specs.FaultLine.{fault_text}
 use Rattle.pef_cli.proofs.fault.put_told.Goals as goal
 
 -- a first part of the line
