@@ -26,7 +26,9 @@ pub fn first_difference(
         if other != Some(line) {
             let number = place.saturating_add(1);
             return Ok(Some(format!(in alloc;
-                "line {number} is {:?}, wanted {:?}", line_text(other), line_text(Some(line))
+                "line {number} is {:?}, wanted {:?}",
+                line_text(other),
+                line_text(Some(line))
             )?));
         }
     }
