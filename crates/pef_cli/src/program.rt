@@ -7,9 +7,10 @@ ghost use Rattle.std.specs.Vec.Iter.{into_iter_items};
 ghost use Rattle.pef_io.specs.Cause.{Rose};
 ghost use Rattle.pef_top.specs.Input.{StopsInTime};
 ghost use Rattle.pef_top.specs.Outcome.{IsOutcome};
-ghost use Rattle.pef_top.specs.Top.{Reports, TookNoScript, Passes, Begins, IsUntouched};
+ghost use Rattle.pef_top.specs.Top.{Reports, TookNoScript, Passes, Begins, IsUntouched, Answers};
 ghost use Rattle.pef_cli.specs.Told.{Tells};
 ghost use Rattle.pef_cli.specs.Words.{no_words, AnswersWords};
+ghost use Rattle.pef_cli.specs.Due.{EndsAsDue, WhereAllWent};
 
 use crate::fault::put_told;
 use crate::usage::usage_at;
@@ -48,6 +49,9 @@ fn run<S: Source, K: Sink>(
     ensures stops { StopsInTime (S.taken source.old) (S.taken source.new) }
     ensures reads_clean { result.status ≢ 3 → S.faults source.new ≡ S.faults source.old }
     ensures writes_clean { result.status ≢ 4 → K.faults sink.new ≡ K.faults sink.old }
+    ensures complete { IfOk args (λ given.
+        WhereAllWent (into_iter_items given) (Rose (S.faults source.old) (S.faults source.new)) (Rose (K.faults sink.old) (K.faults sink.new)) result.status
+        (Answers (S.ended source.new) (S.taken source.old) (S.taken source.new) result)) }
 {
     match words_of(alloc, args) {
         Ok(words) => pef_run(alloc, &words, source, sink),
@@ -57,8 +61,8 @@ fn run<S: Source, K: Sink>(
 
 /// The whole program: it runs the top call on its words, writes the line of its fault, and ends with its status.
 ///
-/// The words are the arguments but the first. At status 2 the usage text follows the line, where there is memory for it. Where standard error can't be written either, the status alone says what
-/// happened. The statuses and their lines are this project's own.
+/// The words are the arguments but the first. At status 2 the usage text follows the line, where there is memory for it. Where
+/// standard error can't be written either, the status alone says what happened. The statuses and their lines are this project's own.
 pub fn program<S: Source, K: Sink, E: Sink>(
     alloc: Global,
     args: io::Result<Args>,
@@ -88,6 +92,11 @@ pub fn program<S: Source, K: Sink, E: Sink>(
     ensures stops { StopsInTime (S.taken source.old) (S.taken source.new) }
     ensures reads_clean { exit_status result ≢ 3 → S.faults source.new ≡ S.faults source.old }
     ensures writes_clean { exit_status result ≢ 4 → K.faults sink.new ≡ K.faults sink.old }
+
+    // Where the word is `run` and no device failed, the status is the one due, unless memory is wanting.
+    ensures complete { IfOk args (λ given.
+        WhereAllWent (into_iter_items given) (Rose (S.faults source.old) (S.faults source.new)) (Rose (K.faults sink.old) (K.faults sink.new)) (exit_status result)
+        (EndsAsDue (S.ended source.new) (S.taken source.old) (S.taken source.new) (exit_status result))) }
 {
     let outcome = run(alloc, args, source, sink);
     let usage = usage_at(alloc, outcome.status);
