@@ -5,8 +5,6 @@ pub mod laws;
 mod normal;
 mod pool;
 mod secure;
-#[cfg(test)]
-mod tests;
 
 pub use normal::NormalFrame;
 pub use pool::Pool;

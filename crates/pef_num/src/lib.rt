@@ -6,8 +6,6 @@ mod frame;
 pub mod laws;
 mod place;
 mod size;
-#[cfg(test)]
-mod tests;
 
 pub use doubleword::{dw_at, put_dw};
 pub use frame::frame_of;

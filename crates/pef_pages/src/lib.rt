@@ -6,8 +6,6 @@ pub mod laws;
 mod order;
 mod page;
 mod pages;
-#[cfg(test)]
-mod tests;
 
 pub use cell::Cell;
 pub use page::Page;
