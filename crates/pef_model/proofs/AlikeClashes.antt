@@ -12,8 +12,8 @@ use Rattle.pef_model.specs.SecretLaw.{open_cmd}
 use Rattle.pef_model.specs.Clash.{clashes_in}
 use Rattle.pef_model.specs.Sound.{clashes_at, is_clash, is_clean, sound}
 use Rattle.pef_model.specs.Target.{Target, Alone, AtGuest, AtFrame, target_of}
-use Rattle.pef_model.specs.Alike.{AreAlikeOpen, AllAlikeOpen, begins_sealing, SealedBytesAgree, AlikeClashTogether}
-use Rattle.pef_model.proofs.AlikeEntries.{IsNext, opened, Same, entries_agree}
+use Rattle.pef_model.specs.Alike.{AreAlikeOpen, AllAlikeOpen, begins_sealing, TouchesNoAborting, SealedBytesAgree, AlikeClashTogether}
+use Rattle.pef_model.proofs.AlikeEntries.{IsNext, opened, Same, sealed_agree, entries_agree}
 use Rattle.pef_model.proofs.Opened.{target_open}
 use Rattle.pef_model.proofs.Views.{same_so_far, length_alike, one_plan}
 
@@ -32,14 +32,14 @@ opened_clash plan guests e = clash_opened guests e (target_of plan e) ∙ ap (cl
 
 -- alike entries after histories with as much in common are clashes together
 clash_alike : (plan : Plan) (words : ℕ → List ℕ) (past history : List Event) (e f : Event) → Same plan words past history → IsNext plan past e → IsNext (with_entropy plan words) history f → AreAlikeOpen e f →
-    (begins_sealing e ≡ true → e.bytes ≡ f.bytes) → is_clash plan past e ≡ is_clash (with_entropy plan words) history f
+    (begins_sealing e ≡ true → TouchesNoAborting plan past e → e.bytes ≡ f.bytes) → is_clash plan past e ≡ is_clash (with_entropy plan words) history f
 clash_alike plan words past history e f same p q alike sealed =
     opened_clash plan (part_after plan past) e
-    ∙ (λ i. let x : Event = entries_agree plan words past history e f same p q alike sealed i in clashes_at (λ lpid. same.part lpid i) x (target_of plan x))
+    ∙ (λ i. let x : Event = entries_agree plan words past history e f same p q alike (sealed_agree plan words past history e f same p q alike sealed) i in clashes_at (λ lpid. same.part lpid i) x (target_of plan x))
     ∙ sym (opened_clash plan (part_after (with_entropy plan words) history) f)
 
 -- so there is one in both or in neither
-clean_alike : (plan : Plan) (words : ℕ → List ℕ) (past history : List Event) → IsLegal plan past → IsLegal (with_entropy plan words) history → AllAlikeOpen past history → SealedBytesAgree past history →
+clean_alike : (plan : Plan) (words : ℕ → List ℕ) (past history : List Event) → IsLegal plan past → IsLegal (with_entropy plan words) history → AllAlikeOpen past history → SealedBytesAgree plan past history →
     is_clean plan past ≡ is_clean (with_entropy plan words) history
 clean_alike plan words [] [] p q alike sealed = refl
 clean_alike plan words [] (f ∷ history) p q alike sealed = absurd alike
@@ -51,7 +51,7 @@ clean_alike plan words (e ∷ past) (f ∷ history) p q alike sealed =
     ∙ ap (λ (b : Bool). is_clean (with_entropy plan words) history && not b) clash
 
 -- and their sound parts are as long
-sound_alike : (plan : Plan) (words : ℕ → List ℕ) (past history : List Event) → IsLegal plan past → IsLegal (with_entropy plan words) history → AllAlikeOpen past history → SealedBytesAgree past history →
+sound_alike : (plan : Plan) (words : ℕ → List ℕ) (past history : List Event) → IsLegal plan past → IsLegal (with_entropy plan words) history → AllAlikeOpen past history → SealedBytesAgree plan past history →
     length (sound plan past) ≡ length (sound (with_entropy plan words) history)
 sound_alike plan words [] [] p q alike sealed = refl
 sound_alike plan words [] (f ∷ history) p q alike sealed = absurd alike

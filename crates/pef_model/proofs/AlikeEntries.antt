@@ -1,5 +1,7 @@
 -- Alike entries that extend histories with as much in common are one to an onlooker.
-use Rattle.std.proofs.Common.{◌≡◌, ℕ, Bool, true, false, if◌then◌else◌, List, [], refl, ap, sym, subst, ◌∙◌, nat_lt}
+use Rattle.std.proofs.Common.{◌≡◌, ◌≢◌, ℕ, Bool, true, false, if◌then◌else◌, List, [], refl, ap, sym, subst, ◌∙◌, nat_lt}
+use Rattle.pef_model.specs.declared.state.Phase.{Phase}
+use Rattle.pef_model.specs.declared.state.Phase.TheVariants.{Absent, Normal, Starting, Secure, Aborting}
 use Rattle.pef_model.specs.declared.state.Ctx.{Ctx}
 use Rattle.pef_model.specs.declared.state.Ctx.TheVariants as ctx
 use Rattle.pef_model.specs.declared.command.Cmd.{Cmd}
@@ -7,13 +9,14 @@ use Rattle.pef_model.specs.Doubleword.{doubleword}
 use Rattle.pef_model.specs.Guest.{Guest}
 use Rattle.pef_model.specs.Plan.{Plan, with_entropy}
 use Rattle.pef_model.specs.Event.{Event, mark_of}
-use Rattle.pef_model.specs.Target.{Ask, Target, Alone, AtGuest, AtFrame, target_in, uses_hand, is_sealing}
+use Rattle.pef_model.specs.Target.{Ask, Target, Alone, AtGuest, AtFrame, target_in, target_of, is_guest, uses_hand, is_sealing}
 use Rattle.pef_model.specs.Cpu.{CpuPart}
 use Rattle.pef_model.specs.Deed.{Deed, answer_alone, answer_frame, deed_guest, deed_frame, deed_frame_in, deed_copy}
 use Rattle.pef_model.specs.History.{cpu_after, guest_after, pool_after, frame_after, ask_of, entry_of, deed_after, next_entry, next_entry_by, found_after}
 use Rattle.pef_model.specs.SecretLaw.{open_cmd, open_answer, open_entry, AgreeButValue}
 use Rattle.pef_model.specs.View.{view}
-use Rattle.pef_model.specs.Alike.{AreAlikeOpen, begins_sealing}
+use Rattle.pef_model.specs.Alike.{AreAlikeOpen, begins_sealing, TouchesNoAborting}
+use Rattle.pef_model.proofs.Folds.{test_same}
 use Rattle.pef_model.proofs.Opened.{target_open, uses_hand_open, alone_open, frame_answer_open, sealing_agrees}
 use Rattle.pef_model.proofs.Unworded.{unworded_frame, unworded}
 use Rattle.pef_model.proofs.Deeds.{no_secret_in_deeds, same_deed, IsShut, bytes_shut}
@@ -51,6 +54,13 @@ frames_agree plan n bytes ask cmd other ctx.Hv cmds = record {
 frames_agree plan n bytes ask cmd other (ctx.Uv work) cmds = same_deed (ctx.Uv work) cmd (deed_frame_in (ctx.Uv work) plan n bytes ask cmd)
 frames_agree plan n bytes ask cmd other (ctx.Guest run) cmds = same_deed (ctx.Guest run) cmd (deed_frame_in (ctx.Guest run) plan n bytes ask cmd)
 
+-- at a guest the plan's entropy words and the histories make no difference
+same_plan : (plan : Plan) (words : ℕ → List ℕ) (past history : List Event) (ask : Ask) (other : Cmd) (h : Guest) → Same plan words past history →
+    deed_guest (with_entropy plan words) h (found_after (with_entropy plan words) history) (nat_lt 0 (pool_after (with_entropy plan words) history)) ask other ≡ deed_guest plan h (found_after plan past) (nat_lt 0 (pool_after plan past)) ask other
+same_plan plan words past history ask other h same =
+    unworded plan words h (found_after (with_entropy plan words) history) (nat_lt 0 (pool_after (with_entropy plan words) history)) ask other
+    ∙ (λ i. deed_guest plan h (λ n offset. doubleword (sym (same.frame n) i) offset) (nat_lt 0 (sym same.pool i)) ask other)
+
 -- deeds at one target, after histories that have this in common
 deeds_agree : (plan : Plan) (words : ℕ → List ℕ) (past history : List Event) (ask : Ask) (cmd other : Cmd) (t : Target) → Same plan words past history → open_cmd cmd ≡ open_cmd other →
     (deed_after plan past ask cmd t).shown ≡ (deed_after (with_entropy plan words) history ask other t).shown → AgreeButValue ask.before cmd (deed_after plan past ask cmd t) (deed_after (with_entropy plan words) history ask other t)
@@ -65,11 +75,28 @@ deeds_agree plan words past history ask cmd other (AtFrame n) same cmds out =
 deeds_agree plan words past history ask cmd other (AtGuest lpid) same cmds out =
     let g : Guest = guest_after plan lpid past in
     let h : Guest = guest_after (with_entropy plan words) lpid history in
-    let is : deed_guest (with_entropy plan words) h (found_after (with_entropy plan words) history) (nat_lt 0 (pool_after (with_entropy plan words) history)) ask other ≡ deed_guest plan h (found_after plan past) (nat_lt 0 (pool_after plan past)) ask other =
-    unworded plan words h (found_after (with_entropy plan words) history) (nat_lt 0 (pool_after (with_entropy plan words) history)) ask other
-    ∙ (λ i. deed_guest plan h (λ n offset. doubleword (sym (same.frame n) i) offset) (nat_lt 0 (sym same.pool i)) ask other) in
+    let is = same_plan plan words past history ask other h same in
     subst (λ (d : Deed). AgreeButValue ask.before cmd (deed_guest plan g (found_after plan past) (nat_lt 0 (pool_after plan past)) ask cmd) d) (sym is)
     (no_secret_in_deeds plan g h (found_after plan past) (nat_lt 0 (pool_after plan past)) ask cmd other (same.part lpid) cmds (out ∙ ap (λ (d : Deed). d.shown) is)).deeds
+
+-- their bytes, where the guest is Aborting
+deeds_public : (plan : Plan) (words : ℕ → List ℕ) (past history : List Event) (ask : Ask) (cmd other : Cmd) (lpid : ℕ) → Same plan words past history → open_cmd cmd ≡ open_cmd other →
+    (deed_after plan past ask cmd (AtGuest lpid)).shown ≡ (deed_after (with_entropy plan words) history ask other (AtGuest lpid)).shown → (guest_after plan lpid past).part.phase ≡ Aborting →
+    (deed_after plan past ask cmd (AtGuest lpid)).bytes ≡ (deed_after (with_entropy plan words) history ask other (AtGuest lpid)).bytes
+deeds_public plan words past history ask cmd other lpid same cmds out aborts =
+    let g : Guest = guest_after plan lpid past in
+    let h : Guest = guest_after (with_entropy plan words) lpid history in
+    let is = same_plan plan words past history ask other h same in
+    (no_secret_in_deeds plan g h (found_after plan past) (nat_lt 0 (pool_after plan past)) ask cmd other (same.part lpid) cmds (out ∙ ap (λ (d : Deed). d.shown) is)).aborting aborts
+    ∙ sym (ap (λ (d : Deed). d.bytes) is)
+
+-- a phase is Aborting, or not
+is_aborting_or : {A : Type 0} (p : Phase) → (p ≡ Aborting → A) → (p ≢ Aborting → A) → A
+is_aborting_or Absent aborts private = private (λ h. cc)
+is_aborting_or Normal aborts private = private (λ h. cc)
+is_aborting_or Starting aborts private = private (λ h. cc)
+is_aborting_or Secure aborts private = private (λ h. cc)
+is_aborting_or Aborting aborts private = aborts refl
 
 -- their bytes, where sealed pages tell nothing
 deeds_shut : (plan : Plan) (words : ℕ → List ℕ) (past history : List Event) (ask : Ask) (cmd other : Cmd) (t : Target) → Same plan words past history → open_cmd cmd ≡ open_cmd other → IsShut plan →
@@ -119,8 +146,11 @@ module _ (plan : Plan) (words : ℕ → List ℕ) (past history : List Event) (e
       p ∙ ap (λ (a : Ask). next_entry_by plan past a (mark_of e) e.trace.cmd) asks
       ∙ ap (λ (x : Target). entry_of ask (mark_of e) e.trace.cmd (deed_after plan past ask e.trace.cmd x)) targets
 
+  let_out : deed.shown ≡ other_deed.shown
+  let_out = sym (ap (λ (x : Event). x.saw.shown) is) ∙ alike.shown ∙ ap (λ (x : Event). x.saw.shown) q
+
   agree : AgreeButValue ask.before e.trace.cmd deed other_deed
-  agree = deeds_agree plan words past history ask e.trace.cmd f.trace.cmd t same alike.cmd (sym (ap (λ (x : Event). x.saw.shown) is) ∙ alike.shown ∙ ap (λ (x : Event). x.saw.shown) q)
+  agree = deeds_agree plan words past history ask e.trace.cmd f.trace.cmd t same alike.cmd let_out
 
   -- both begin a page-out, or neither does
   pub sealings_agree : begins_sealing e ≡ begins_sealing f
@@ -132,6 +162,27 @@ module _ (plan : Plan) (words : ℕ → List ℕ) (past history : List Event) (e
   entries_shut shut =
       ap (λ (x : Event). x.bytes) is ∙ deeds_shut plan words past history ask e.trace.cmd f.trace.cmd t same alike.cmd shut ∙ sym (ap (λ (x : Event). x.bytes) q)
 
+  -- the target of the entry's step
+  aims : target_of plan e ≡ t
+  aims = ap (target_of plan) is ∙ target_open plan ask.before ask.lpid e.trace.cmd ∙ ap (target_in plan ask.before ask.lpid) alike.cmd ∙ sym (target_open plan ask.before ask.lpid f.trace.cmd)
+
+  -- where a page-out begins that seals what is private they are to agree, and elsewhere they do
+  pub sealed_agree : (begins_sealing e ≡ true → TouchesNoAborting plan past e → e.bytes ≡ f.bytes) → begins_sealing e ≡ true → e.bytes ≡ f.bytes
+  sealed_agree sealed begins = by_target t refl where
+    by_target : (x : Target) → t ≡ x → e.bytes ≡ f.bytes
+    by_target Alone at = sealed begins (λ lpid touched. let no : false ≡ true = sym (ap (is_guest lpid) (aims ∙ at)) ∙ touched in cc)
+    by_target (AtFrame n) at = sealed begins (λ lpid touched. let no : false ≡ true = sym (ap (is_guest lpid) (aims ∙ at)) ∙ touched in cc)
+    by_target (AtGuest l) at = is_aborting_or (guest_after plan l past).part.phase
+        (λ aborts.
+            let bytes = deeds_public plan words past history ask e.trace.cmd f.trace.cmd l same alike.cmd
+            (subst (λ (x : Target). (deed_after plan past ask e.trace.cmd x).shown ≡ (deed_after (with_entropy plan words) history ask f.trace.cmd x).shown) at let_out) aborts in
+            ap (λ (x : Event). x.bytes) is
+            ∙ subst (λ (x : Target). (deed_after plan past ask e.trace.cmd x).bytes ≡ (deed_after (with_entropy plan words) history ask f.trace.cmd x).bytes) (sym at) bytes
+            ∙ sym (ap (λ (x : Event). x.bytes) q))
+        (λ private.
+            sealed begins (λ lpid touched. let here : l ≡ lpid = test_same l lpid (sym (ap (is_guest lpid) (aims ∙ at)) ∙ touched) in
+                subst (λ (x : ℕ). (guest_after plan x past).part.phase ≢ Aborting) here private))
+
   -- else they agree where those of a page-out that begins do
   bytes_agree : (begins_sealing e ≡ true → e.bytes ≡ f.bytes) → deed.bytes ≡ other_deed.bytes
   bytes_agree sealed = by_test (is_sealing ask.before e.trace.cmd deed.answer) refl where
@@ -141,11 +192,10 @@ module _ (plan : Plan) (words : ℕ → List ℕ) (past history : List Event) (e
 
   pub entries_agree : (begins_sealing e ≡ true → e.bytes ≡ f.bytes) → opened e ≡ opened f
   entries_agree sealed =
-      let shown : deed.shown ≡ other_deed.shown = sym (ap (λ (x : Event). x.saw.shown) is) ∙ alike.shown ∙ ap (λ (x : Event). x.saw.shown) q in
       ap opened is
       ∙ (λ i. record {
         trace = record { line = alike.line i; cpu = alike.cpu i; place = alike.place i; stamp = 0; cmd = alike.cmd i; answer = agree.answer i };
-        saw = record { before = ask.before; after = agree.after i; lpid = ask.lpid; vid = ask.vid; last = ask.last; pool = agree.pool i; frame = agree.frame i; shown = shown i };
+        saw = record { before = ask.before; after = agree.after i; lpid = ask.lpid; vid = ask.vid; last = ask.last; pool = agree.pool i; frame = agree.frame i; shown = let_out i };
         bytes = bytes_agree sealed i;
       })
       ∙ sym (ap opened q)

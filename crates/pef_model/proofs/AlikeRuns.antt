@@ -83,7 +83,7 @@ known_before plan out sealed block past known = record {
 record AreTwins (plan : Plan) (words : ℕ → List ℕ) (past history : List Event) : Type 0 where
   same : Same plan words past history
   alike : AllAlikeOpen past history
-  agree : SealedBytesAgree past history
+  agree : SealedBytesAgree plan past history
   count : length (all_sealed past) ≡ length (all_sealed history)
 
 module _ (plan : Plan) (words : ℕ → List ℕ) (out sealed : List (List ℕ)) (past history : List Event) (line other : Line) (cmd with_ : Cmd) (number : line.number ≡ other.number) (cpu : line.cpu ≡ other.cpu)
@@ -139,7 +139,7 @@ module _ (plan : Plan) (words : ℕ → List ℕ) (out sealed : List (List ℕ))
       record {
         same = one_more plan words past history e f twins.same refl refl alike bytes;
         alike = (alike, twins.alike);
-        agree = (bytes, twins.agree);
+        agree = ((λ begins private. bytes begins), twins.agree);
         count = count_by (begins_sealing e) (begins_sealing f) (sealings_agree plan words past history e f twins.same refl refl alike);
       }
 

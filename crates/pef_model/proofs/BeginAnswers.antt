@@ -16,8 +16,8 @@ use Rattle.pef_model.specs.Plan.{Plan}
 use Rattle.pef_model.specs.Event.{Event}
 use Rattle.pef_model.specs.Target.{Ask, Alone, AtFrame, frame_of, has_real_place}
 use Rattle.pef_model.specs.Cpu.{CpuPart}
-use Rattle.pef_model.specs.GuestPart.{GuestPart, page_of}
-use Rattle.pef_model.specs.PageOut.{is_starting, is_shared}
+use Rattle.pef_model.specs.GuestPart.{GuestPart, page_of, is_shared}
+use Rattle.pef_model.specs.PageOut.{is_starting}
 use Rattle.pef_model.specs.Deed.{Deed, may_return_in, is_waiting, deed_return}
 use Rattle.pef_model.specs.History.{cpu_after, pool_after, deed_after, Extends}
 use Rattle.pef_model.specs.CountLaw.{part_after}

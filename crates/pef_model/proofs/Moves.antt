@@ -37,25 +37,25 @@ registers_by_is plan past e lpid vid = by_test (touches_guest plan lpid e) where
   by_test false = refl
 
 steps : (g : Guest) (regs : Regs) (run : Run) (cmd : Cmd) (a : Answer) (after : Ctx) (shown : List ℕ) → Outcome (ctx.Guest run) cmd a after shown →
-    Steps cmd a regs (registers_after_command g regs cmd a)
-steps g regs run (HLd ra) Context after shown h = record { nip = refl; srr0 = refl }
-steps g regs run (HSt ra value) Context after shown h = record { nip = refl; srr0 = refl }
-steps g regs run (UPagein lpid src gpa flags order) (Ret code) after shown h = record { nip = refl; srr0 = refl }
-steps g regs run (UPageout lpid dest gpa flags order) (Ret code) after shown h = record { nip = refl; srr0 = refl }
-steps g regs run (UReturn r0 r2 outs) (Ret code) after shown h = record { nip = refl; srr0 = refl }
-steps g regs run (GLi rd value) Done after shown h = record { nip = refl; srr0 = refl }
-steps g regs run (GLd rd gpa) (Val value) after shown h = record { nip = refl; srr0 = refl }
-steps g regs run (GLd rd gpa) Hole after shown h = record { nip = refl; srr0 = refl }
-steps g regs run (GLd rd gpa) Again after shown h = record { nip = refl; srr0 = refl }
-steps g regs run (GSt rs gpa) Done after shown h = record { nip = refl; srr0 = refl }
-steps g regs run (GSt rs gpa) Hole after shown h = record { nip = refl; srr0 = refl }
-steps g regs run (GSt rs gpa) Again after shown h = record { nip = refl; srr0 = refl }
-steps g regs run GIrq (Exit exit.Irq) after shown h = record { nip = refl; srr0 = refl }
-steps g regs run Go Context after shown h = record { nip = refl; srr0 = refl }
+    Steps g.part.phase cmd a regs (registers_after_command g regs cmd a)
+steps g regs run (HLd ra) Context after shown h = record { nip = refl; srr0 = λ other. refl }
+steps g regs run (HSt ra value) Context after shown h = record { nip = refl; srr0 = λ other. refl }
+steps g regs run (UPagein lpid src gpa flags order) (Ret code) after shown h = record { nip = refl; srr0 = λ other. refl }
+steps g regs run (UPageout lpid dest gpa flags order) (Ret code) after shown h = record { nip = refl; srr0 = λ other. refl }
+steps g regs run (UReturn r0 r2 outs) (Ret code) after shown h = record { nip = refl; srr0 = λ other. refl }
+steps g regs run (GLi rd value) Done after shown h = record { nip = refl; srr0 = λ other. refl }
+steps g regs run (GLd rd gpa) (Val value) after shown h = record { nip = refl; srr0 = λ other. refl }
+steps g regs run (GLd rd gpa) Hole after shown h = record { nip = refl; srr0 = λ other. refl }
+steps g regs run (GLd rd gpa) Again after shown h = record { nip = refl; srr0 = λ other. refl }
+steps g regs run (GSt rs gpa) Done after shown h = record { nip = refl; srr0 = λ other. refl }
+steps g regs run (GSt rs gpa) Hole after shown h = record { nip = refl; srr0 = λ other. refl }
+steps g regs run (GSt rs gpa) Again after shown h = record { nip = refl; srr0 = λ other. refl }
+steps g regs run GIrq (Exit exit.Irq) after shown h = record { nip = refl; srr0 = λ other. refl }
+steps g regs run Go Context after shown h = record { nip = refl; srr0 = λ other. refl }
 steps g regs run (HLd ra) a after shown h = absurd h
 steps g regs run (HSt ra value) a after shown h = absurd h
 steps g regs run Go a after shown h = absurd h
-steps g regs run cmd Gone after shown h = record { nip = refl; srr0 = refl }
+steps g regs run cmd Gone after shown h = record { nip = refl; srr0 = λ other. refl }
 steps g regs run cmd a after shown h = absurd h
 
 -- a step that aims at its own guest leaves its vCPU these registers
@@ -138,7 +138,7 @@ each_entry_leaves_registers plan past e lpid vid extends =
     let is = registers_by_is plan past e lpid vid in
     record {
       own = λ (run : Run) (step : IsStepOf lpid vid run e).
-          subst (λ (x : Regs). Steps e.trace.cmd e.trace.answer (registers vid) x)
+          subst (λ (x : Regs). Steps (guest_after plan lpid past).part.phase e.trace.cmd e.trace.answer (registers vid) x)
           (sym (is ∙ ap (λ (c : Ctx). registers_by plan c e.saw.lpid e.saw.vid e.trace.cmd e.trace.answer g lpid vid) (runs_alone e.saw.before run step.before)
           ∙ own_registers plan run e.saw.lpid e.saw.vid e.trace.cmd e.trace.answer g lpid vid step.guest_is step.vcpu_is))
           (steps g (registers vid) run e.trace.cmd e.trace.answer e.saw.after e.saw.shown

@@ -1,5 +1,5 @@
 -- A vCPU runs on one CPU.
-use Rattle.std.proofs.Common.{◌≡◌, ℕ, List, [], ◌∷◌, true, false, refl, ap, sym, subst, ◌∙◌, inl, inr, arith}
+use Rattle.std.proofs.Common.{◌≡◌, ℕ, List, [], ◌∷◌, true, false, refl, ap, sym, subst, ◌∙◌, Some, inl, inr, arith}
 use Rattle.std.proofs.lemmas.Bool.{cases_eq}
 use Rattle.pef_model.specs.declared.state.Phase.{Phase}
 use Rattle.pef_model.specs.declared.state.Phase.TheVariants.{Secure}
@@ -10,6 +10,7 @@ use Rattle.pef_model.specs.declared.state.Ctx.{Ctx}
 use Rattle.pef_model.specs.declared.state.Ctx.TheVariants as ctx
 use Rattle.pef_model.specs.Plan.{Plan}
 use Rattle.pef_model.specs.Event.{Event}
+use Rattle.pef_model.specs.Target.{vcpu_in}
 use Rattle.pef_model.specs.Cpu.{CpuPart}
 use Rattle.pef_model.specs.GuestPart.{GuestPart, VcpuPart, put}
 use Rattle.pef_model.specs.Deed.{may_return_in, is_waiting}
@@ -17,6 +18,7 @@ use Rattle.pef_model.specs.History.{cpu_after, IsLegal}
 use Rattle.pef_model.specs.CountLaw.{part_after, EachCpuRunsItsVcpu, EachRunIsOfAGeneration, NoVcpuRunsTwice}
 use Rattle.pef_model.proofs.Puts.{put-here, put-other, put_in, IsElsewhere, put_in-here, put_in-elsewhere}
 use Rattle.pef_model.proofs.Parts.{secure_where_allowed}
+use Rattle.pef_model.proofs.Moves.{runs_alone}
 use Rattle.pef_model.proofs.Changes.{Change, Quiet, Begins, Copies, Ends, Drops, Comes, Reads, Accepts, Refuses, Takes, Parked, Gone, Backs, LeavesCpu, KeepsParts, PutsPart}
 use Rattle.pef_model.proofs.ChangeOf.{change}
 use Rattle.pef_model.proofs.Fields.{ctxs, of_each, ctxs_after, same_ctxs, field_after, same_field, kept_field}
@@ -167,19 +169,24 @@ all_run : (plan : Plan) (past : List Event) → IsLegal plan past → AllRun pla
 all_run plan [] legal n run is = cc
 all_run plan (e ∷ past) legal n run is = run_by plan past e (all_run plan past legal.1) (change plan past e legal.0) n run is
 
+-- and so does one whose step is next: no call of a guest is in progress
+all_step : (plan : Plan) (past : List Event) → IsLegal plan past → (n : ℕ) (run : Run) → vcpu_in (cpu_after plan n past).ctx ≡ Some run →
+    IsRunning ((part_after plan past run.lpid).vcpus run.vid) (part_after plan past run.lpid).generation (part_after plan past run.lpid).phase n run
+all_step plan past legal n run is = all_run plan past legal n run (runs_alone (cpu_after plan n past).ctx run is)
+
 -- each CPU runs the vCPU that it took up
 pub each_cpu_runs_its_vcpu : EachCpuRunsItsVcpu
 each_cpu_runs_its_vcpu plan past n run legal is now =
-    let running = all_run plan past legal n run is in
-    record { state = running.state; taken = running.taken; secure = λ normal. running.secure }
+    let running = all_step plan past legal n run is in
+    record { state = running.state; taken = running.taken; secure = λ runs normal. running.secure }
 
 pub each_run_is_of_a_generation : EachRunIsOfAGeneration
-each_run_is_of_a_generation plan past n run legal is = let running = all_run plan past legal n run is in omega (arith, running.generation_is)
+each_run_is_of_a_generation plan past n run legal is = let running = all_step plan past legal n run is in omega (arith, running.generation_is)
 
 -- a vCPU's state names one CPU
 pub no_vcpu_runs_twice : NoVcpuRunsTwice
 no_vcpu_runs_twice plan past m n left right legal h k here this same =
-    let first = all_run plan past legal m left h in
-    let second = all_run plan past legal n right k in
+    let first = all_step plan past legal m left h in
+    let second = all_step plan past legal n right k in
     one_cpu ((part_after plan past left.lpid).vcpus left.vid).state m n first.state
     (ap (λ (x : ℕ). ((part_after plan past x).vcpus left.vid).state) here ∙ ap (λ (x : ℕ). ((part_after plan past right.lpid).vcpus x).state) this ∙ second.state)

@@ -24,7 +24,7 @@ alike_sound_parts_report_the_same one other past history alike legal legal_too =
     let other_is : drop n history ≡ sound (plan_of other) history = ap (λ (m : ℕ). drop m history) (sym as_long) ∙ sym other_part.part in
     let prefix : IsAlike one (drop n past) other (drop n history) = record {
       open_ = record { configs = alike.open_.configs; entries = alike_prefix n past history alike.open_.entries };
-      sealed = sealed_prefix n past history alike.sealed;
+      sealed = sealed_prefix (plan_of one) n past history alike.sealed;
     } in
     let reported : ReportTheSame (plan_of one) (plan_of other) (drop n past) (drop n history) =
     alike_report_the_same one other (drop n past) (drop n history) prefix (subst (IsLegal (plan_of one)) (sym one_is) (part.legal legal)) (subst (IsLegal (plan_of other)) (sym other_is) (other_part.legal legal_too)) in

@@ -1,6 +1,11 @@
 -- What an entry tells of the objects beside its target.
 use Rattle.std.proofs.Common.{◌≡◌, ℕ, List, Bool, true, false, ◌==◌, nat_lt, if◌then◌else◌, refl, ap, sym, ◌∙◌, Option, arith}
 use Rattle.std.proofs.lemmas.Grind.{common_steps}
+use Rattle.std.specs.Prelude.{is_some, not, ◌%◌, ◌+◌, None, Some}
+use Rattle.pef_model.specs.declared.state.Phase.{Phase}
+use Rattle.pef_model.specs.declared.state.Phase.TheVariants as phase
+use Rattle.pef_model.specs.declared.state.Kind.{Kind}
+use Rattle.pef_model.specs.declared.state.Kind.TheVariants as kind
 use Rattle.pef_model.specs.declared.state.Work.TheVariants.{Inward, Outward}
 use Rattle.pef_model.specs.declared.state.Ctx.{Ctx}
 use Rattle.pef_model.specs.declared.state.Ctx.TheVariants as ctx
@@ -9,15 +14,15 @@ use Rattle.pef_model.specs.declared.entry.Answer.{Answer}
 use Rattle.pef_model.specs.declared.entry.PoolSaw.{PoolSaw}
 use Rattle.pef_model.specs.Plan.{Plan}
 use Rattle.pef_model.specs.Event.{Event, mark_of}
-use Rattle.pef_model.specs.Target.{Ask, Target, AtGuest, told, target_in}
-use Rattle.pef_model.specs.GuestPart.{Meeting, Normal, Unbacked, meets}
+use Rattle.pef_model.specs.Target.{Ask, Target, AtGuest, frame_of, told, target_in}
+use Rattle.pef_model.specs.GuestPart.{GuestPart, Meeting, NoPlace, Moves, Private, Normal, Unbacked, meets, meets_in, meets_kind, has_place, is_private_in, is_shared, page_of}
 use Rattle.pef_model.specs.Guest.{Guest}
 use Rattle.pef_model.specs.Deed.{Deed, deed_access, deed_gone, deed_guest, deed_guest_in}
 use Rattle.pef_model.specs.History.{cpu_after, guest_after, pool_after, found_after, deed_after, ask_of, entry_of, Extends}
 use Rattle.pef_model.specs.ReadLaw.{tells_free}
 use Rattle.pef_model.specs.CountLaw.{part_after}
 use Rattle.std.proofs.Common.{rules}
-use Rattle.pef_model.specs.ToldLaw.{is_done, frame_met, AccessTellsItsFrame, told_any, told_found, EntryAtGuestIsTold}
+use Rattle.pef_model.specs.ToldLaw.{is_done, frame_met, AccessTellsItsFrame, PrivateAccessTellsNoFrame, told_any, told_found, EntryAtGuestIsTold}
 use Rattle.pef_model.proofs.DeedOf.{deed_of, ask_in, success_of, through_of, shown_of, reach, access_is}
 
 -- an access that is done tells the normal frame that it meets
@@ -43,6 +48,62 @@ access_tells_its_frame plan past e run gpa extends before address done =
       by_test : (b : Bool) → is_done (if b then reach plan past run ask e.trace.cmd gpa else deed_gone ask).answer ≡ true →
           (if b then reach plan past run ask e.trace.cmd gpa else deed_gone ask).frame ≡ frame_met (meets plan g.part gpa)
       by_test true h = access_frame ask (success_of g e.trace.cmd) (through_of plan (found_after plan past) e.trace.cmd) (shown_of run g e.trace.cmd) (nat_lt 0 (pool_after plan past)) (meets plan g.part gpa) h
+      by_test false h = cc
+
+-- whether an access meets a page of the guest's own
+is_own : Meeting → Bool
+is_own Private = true
+is_own Unbacked = true
+is_own met = false
+
+-- one that is done does
+done_meets : (ask : Ask) (success : Answer) (through : ℕ → Answer) (out : List ℕ) (any : Bool) (m : Meeting) → is_done (deed_access ask success through out any m).answer ≡ true → is_own m ≡ true
+unfolding is_own
+done_meets ask success through out any Private h = refl
+done_meets ask success through out any Unbacked h = refl
+done_meets ask success through out any m h = cc
+
+own_frame : (m : Meeting) → is_own m ≡ true → frame_met m ≡ None
+unfolding is_own
+own_frame Private h = refl
+own_frame Unbacked h = refl
+own_frame (Normal n) h = cc
+own_frame m h = refl
+
+-- and such a page is private
+own_kind : (here moves : Bool) (k : Kind) → is_own (if here then (if moves then Moves else meets_kind k) else NoPlace) ≡ true → not (is_shared k) ≡ true
+unfolding is_own
+own_kind here moves kind.Invalid h = refl
+own_kind here moves kind.Secure h = refl
+own_kind here moves kind.Out h = refl
+own_kind true true (kind.Shared frame fresh) h = cc
+own_kind true false (kind.Shared None fresh) h = cc
+own_kind true false (kind.Shared (Some n) fresh) h = cc
+own_kind false moves (kind.Shared frame fresh) h = cc
+
+entry_is_none : (here there : Bool) (n : ℕ) → is_own (if here then (if there then Normal n else NoPlace) else NoPlace) ≡ true → false ≡ true
+unfolding is_own
+entry_is_none true true n h = h
+entry_is_none true false n h = h
+entry_is_none false there n h = h
+
+own_is_private : (plan : Plan) (g : GuestPart) (gpa : ℕ) (p : Phase) → is_own (meets_in p plan g gpa) ≡ true → is_private_in p (g.pages (page_of plan gpa)).kind ≡ true
+own_is_private plan g gpa phase.Normal h =
+    entry_is_none (gpa % 8 == 0) (nat_lt (page_of plan gpa) g.entry.length_) (frame_of plan g.entry.base + page_of plan gpa) h
+own_is_private plan g gpa other h = own_kind (has_place plan gpa) (is_some (g.pages (page_of plan gpa)).mover) (g.pages (page_of plan gpa)).kind h
+
+pub private_access_tells_no_frame : PrivateAccessTellsNoFrame
+private_access_tells_no_frame plan past e run gpa extends before address done =
+    let own = by_test (run.generation == g.part.generation) (ap (λ (d : Deed). is_done d.answer) (sym (access_is plan past e run gpa extends before address)) ∙ done) in
+    (λ none. own_is_private plan g.part gpa g.part.phase own, λ private. access_tells_its_frame plan past e run gpa extends before address done ∙ own_frame (meets plan g.part gpa) own) where
+      g : Guest
+      g = guest_after plan run.lpid past
+
+      ask : Ask
+      ask = ask_in (cpu_after plan e.trace.cpu past) (ctx.Guest run) e.trace.cmd
+
+      by_test : (b : Bool) → is_done (if b then reach plan past run ask e.trace.cmd gpa else deed_gone ask).answer ≡ true → is_own (meets plan g.part gpa) ≡ true
+      by_test true h = done_meets ask (success_of g e.trace.cmd) (through_of plan (found_after plan past) e.trace.cmd) (shown_of run g e.trace.cmd) (nat_lt 0 (pool_after plan past)) (meets plan g.part gpa) h
       by_test false h = cc
 
 -- a deed at a guest is the same with what it tells of the pool, whatever normal memory holds

@@ -28,7 +28,7 @@ use Rattle.pef_model.specs.Alike.{AgreeButWords, AreAlikeOpen, AllAlikeOpen, Sea
 use Rattle.pef_model.proofs.Opened.{name_open}
 use Rattle.pef_model.proofs.Secrets.{no_secret_in_one_entry, agree_more, part_after}
 use Rattle.pef_model.proofs.Deeds.{IsShut}
-use Rattle.pef_model.proofs.AlikeEntries.{IsNext, unstamped, opened, Same, entries_shut, entries_agree}
+use Rattle.pef_model.proofs.AlikeEntries.{IsNext, unstamped, opened, Same, entries_shut, sealed_agree, entries_agree}
 
 -- a step of a guest after which the hypervisor runs gives no value
 running_gives_none : (plan : Plan) (past : List Event) (run : Run) (l v : ℕ) (last : Answer) (hand : List ℕ) (cmd : Cmd) →
@@ -173,11 +173,13 @@ module _ (plan : Plan) (words : ℕ → List ℕ) (past history : List Event) (e
   }
 
 -- two legal histories that are alike have as much in common, by induction on both
-pub same_so_far : (plan : Plan) (words : ℕ → List ℕ) (past history : List Event) → IsLegal plan past → IsLegal (with_entropy plan words) history → AllAlikeOpen past history → SealedBytesAgree past history → Same plan words past history
+pub same_so_far : (plan : Plan) (words : ℕ → List ℕ) (past history : List Event) → IsLegal plan past → IsLegal (with_entropy plan words) history → AllAlikeOpen past history → SealedBytesAgree plan past history → Same plan words past history
 same_so_far plan words [] [] p q alike sealed = record { cpu = λ n. refl; part = λ lpid. refl; pool = refl; frame = λ n. refl; seen = refl }
 same_so_far plan words [] (f ∷ history) p q alike sealed = absurd alike
 same_so_far plan words (e ∷ past) [] p q alike sealed = absurd alike
-same_so_far plan words (e ∷ past) (f ∷ history) p q alike sealed = one_more plan words past history e f (same_so_far plan words past history p.1 q.1 alike.1 sealed.1) p.0.is q.0.is alike.0 sealed.0
+same_so_far plan words (e ∷ past) (f ∷ history) p q alike sealed =
+    let same = same_so_far plan words past history p.1 q.1 alike.1 sealed.1 in
+    one_more plan words past history e f same p.0.is q.0.is alike.0 (sealed_agree plan words past history e f same p.0.is q.0.is alike.0 sealed.0)
 
 -- a prefix of a legal history is legal, and prefixes of alike histories are alike
 legal_prefix : (plan : Plan) (n : ℕ) (past : List Event) → IsLegal plan past → IsLegal plan (drop n past)
@@ -192,15 +194,15 @@ alike_prefix (suc n) [] (f ∷ history) h = absurd h
 alike_prefix (suc n) (e ∷ past) [] h = absurd h
 alike_prefix (suc n) (e ∷ past) (f ∷ history) h = alike_prefix n past history h.1
 
-pub sealed_prefix : (n : ℕ) (past history : List Event) → SealedBytesAgree past history → SealedBytesAgree (drop n past) (drop n history)
-sealed_prefix zero past history h = h
-sealed_prefix (suc n) [] [] h = tt
-sealed_prefix (suc n) [] (f ∷ history) h = tt
-sealed_prefix (suc n) (e ∷ past) [] h = nothing_sealed (drop n past) where
-  nothing_sealed : (past : List Event) → SealedBytesAgree past []
+pub sealed_prefix : (plan : Plan) (n : ℕ) (past history : List Event) → SealedBytesAgree plan past history → SealedBytesAgree plan (drop n past) (drop n history)
+sealed_prefix plan zero past history h = h
+sealed_prefix plan (suc n) [] [] h = tt
+sealed_prefix plan (suc n) [] (f ∷ history) h = tt
+sealed_prefix plan (suc n) (e ∷ past) [] h = nothing_sealed (drop n past) where
+  nothing_sealed : (past : List Event) → SealedBytesAgree plan past []
   nothing_sealed [] = tt
   nothing_sealed (e ∷ past) = tt
-sealed_prefix (suc n) (e ∷ past) (f ∷ history) h = sealed_prefix n past history h.1
+sealed_prefix plan (suc n) (e ∷ past) (f ∷ history) h = sealed_prefix plan n past history h.1
 
 pub length_alike : (past history : List Event) → AllAlikeOpen past history → length past ≡ length history
 length_alike [] [] h = refl
@@ -234,7 +236,7 @@ alike_show_the_same one other past history k alike legal legal_too =
     let same : Same plan words (drop n past) (drop n history) =
     same_so_far plan words (drop n past) (drop n history) (legal_prefix plan n past legal)
     (legal_prefix (with_entropy plan words) n history (subst (λ (x : Plan). IsLegal x history) (sym plans) legal_too))
-    (alike_prefix n past history alike.open_.entries) (sealed_prefix n past history alike.sealed) in
+    (alike_prefix n past history alike.open_.entries) (sealed_prefix plan n past history alike.sealed) in
     record {
       state = (λ i. record { cpus = λ m. same.cpu m i; guests = λ lpid. same.part lpid i; pool = same.pool i; frames = λ m. same.frame m i })
           ∙ ap (λ (x : Plan). public_state x (drop n history)) plans ∙ ap (public_state (plan_of other)) (sym there);
@@ -250,25 +252,25 @@ vault_is_shut config vault tag one other = by_test config.vault vault where
   by_test false h = cc
 
 -- alike histories of a vault show the same, and what they seal is the same
-shut_so_far : (plan : Plan) (words : ℕ → List ℕ) → IsShut plan → (past history : List Event) → IsLegal plan past → IsLegal (with_entropy plan words) history → AllAlikeOpen past history → Same plan words past history × SealedBytesAgree past history
+shut_so_far : (plan : Plan) (words : ℕ → List ℕ) → IsShut plan → (past history : List Event) → IsLegal plan past → IsLegal (with_entropy plan words) history → AllAlikeOpen past history → Same plan words past history × SealedBytesAgree plan past history
 shut_so_far plan words shut [] [] p q alike = (record { cpu = λ n. refl; part = λ lpid. refl; pool = refl; frame = λ n. refl; seen = refl }, tt)
 shut_so_far plan words shut [] (f ∷ history) p q alike = absurd alike
 shut_so_far plan words shut (e ∷ past) [] p q alike = absurd alike
 shut_so_far plan words shut (e ∷ past) (f ∷ history) p q alike =
-    let before : Same plan words past history × SealedBytesAgree past history = shut_so_far plan words shut past history p.1 q.1 alike.1 in
+    let before : Same plan words past history × SealedBytesAgree plan past history = shut_so_far plan words shut past history p.1 q.1 alike.1 in
     let sealed : begins_sealing e ≡ true → e.bytes ≡ f.bytes = (λ h. entries_shut plan words past history e f before.0 p.0.is q.0.is alike.0 shut) in
-    (one_more plan words past history e f before.0 p.0.is q.0.is alike.0 sealed, (sealed, before.1))
+    (one_more plan words past history e f before.0 p.0.is q.0.is alike.0 sealed, ((λ begins private. sealed begins), before.1))
 
 pub open_is_alike : OpenIsAlike
 open_is_alike one other past history vault legal legal_too alike =
     let words : ℕ → List ℕ = (plan_of other).entropy in
-    let same : Same (plan_of one) words past history × SealedBytesAgree past history =
+    let same : Same (plan_of one) words past history × SealedBytesAgree (plan_of one) past history =
     shut_so_far (plan_of one) words (vault_is_shut one vault) past history legal (subst (λ (x : Plan). IsLegal x history) (sym (one_plan one other alike.configs)) legal_too) alike.entries in
     record { open_ = alike; sealed = same.1 }
 
 pub unsealed_is_alike : UnsealedIsAlike
 unsealed_is_alike one other past history unsealed alike = record { open_ = alike; sealed = agree past history unsealed } where
-  agree : (xs ys : List Event) → AllByRecursion (λ (e : Event). begins_sealing e ≡ false) xs → SealedBytesAgree xs ys
+  agree : (xs ys : List Event) → AllByRecursion (λ (e : Event). begins_sealing e ≡ false) xs → SealedBytesAgree (plan_of one) xs ys
   agree [] ys h = tt
   agree (x ∷ xs) [] h = tt
-  agree (x ∷ xs) (y ∷ ys) h = ((λ sealing. cc), agree xs ys h.1)
+  agree (x ∷ xs) (y ∷ ys) h = ((λ sealing private. cc), agree xs ys h.1)

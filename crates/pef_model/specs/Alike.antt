@@ -1,13 +1,14 @@
 -- Two runs that agree but on secrets.
-use Rattle.std.specs.Prelude.{◌≡◌, ℕ, ◌-◌, ◌==◌, Bool, true, false, List, [], ◌∷◌, length, drop, IsTrue}
+use Rattle.std.specs.Prelude.{◌≡◌, ◌≢◌, ℕ, ◌-◌, ◌==◌, Bool, true, false, List, [], ◌∷◌, length, drop, IsTrue}
 use Rattle.std.specs.List.{count_by, AllByRecursion}
 use Rattle.pef_model.specs.declared.config.Config.{Config}
 use Rattle.pef_model.specs.declared.config.EntropyWord.{EntropyWord}
+use Rattle.pef_model.specs.declared.state.Phase.TheVariants.{Aborting}
 use Rattle.pef_model.specs.Plan.{Plan, plan_of}
 use Rattle.pef_model.specs.Event.{Event}
-use Rattle.pef_model.specs.History.{public_state, IsLegal}
+use Rattle.pef_model.specs.History.{guest_after, public_state, IsLegal}
 use Rattle.pef_model.specs.SecretLaw.{open_cmd}
-use Rattle.pef_model.specs.Target.{is_sealing}
+use Rattle.pef_model.specs.Target.{is_sealing, touches_guest}
 use Rattle.pef_model.specs.Sound.{is_clean, sound}
 use Rattle.pef_model.specs.View.{view}
 
@@ -44,15 +45,19 @@ pub record IsAlikeOpen (one : Config) (past : List Event) (other : Config) (hist
 abbrev pub begins_sealing : Event → Bool
 begins_sealing e = is_sealing e.saw.before e.trace.cmd e.trace.answer
 
--- the bytes of each begin of a sealed page-out agree
-abbrev pub SealedBytesAgree : List Event → List Event → Type 0
-SealedBytesAgree (e ∷ past) (f ∷ history) = (begins_sealing e ≡ true → e.bytes ≡ f.bytes) × SealedBytesAgree past history
-SealedBytesAgree past history = Unit {0}
+-- no guest that an entry after a history touches is Aborting: the pages of one that is are public
+abbrev pub TouchesNoAborting : Plan → List Event → Event → Type 0
+TouchesNoAborting plan past e = (lpid : ℕ) → touches_guest plan lpid e ≡ true → (guest_after plan lpid past).part.phase ≢ Aborting
+
+-- the bytes of each begin of a page-out that seals what is private agree
+abbrev pub SealedBytesAgree : Plan → List Event → List Event → Type 0
+SealedBytesAgree plan (e ∷ past) (f ∷ history) = (begins_sealing e ≡ true → TouchesNoAborting plan past e → e.bytes ≡ f.bytes) × SealedBytesAgree plan past history
+SealedBytesAgree plan past history = Unit {0}
 
 -- two runs agree but on secrets
 pub record IsAlike (one : Config) (past : List Event) (other : Config) (history : List Event) : Type 0 where
   pub open_ : IsAlikeOpen one past other history
-  pub sealed : SealedBytesAgree past history
+  pub sealed : SealedBytesAgree (plan_of one) past history
 
 -- the first so many entries of a history
 abbrev pub first : ℕ → List Event → List Event

@@ -17,8 +17,8 @@ use Rattle.pef_model.specs.Event.{Event}
 use Rattle.pef_model.specs.Registers.{zero_registers}
 use Rattle.pef_model.specs.Target.{frame_of, vcpu_in}
 use Rattle.pef_model.specs.Cpu.{CpuPart}
-use Rattle.pef_model.specs.GuestPart.{Page, GuestPart, page_of, has_place}
-use Rattle.pef_model.specs.PageOut.{may_page_out_in, can_go_out, is_shared, has_frame, has_page}
+use Rattle.pef_model.specs.GuestPart.{Page, GuestPart, page_of, has_place, is_shared}
+use Rattle.pef_model.specs.PageOut.{may_page_out_in, can_go_out, has_frame, has_page}
 use Rattle.pef_model.specs.PageIn.{may_page_in_in, may_come_in}
 use Rattle.pef_model.specs.Deed.{may_return_in, is_waiting}
 use Rattle.pef_model.specs.History.{cpu_after, guest_after, pool_after, frame_after, Extends}

@@ -1,5 +1,5 @@
 -- Laws of whole histories: each vCPU runs on one CPU, and the frames are counted.
-use Rattle.std.specs.Prelude.{◌≡◌, ◌≢◌, ℕ, ◌+◌, ◌<◌, ◌≤◌, ◌==◌, if◌then◌else◌, List, ◌∷◌, filter, length, take}
+use Rattle.std.specs.Prelude.{◌≡◌, ◌≢◌, ℕ, ◌+◌, ◌<◌, ◌≤◌, ◌==◌, if◌then◌else◌, List, ◌∷◌, filter, length, take, Some}
 use Rattle.std.specs.List.{count_by}
 use Rattle.pef_model.specs.declared.state.Phase.TheVariants.{Normal, Secure}
 use Rattle.pef_model.specs.declared.state.VState.TheVariants.{Running}
@@ -7,6 +7,7 @@ use Rattle.pef_model.specs.declared.state.Run.{Run}
 use Rattle.pef_model.specs.declared.state.Ctx.TheVariants as ctx
 use Rattle.pef_model.specs.Plan.{Plan}
 use Rattle.pef_model.specs.Event.{Event}
+use Rattle.pef_model.specs.Target.{vcpu_in}
 use Rattle.pef_model.specs.GuestPart.{GuestPart, is_secure, frames_in, sum_below}
 use Rattle.pef_model.specs.History.{cpu_after, guest_after, pool_after, IsLegal}
 
@@ -14,31 +15,31 @@ use Rattle.pef_model.specs.History.{cpu_after, guest_after, pool_after, IsLegal}
 abbrev pub part_after : Plan → List Event → ℕ → GuestPart
 part_after plan past lpid = (guest_after plan lpid past).part
 
--- a CPU runs the vCPU that its context names
+-- a CPU runs the vCPU whose step is next on it: the one that its context names, or the one whose call is in progress
 pub record RunsItsVcpu (plan : Plan) (past : List Event) (n : ℕ) (run : Run) : Type 0 where
   -- the vCPU's state is that it runs on this CPU
   pub state : ((part_after plan past run.lpid).vcpus run.vid).state ≡ Running n
   -- it was taken up in the generation that the context names
   pub taken : ((part_after plan past run.lpid).vcpus run.vid).generation ≡ run.generation
-  -- the guest runs in normal memory, or is secure
-  pub secure : (part_after plan past run.lpid).phase ≢ Normal → (part_after plan past run.lpid).phase ≡ Secure
+  -- a guest that runs, and not a call of its own, does so in normal memory or is secure
+  pub secure : (cpu_after plan n past).ctx ≡ ctx.Guest run → (part_after plan past run.lpid).phase ≢ Normal → (part_after plan past run.lpid).phase ≡ Secure
 
--- each CPU does, as long as the guest is in the generation that the context names
+-- each CPU does, as long as the guest is in the generation that the context names, while a call of the vCPU is in progress too
 abbrev pub EachCpuRunsItsVcpu : Type 0
 EachCpuRunsItsVcpu =
-    (plan : Plan) (past : List Event) (n : ℕ) (run : Run) → IsLegal plan past → (cpu_after plan n past).ctx ≡ ctx.Guest run → run.generation ≡ (part_after plan past run.lpid).generation →
+    (plan : Plan) (past : List Event) (n : ℕ) (run : Run) → IsLegal plan past → vcpu_in (cpu_after plan n past).ctx ≡ Some run → run.generation ≡ (part_after plan past run.lpid).generation →
     RunsItsVcpu plan past n run
 
 -- a context names a generation that its guest has reached
 abbrev pub EachRunIsOfAGeneration : Type 0
 EachRunIsOfAGeneration =
-    (plan : Plan) (past : List Event) (n : ℕ) (run : Run) → IsLegal plan past → (cpu_after plan n past).ctx ≡ ctx.Guest run → run.generation ≤ (part_after plan past run.lpid).generation
+    (plan : Plan) (past : List Event) (n : ℕ) (run : Run) → IsLegal plan past → vcpu_in (cpu_after plan n past).ctx ≡ Some run → run.generation ≤ (part_after plan past run.lpid).generation
 
--- two CPUs that run the same vCPU in one generation are the same CPU
+-- two CPUs that run the same vCPU in one generation, or have its call in progress, are the same CPU
 abbrev pub NoVcpuRunsTwice : Type 0
 NoVcpuRunsTwice =
     (plan : Plan) (past : List Event) (m n : ℕ) (left right : Run) → IsLegal plan past →
-    (cpu_after plan m past).ctx ≡ ctx.Guest left → (cpu_after plan n past).ctx ≡ ctx.Guest right → left.lpid ≡ right.lpid → left.vid ≡ right.vid → left.generation ≡ right.generation → m ≡ n
+    vcpu_in (cpu_after plan m past).ctx ≡ Some left → vcpu_in (cpu_after plan n past).ctx ≡ Some right → left.lpid ≡ right.lpid → left.vid ≡ right.vid → left.generation ≡ right.generation → m ≡ n
 
 -- an order has each Secure page of its guest once, and no other page
 abbrev pub OrderHasSecurePages : Type 0

@@ -112,6 +112,22 @@ page_of plan gpa = gpa / 2 ^ plan.shift
 abbrev pub has_place : Plan → ℕ → Bool
 has_place plan gpa = (gpa % 8 == 0) && nat_lt (page_of plan gpa) plan.pages
 
+-- whether a page of this kind is Shared
+abbrev pub is_shared : Kind → Bool
+is_shared kind.Invalid = false
+is_shared kind.Secure = false
+is_shared kind.Out = false
+is_shared (kind.Shared frame fresh) = true
+
+-- whether a page of this kind is private in a guest of this phase: a Normal guest has none, and a Shared page is none
+abbrev pub is_private_in : Phase → Kind → Bool
+is_private_in phase.Normal page_kind = false
+is_private_in other page_kind = not (is_shared page_kind)
+
+-- whether a page of a guest is private
+abbrev pub is_private : GuestPart → ℕ → Bool
+is_private g gfn = is_private_in g.phase (g.pages gfn).kind
+
 -- what an access to a guest address meets
 pub data Meeting : Type 0 where
   -- no doubleword of a page

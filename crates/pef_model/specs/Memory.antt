@@ -1,17 +1,16 @@
 -- The pool of secure frames, and the normal frames.
 use Rattle.std.specs.Prelude.{ℕ, ◌+◌, ◌-◌, ◌%◌, ◌^◌, ◌==◌, if◌then◌else◌, List, [], ◌∷◌, ◌++◌, take, drop, length, Option, Some, None, replicate, Bool, ◌&&◌, nat_le, nat_lt}
-use Rattle.pef_model.specs.declared.state.Work.TheVariants.{Outward}
 use Rattle.pef_model.specs.declared.state.Ctx.{Ctx}
 use Rattle.pef_model.specs.declared.state.Ctx.TheVariants as ctx
 use Rattle.pef_model.specs.declared.command.Cmd.{Cmd}
-use Rattle.pef_model.specs.declared.command.Cmd.TheVariants.{HSt, Go}
+use Rattle.pef_model.specs.declared.command.Cmd.TheVariants.{HSt}
 use Rattle.pef_model.specs.declared.entry.Answer.{Answer}
 use Rattle.pef_model.specs.declared.entry.Answer.TheVariants as answer
 use Rattle.pef_model.specs.declared.entry.PoolSaw.{PoolSaw}
 use Rattle.pef_model.specs.Plan.{Plan}
 use Rattle.pef_model.specs.Event.{Event}
 use Rattle.pef_model.specs.Doubleword.{doubleword}
-use Rattle.pef_model.specs.Target.{frame_of}
+use Rattle.pef_model.specs.Target.{frame_of, is_copying}
 use Rattle.byteorder.specs.Endian.{big_bytes}
 
 -- the number of free frames after what a step took and gave back
@@ -40,8 +39,7 @@ pub record Write : Type 0 where
 -- what a step at this normal frame writes there: a store its doubleword, a copy the entry's bytes
 abbrev pub write_in : Plan → Ctx → Cmd → Answer → List ℕ → ℕ → List Write
 write_in plan ctx.Hv (HSt ra value) answer.Done bytes n = record { frame = n; offset = offset_of plan ra; bytes = big_bytes 8 value } ∷ []
-write_in plan (ctx.Uv (Outward move)) Go answer.Step bytes n = record { frame = n; offset = 0; bytes = bytes } ∷ []
-write_in plan before cmd a bytes n = []
+write_in plan before cmd a bytes n = if is_copying before cmd a then record { frame = n; offset = 0; bytes = bytes } ∷ [] else []
 
 -- what a step writes into the normal frame that it tells
 abbrev pub writes_in : Plan → Ctx → Cmd → Answer → List ℕ → Option ℕ → List Write

@@ -22,7 +22,7 @@ use Rattle.pef_model.specs.Event.{Event}
 use Rattle.pef_model.specs.Doubleword.{doubleword}
 use Rattle.pef_model.specs.Seal.{tag_bytes, image}
 use Rattle.pef_model.specs.TagLaw.{HasDoublewords}
-use Rattle.pef_model.specs.Target.{frame_of}
+use Rattle.pef_model.specs.Target.{frame_of, is_sealing}
 use Rattle.pef_model.specs.GuestPart.{Page, page_of}
 use Rattle.pef_model.specs.PageOut.{tag_of, page_bytes}
 use Rattle.pef_model.specs.Authority.{InSealedBytes, authority}
@@ -82,10 +82,14 @@ pub record KeepsWhatIsSealed (page : Page) : Type 0 where
 abbrev pub EachPageKeepsWhatIsSealed : Type 0
 EachPageKeepsWhatIsSealed = (plan : Plan) (past : List Event) (lpid gfn : ℕ) → IsLegal plan past → KeepsWhatIsSealed (page_after plan past lpid gfn)
 
+-- whether a call names a page of a guest as the one to move outward
+abbrev pub names_page_out : Plan → ℕ → ℕ → Cmd → Bool
+names_page_out plan lpid gfn (UPageout named dest gpa flags order) = (named == lpid) && (page_of plan gpa == gfn)
+names_page_out plan lpid gfn cmd = false
+
 -- whether a step begins a page-out of a guest's page
 abbrev pub begins_out_in : Plan → ℕ → ℕ → Ctx → Cmd → Answer → Bool
-begins_out_in plan lpid gfn ctx.Hv (UPageout named dest gpa flags order) answer.Step = (named == lpid) && (page_of plan gpa == gfn)
-begins_out_in plan lpid gfn before cmd a = false
+begins_out_in plan lpid gfn before cmd a = is_sealing before cmd a && names_page_out plan lpid gfn cmd
 
 -- whether an entry does
 abbrev pub begins_out : Plan → ℕ → ℕ → Event → Bool

@@ -12,7 +12,7 @@ use Rattle.pef_model.specs.declared.command.Code.TheVariants.{USuccess, UParamet
 use Rattle.pef_model.specs.Plan.{Plan}
 use Rattle.pef_model.specs.Seal.{doublewords}
 use Rattle.pef_model.specs.Target.{frame_of}
-use Rattle.pef_model.specs.GuestPart.{GuestPart, page_of}
+use Rattle.pef_model.specs.GuestPart.{GuestPart, page_of, is_shared}
 use Rattle.pef_model.specs.Guest.{Guest}
 
 -- whether UV_PAGE_OUT is for a guest in this phase
@@ -37,13 +37,6 @@ can_go_out kind.Invalid = false
 can_go_out kind.Secure = true
 can_go_out kind.Out = false
 can_go_out (kind.Shared frame fresh) = true
-
--- whether a page is Shared
-abbrev pub is_shared : Kind → Bool
-is_shared kind.Invalid = false
-is_shared kind.Secure = false
-is_shared kind.Out = false
-is_shared (kind.Shared frame fresh) = true
 
 -- whether a real address is that of a normal frame
 abbrev pub has_frame : Plan → ℕ → Bool

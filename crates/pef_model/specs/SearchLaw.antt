@@ -1,5 +1,5 @@
 -- Laws of what a guest loads: the last store, as a search from the newest entry on.
-use Rattle.std.specs.Prelude.{◌≡◌, ℕ, ◌-◌, ◌/◌, ◌%◌, ◌^◌, ◌<◌, ◌==◌, nat_lt, nat_le, ◌&&◌, if◌then◌else◌, List, [], ◌∷◌, ◌++◌, length, Option, Some, None, slice_index}
+use Rattle.std.specs.Prelude.{◌≡◌, ℕ, ◌-◌, ◌/◌, ◌%◌, ◌^◌, ◌<◌, ◌==◌, nat_lt, nat_le, true, ◌&&◌, if◌then◌else◌, List, [], ◌∷◌, ◌++◌, length, Option, Some, None, slice_index}
 use Rattle.std.specs.List.{AllByRecursion}
 use Rattle.pef_model.specs.declared.state.Phase.TheVariants as phase
 use Rattle.pef_model.specs.declared.state.Kind.TheVariants.{Secure}
@@ -14,7 +14,7 @@ use Rattle.pef_model.specs.Plan.{Plan}
 use Rattle.pef_model.specs.Event.{Event, newest}
 use Rattle.pef_model.specs.Registers.{number_of}
 use Rattle.pef_model.specs.Target.{caller, touches_guest}
-use Rattle.pef_model.specs.GuestPart.{page_of}
+use Rattle.pef_model.specs.GuestPart.{page_of, is_private}
 use Rattle.pef_model.specs.Guest.{Guest}
 use Rattle.pef_model.specs.History.{guest_after, last_store, reg, Extends}
 
@@ -103,11 +103,11 @@ pub record IsStep (run : Run) (cmd : Cmd) (a : Answer) (e : Event) : Type 0 wher
   pub cmd_is : e.trace.cmd ≡ cmd
   pub answer_is : e.trace.answer ≡ a
 
--- a load that is done in no normal frame gives the last store
+-- a load of a private page that is done gives the last store
 abbrev pub LoadGivesLastStore : Type 0
 LoadGivesLastStore =
     (plan : Plan) (past : List Event) (e : Event) (run : Run) (rd gpa value : ℕ) →
-    Extends plan past e → IsStep run (GLd rd gpa) (answer.Val value) e → e.saw.frame ≡ None → value ≡ last_store plan past run.lpid gpa
+    Extends plan past e → IsStep run (GLd rd gpa) (answer.Val value) e → is_private (guest_after plan run.lpid past).part (page_of plan gpa) ≡ true → value ≡ last_store plan past run.lpid gpa
 
 -- the last store after a store, and entries that give the doubleword no value, is what was in the register
 abbrev pub LastStoreIsStored : Type 0

@@ -1,5 +1,5 @@
 -- Laws of what an entry tells of the objects beside its target.
-use Rattle.std.specs.Prelude.{◌≡◌, ℕ, Bool, true, false, List, Option, Some, None}
+use Rattle.std.specs.Prelude.{◌≡◌, ◌↔◌, ℕ, Bool, true, false, List, Option, Some, None}
 use Rattle.pef_model.specs.declared.state.Run.{Run}
 use Rattle.pef_model.specs.declared.state.Ctx.TheVariants as ctx
 use Rattle.pef_model.specs.declared.entry.Answer.{Answer}
@@ -7,7 +7,7 @@ use Rattle.pef_model.specs.declared.entry.Answer.TheVariants as answer
 use Rattle.pef_model.specs.Plan.{Plan}
 use Rattle.pef_model.specs.Event.{Event, mark_of}
 use Rattle.pef_model.specs.Target.{AtGuest, target_of, told}
-use Rattle.pef_model.specs.GuestPart.{Meeting, Normal, meets}
+use Rattle.pef_model.specs.GuestPart.{Meeting, Normal, meets, is_private, page_of}
 use Rattle.pef_model.specs.Deed.{deed_guest}
 use Rattle.pef_model.specs.History.{guest_after, entry_of, Extends}
 use Rattle.pef_model.specs.ReadLaw.{tells_free}
@@ -30,6 +30,12 @@ abbrev pub AccessTellsItsFrame : Type 0
 AccessTellsItsFrame =
     (plan : Plan) (past : List Event) (e : Event) (run : Run) (gpa : ℕ) → Extends plan past e → e.saw.before ≡ ctx.Guest run → guest_address_in e.trace.cmd ≡ Some gpa →
     is_done e.trace.answer ≡ true → e.saw.frame ≡ frame_met (meets plan (part_after plan past run.lpid) gpa)
+
+-- and it tells none exactly where the page is private, which last_store is of
+abbrev pub PrivateAccessTellsNoFrame : Type 0
+PrivateAccessTellsNoFrame =
+    (plan : Plan) (past : List Event) (e : Event) (run : Run) (gpa : ℕ) → Extends plan past e → e.saw.before ≡ ctx.Guest run → guest_address_in e.trace.cmd ≡ Some gpa →
+    is_done e.trace.answer ≡ true → (e.saw.frame ≡ None) ↔ (is_private (part_after plan past run.lpid) (page_of plan gpa) ≡ true)
 
 -- whether an entry tells that a secure frame was free
 abbrev pub told_any : Event → Bool

@@ -3,7 +3,7 @@
 ghost use Rattle.pef_model.specs.CauseLaw.{BusyExactlyWhere, BeginsExactlyWhere, EntersExactlyWhere, AgainExactlyWhere, HoleExactlyWhere, ContextExactlyWhere, GoneExactlyWhere};
 ghost use Rattle.pef_model.specs.AnswerLaw.{EachAnswerIsOfItsRow};
 ghost use Rattle.pef_model.specs.OldMoveLaw.{OldMovesChangeNothing};
-ghost use Rattle.pef_model.specs.ToldLaw.{AccessTellsItsFrame, EntryAtGuestIsTold};
+ghost use Rattle.pef_model.specs.ToldLaw.{AccessTellsItsFrame, PrivateAccessTellsNoFrame, EntryAtGuestIsTold};
 ghost use Rattle.pef_model.specs.GuestLaw.{InvalidPageIsZero, WordsAreCounted, CleanIsEachGuests};
 ghost use Rattle.pef_model.specs.TagLaw.{TagShowsNumbers, TagBytesTell, VaultImagesDiffer, VaultShowsTagAlone, KeystreamHasBlocks, StreamSealsEachByte};
 ghost use Rattle.pef_model.specs.PublicLaw.{PublicStateHasObjects, AuthorityIsByKind};
@@ -65,6 +65,11 @@ pub fn old_moves_change_nothing()
 /// An access of a vCPU that is done tells the normal frame that it meets, and none where it meets none.
 pub fn access_tells_its_frame()
     ensures { AccessTellsItsFrame }
+{}
+
+/// Such an access tells no normal frame exactly where its page is private.
+pub fn private_access_tells_no_frame()
+    ensures { PrivateAccessTellsNoFrame }
 {}
 
 /// An entry at a guest follows from the guest, the command and what the entry tells of all else.

@@ -2,7 +2,8 @@
 
 ghost use Rattle.std.specs.Prelude.{◌≡◌, ◌==◌, ◌&&◌, ◌/◌, ◌%◌, ◌^◌, ◌<◌, nat_lt, if◌then◌else◌, length, IfOk, IfSome};
 ghost use Rattle.pef_model.specs.Plan.{IsWithin};
-ghost use Rattle.pef_model.specs.PageOut.{may_page_out_in, has_page, can_go_out, is_shared};
+ghost use Rattle.pef_model.specs.PageOut.{may_page_out_in, has_page, can_go_out};
+ghost use Rattle.pef_model.specs.GuestPart.{is_shared};
 ghost use Rattle.pef_model.specs.PageIn.{may_page_in_in, can_come_in};
 ghost use Rattle.pef_pages.specs.Pages.{kind_at};
 ghost use Rattle.pef_move.specs.Route.{plan_by, code_for, operands_for, code_of, IsRoute, IsRouteIn};
