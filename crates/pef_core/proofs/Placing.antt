@@ -14,9 +14,9 @@ use Rattle.pef_model.specs.Doubleword.{doubleword}
 use Rattle.pef_model.specs.GuestPart.{Page, page_of}
 use Rattle.pef_model.specs.Memory.{offset_of}
 use Rattle.pef_model.specs.Authority.{InSealedBytes, authority_by}
-use Rattle.pef_model.specs.History.{guest_after, last_store, IsLegal}
+use Rattle.pef_model.specs.History.{guest_after, last_store, IsLegal, page_after}
 use Rattle.pef_model.proofs.Paging.{moving_in_is_out}
-use Rattle.pef_model.specs.MoveLaw.{KeepsWhatIsSealed, IsMovedBy, page_after, EachMoverHasItsCall, EachPageKeepsWhatIsSealed}
+use Rattle.pef_model.specs.MoveLaw.{KeepsWhatIsSealed, IsMovedBy, EachMoverHasItsCall, EachPageKeepsWhatIsSealed}
 use Rattle.pef_frames.specs.Frame.{FrameState}
 use Rattle.pef_pages.specs.declared.cell.Cell.{Cell}
 use Rattle.pef_pages.specs.declared.cell.Cell.TheVariants as cell

@@ -15,14 +15,13 @@ use Rattle.pef_model.specs.declared.entry.Answer.{Answer}
 use Rattle.pef_model.specs.declared.entry.Answer.TheVariants.{Again, Gone, Hole}
 use Rattle.pef_model.specs.Plan.{Plan}
 use Rattle.pef_model.specs.Event.{Event}
-use Rattle.pef_model.specs.Target.{Ask, is_hypervisor}
+use Rattle.pef_model.specs.Target.{Ask, is_hypervisor, guest_address_in}
 use Rattle.pef_model.specs.Cpu.{CpuPart}
 use Rattle.pef_model.specs.GuestPart.{GuestPart, has_place, meets, page_of}
 use Rattle.pef_model.specs.Guest.{Guest}
 use Rattle.pef_model.specs.Deed.{Deed, deed_access, deed_gone}
-use Rattle.pef_model.specs.History.{cpu_after, guest_after, pool_after, found_after, Extends}
-use Rattle.pef_model.specs.CountLaw.{part_after}
-use Rattle.pef_model.specs.CauseLaw.{guest_address_in, real_address_in, is_access_in, IsAccess, MeetsMover, AgainCause, AtAccess, AgainExactlyWhere, IsOutside, IsOutOfReach, CannotBeAccessed, HoleExactlyWhere}
+use Rattle.pef_model.specs.History.{cpu_after, guest_after, pool_after, found_after, Extends, part_after}
+use Rattle.pef_model.specs.CauseLaw.{real_address_in, is_access_in, IsAccess, MeetsMover, AgainCause, AtAccess, AgainExactlyWhere, IsOutside, IsOutOfReach, CannotBeAccessed, HoleExactlyWhere}
 use Rattle.pef_model.proofs.Folds.{same_test, test_same}
 use Rattle.pef_model.specs.declared.state.Mover.{Mover}
 use Rattle.pef_model.proofs.Outcomes.{Outcome, outcome, moving}

@@ -6,8 +6,7 @@ use Rattle.pef_model.specs.declared.command.Cmd.{Cmd}
 use Rattle.pef_model.specs.Plan.{Plan, plan_of, with_entropy}
 use Rattle.pef_model.specs.Event.{Event}
 use Rattle.pef_model.specs.GuestPart.{GuestPart}
-use Rattle.pef_model.specs.History.{IsLegal}
-use Rattle.pef_model.specs.CountLaw.{part_after}
+use Rattle.pef_model.specs.History.{IsLegal, part_after}
 use Rattle.pef_model.specs.SecretLaw.{open_cmd}
 use Rattle.pef_model.specs.Clash.{clashes_in}
 use Rattle.pef_model.specs.Sound.{clashes_at, is_clash, is_clean, sound}

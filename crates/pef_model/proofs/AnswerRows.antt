@@ -1,7 +1,6 @@
 -- Which answers each command can have in each context.
-use Rattle.std.proofs.Common.{◌≡◌, ℕ, List, Bool, true, false, ◌==◌, ◌&&◌, nat_le, nat_lt, if◌then◌else◌, refl, sym, subst, Option, Some, None, arith}
+use Rattle.std.proofs.Common.{◌≡◌, ℕ, List, Bool, true, false, ◌&&◌, nat_le, nat_lt, if◌then◌else◌, refl, sym, subst, Option, Some, None, arith}
 use Rattle.std.proofs.lemmas.Grind.{common_steps}
-use Rattle.std.proofs.lemmas.Bool.Decides.{nat_tests}
 use Rattle.pef_model.specs.declared.state.Move.{Move}
 use Rattle.pef_model.specs.declared.state.Run.{Run}
 use Rattle.pef_model.specs.declared.state.Work.TheVariants.{Inward, Outward}
@@ -10,17 +9,15 @@ use Rattle.pef_model.specs.declared.state.Ctx.TheVariants as ctx
 use Rattle.pef_model.specs.declared.command.Code.{Code}
 use Rattle.pef_model.specs.declared.command.Cmd.{Cmd}
 use Rattle.pef_model.specs.declared.command.Cmd.TheVariants.{HLd, HSt, UPagein, UPageout, UReturn, Go}
-use Rattle.pef_model.specs.declared.entry.Answer.{Answer}
 use Rattle.pef_model.specs.Plan.{Plan}
 use Rattle.pef_model.specs.Event.{Event, Mark, mark_of}
-use Rattle.pef_model.specs.Target.{Ask, Alone, AtGuest, AtFrame, frame_of, has_real_place, target_in}
+use Rattle.pef_model.specs.Target.{Ask, Alone, AtGuest, AtFrame, frame_of, has_real_place, target_in, is_command_in}
 use Rattle.pef_model.specs.GuestPart.{GuestPart}
 use Rattle.pef_model.specs.Guest.{Guest}
 use Rattle.pef_model.specs.PageOut.{page_out_code}
 use Rattle.pef_model.specs.PageIn.{page_in_operands}
 use Rattle.pef_model.specs.Deed.{Deed, returning, deed_return, deed_page_in_with, deed_page_out_begin}
-use Rattle.pef_model.specs.History.{cpu_after, guest_after, pool_after, found_after, deed_after, ask_of, next_entry, Extends}
-use Rattle.pef_model.specs.CauseLaw.{is_command_in}
+use Rattle.pef_model.specs.History.{cpu_after, guest_after, pool_after, deed_after, ask_of, next_entry}
 use Rattle.pef_model.specs.AnswerLaw.{is_of_page_in, is_of_page_out, can_answer, EachAnswerIsOfItsRow}
 
 -- the codes of the two page calls

@@ -17,11 +17,11 @@ use Rattle.pef_model.specs.declared.entry.Answer.{Answer}
 use Rattle.pef_model.specs.declared.entry.Answer.TheVariants.{Done, Val, Ret, Enter}
 use Rattle.pef_model.specs.Plan.{Plan}
 use Rattle.pef_model.specs.Event.{Event, newest}
-use Rattle.pef_model.specs.Registers.{number_of, load_return}
+use Rattle.pef_model.specs.Registers.{number_of, load_return, loaded_value}
 use Rattle.pef_model.specs.Target.{touches_guest}
 use Rattle.pef_model.specs.Guest.{Guest, start_guest, entered_at, registers_after_command, registers_of_hypervisor, registers_in, next_guest}
 use Rattle.pef_model.specs.History.{guest_after, reg}
-use Rattle.pef_model.specs.SearchLaw.{decides_register, loaded_value, assigned_by_command, assigned_in, IsCommand, RegIsNewest}
+use Rattle.pef_model.specs.SearchLaw.{decides_register, assigned_by_command, assigned_in, IsCommand, RegIsNewest}
 use Rattle.pef_model.proofs.Folds.{test_same, counts, skips}
 use Rattle.pef_model.proofs.Called.{length-called, called_value}
 

@@ -19,9 +19,7 @@ use Rattle.pef_model.specs.Cpu.{CpuPart}
 use Rattle.pef_model.specs.GuestPart.{GuestPart, page_of, is_shared}
 use Rattle.pef_model.specs.PageOut.{is_starting}
 use Rattle.pef_model.specs.Deed.{Deed, may_return_in, is_waiting, deed_return}
-use Rattle.pef_model.specs.History.{cpu_after, pool_after, deed_after, Extends}
-use Rattle.pef_model.specs.CountLaw.{part_after}
-use Rattle.pef_model.specs.MoveLaw.{page_after}
+use Rattle.pef_model.specs.History.{cpu_after, pool_after, deed_after, Extends, part_after, page_after}
 use Rattle.pef_model.specs.CauseLaw.{IsReadyIn, IsReadyOut, PageInFinds, PageOutFinds, BeginCause, BeginsPageIn, BeginsPageOut, BeginsExactlyWhere, EntersExactlyWhere}
 use Rattle.pef_model.proofs.Folds.{same_test, test_same}
 use Rattle.pef_model.proofs.BusyAnswers.{in_deed, out_deed, within_test, test_within, not_below, below_not, none_free}

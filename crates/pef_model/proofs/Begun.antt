@@ -20,8 +20,8 @@ use Rattle.pef_model.specs.Target.{touches_cpu}
 use Rattle.pef_model.specs.Cpu.{CpuPart, start_cpu, next_cpu}
 use Rattle.pef_model.specs.GuestPart.{Page, GuestPart, invalid_page, secured, begun_out, ended_out, begun_in, refused_in}
 use Rattle.pef_model.specs.PageOut.{sealed_page}
-use Rattle.pef_model.specs.History.{cpu_after, guest_after, Extends, IsLegal}
-use Rattle.pef_model.specs.MoveLaw.{begins_out, begins_out_in, last_begun, LastSealedIsBegun, VersionsCountPageOuts}
+use Rattle.pef_model.specs.History.{cpu_after, guest_after, Extends, IsLegal, begins_out_in, begins_out, last_begun}
+use Rattle.pef_model.specs.MoveLaw.{LastSealedIsBegun, VersionsCountPageOuts}
 use Rattle.pef_model.proofs.Folds.{same_test, test_same, counts}
 use Rattle.pef_model.proofs.Puts.{put_in, here_or_elsewhere, put_in-here, put_in-elsewhere, IsElsewhere}
 use Rattle.pef_model.proofs.Outcomes.{Outcome, outcome}

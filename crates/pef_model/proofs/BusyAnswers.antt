@@ -20,9 +20,7 @@ use Rattle.pef_model.specs.Cpu.{CpuPart}
 use Rattle.pef_model.specs.GuestPart.{Page, GuestPart, page_of}
 use Rattle.pef_model.specs.PageOut.{is_starting}
 use Rattle.pef_model.specs.Deed.{Deed, deed_return}
-use Rattle.pef_model.specs.History.{cpu_after, pool_after, deed_after, Extends}
-use Rattle.pef_model.specs.CountLaw.{part_after}
-use Rattle.pef_model.specs.MoveLaw.{page_after}
+use Rattle.pef_model.specs.History.{cpu_after, pool_after, deed_after, Extends, part_after, page_after}
 use Rattle.pef_model.specs.CauseLaw.{IsBusyIn, IsBusyOut, PageInFinds, PageOutFinds, BusyCause, BusyPageIn, BusyPageOut, BusyExactlyWhere}
 use Rattle.pef_model.proofs.Folds.{same_test, test_same}
 use Rattle.pef_model.specs.declared.command.TheConstants.{PAGE_IN_FLAGS}

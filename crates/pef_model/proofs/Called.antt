@@ -3,8 +3,7 @@ use Rattle.std.proofs.Common.{◌≡◌, ℕ, zero, suc, ◌<◌, List, [], ◌�
 use Rattle.std.specs.Prelude.{unwrap_or, slice_set}
 use Rattle.std.proofs.Math.ListN.{length-set}
 use Rattle.std.proofs.lemmas.Bool.Decides.{nat_tests}
-use Rattle.pef_model.specs.Registers.{load_call}
-use Rattle.pef_model.specs.SearchLaw.{value_of_page_call}
+use Rattle.pef_model.specs.Registers.{load_call, value_of_page_call}
 
 -- the registers with the call's number and its five operands
 abbrev pub load_page_call : List ℕ → ℕ → ℕ → ℕ → ℕ → ℕ → ℕ → List ℕ

@@ -17,9 +17,7 @@ use Rattle.pef_model.specs.GuestPart.{GuestPart, put, is_invalid, next_part, wit
 use Rattle.pef_model.specs.Guest.{next_guest}
 use Rattle.pef_model.specs.PageOut.{sealed_page}
 use Rattle.pef_model.specs.Deed.{Deed, may_return_in, is_waiting}
-use Rattle.pef_model.specs.History.{guest_after, pool_after, frame_after, deed_after, ask_of, entry_of}
-use Rattle.pef_model.specs.CountLaw.{part_after}
-use Rattle.pef_model.specs.MoveLaw.{begins_out}
+use Rattle.pef_model.specs.History.{guest_after, pool_after, frame_after, deed_after, ask_of, entry_of, part_after, begins_out}
 use Rattle.pef_model.proofs.Folds.{test_same}
 use Rattle.pef_model.proofs.Works.{move_of}
 use Rattle.pef_model.proofs.Puts.{not_swapped, put-same}

@@ -12,12 +12,12 @@ use Rattle.pef_model.specs.declared.entry.Answer.TheVariants.{Gone, Context}
 use Rattle.pef_model.specs.Plan.{Plan}
 use Rattle.pef_model.specs.Event.{Event}
 use Rattle.pef_model.specs.Memory.{start_pool, next_pool, start_frame, next_frame}
-use Rattle.pef_model.specs.Target.{Ask, Alone, is_hypervisor, vcpu_in, is_guest, is_number, target_in, target_of, touches_cpu, touches_guest, touches_pool, touches_frame}
+use Rattle.pef_model.specs.Target.{Ask, Alone, is_hypervisor, vcpu_in, is_guest, is_number, target_in, target_of, touches_cpu, touches_guest, touches_pool, touches_frame, is_command_in}
 use Rattle.pef_model.specs.Cpu.{CpuPart, start_cpu, next_cpu, cpu_by}
 use Rattle.pef_model.specs.Guest.{Guest, start_guest, next_guest, stored_in}
 use Rattle.pef_model.specs.Deed.{Deed, deed_alone, deed_running, deed_gone}
-use Rattle.pef_model.specs.History.{cpu_after, guest_after, pool_after, found_after, deed_after, Extends}
-use Rattle.pef_model.specs.CauseLaw.{is_command_in, ChangesNoMemory, ContextExactlyWhere, IsOfAnEndedGuest, GoneExactlyWhere}
+use Rattle.pef_model.specs.History.{cpu_after, guest_after, pool_after, found_after, deed_after, Extends, ChangesNoMemory}
+use Rattle.pef_model.specs.CauseLaw.{ContextExactlyWhere, IsOfAnEndedGuest, GoneExactlyWhere}
 use Rattle.pef_model.proofs.Folds.{same_test, test_same, skips, counts}
 use Rattle.pef_model.specs.declared.state.Regs.{Regs}
 use Rattle.pef_model.specs.GuestPart.{put, part_of_guest}

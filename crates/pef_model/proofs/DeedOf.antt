@@ -10,14 +10,13 @@ use Rattle.pef_model.specs.declared.entry.Answer.{Answer}
 use Rattle.pef_model.specs.declared.entry.Answer.TheVariants.{Done, Val}
 use Rattle.pef_model.specs.Plan.{Plan}
 use Rattle.pef_model.specs.Event.{Event}
-use Rattle.pef_model.specs.Target.{Ask, uses_hand, target_in}
+use Rattle.pef_model.specs.Target.{Ask, uses_hand, target_in, guest_address_in}
 use Rattle.pef_model.specs.Cpu.{CpuPart}
 use Rattle.pef_model.specs.Memory.{offset_of}
 use Rattle.pef_model.specs.GuestPart.{meets}
 use Rattle.pef_model.specs.Guest.{Guest}
 use Rattle.pef_model.specs.Deed.{Deed, deed_access, deed_gone}
 use Rattle.pef_model.specs.History.{cpu_after, guest_after, pool_after, found_after, deed_after, Extends}
-use Rattle.pef_model.specs.CauseLaw.{guest_address_in}
 
 -- what an entry tells of its deed
 abbrev pub deed_of : Event → Deed

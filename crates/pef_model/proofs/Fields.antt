@@ -6,8 +6,7 @@ use Rattle.pef_model.specs.Event.{Event}
 use Rattle.pef_model.specs.Target.{touches_cpu}
 use Rattle.pef_model.specs.Cpu.{CpuPart, start_cpu, next_cpu}
 use Rattle.pef_model.specs.GuestPart.{GuestPart, put}
-use Rattle.pef_model.specs.History.{cpu_after}
-use Rattle.pef_model.specs.CountLaw.{part_after}
+use Rattle.pef_model.specs.History.{cpu_after, part_after}
 use Rattle.pef_model.proofs.Folds.{test_same, counts, skips}
 use Rattle.pef_model.proofs.Puts.{not_swapped, put-ap, put-same}
 use Rattle.pef_model.proofs.Changes.{LeavesCpu, KeepsParts, PutsPart}

@@ -18,8 +18,7 @@ use Rattle.pef_model.specs.GuestPart.{Page, GuestPart, secured, refused_in, part
 use Rattle.pef_model.specs.Guest.{Guest, start_guest, next_guest}
 use Rattle.pef_model.specs.PageIn.{is_last_sealed}
 use Rattle.pef_model.specs.Deed.{Deed, coming_back, deed_page_in_test}
-use Rattle.pef_model.specs.History.{cpu_after, guest_after, deed_after, ask_of, Extends}
-use Rattle.pef_model.specs.MoveLaw.{last_begun}
+use Rattle.pef_model.specs.History.{cpu_after, guest_after, deed_after, ask_of, Extends, last_begun}
 use Rattle.pef_model.specs.FreshLaw.{EndsPageIn, Freshness}
 use Rattle.pef_model.proofs.Folds.{same_test, counts}
 use Rattle.pef_model.proofs.Puts.{put-here}

@@ -7,7 +7,8 @@ use Rattle.std.proofs.lemmas.Bool.{ne_eqb}
 use Rattle.pef_model.specs.Plan.{Plan}
 use Rattle.pef_model.specs.Event.{Event}
 use Rattle.pef_model.specs.GuestPart.{Page, GuestPart, put, secured, begun_out, begun_in, refused_in, ended_out, is_secure, with_secure_page, with_running_vcpu, with_parked_vcpu, with_page_leaving, with_page_out, with_page_coming, with_page_refused}
-use Rattle.pef_model.specs.CountLaw.{part_after, OrderGrows}
+use Rattle.pef_model.specs.CountLaw.{OrderGrows}
+use Rattle.pef_model.specs.History.{part_after}
 use Rattle.pef_model.proofs.Folds.{same_test}
 use Rattle.pef_model.proofs.Times.{times, times_passed, times_stopped, same_filter, filter_all}
 use Rattle.pef_model.proofs.Puts.{put-here, put-other}

@@ -6,8 +6,7 @@ use Rattle.pef_model.specs.Event.{Event}
 use Rattle.pef_model.specs.Target.{Target, Alone, AtGuest, AtFrame, is_guest, target_of, touches_guest}
 use Rattle.pef_model.specs.GuestPart.{GuestPart}
 use Rattle.pef_model.specs.Guest.{Guest, start_guest, next_guest}
-use Rattle.pef_model.specs.History.{guest_after}
-use Rattle.pef_model.specs.CountLaw.{part_after}
+use Rattle.pef_model.specs.History.{guest_after, part_after}
 use Rattle.pef_model.proofs.Folds.{same_test, test_same, skips, counts, value_after-filter}
 use Rattle.std.specs.List.{filter}
 use Rattle.std.proofs.lemmas.List.{length-map}

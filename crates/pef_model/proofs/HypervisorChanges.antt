@@ -25,8 +25,7 @@ use Rattle.pef_model.specs.GuestPart.{Page, GuestPart, page_of, with_running_vcp
 use Rattle.pef_model.specs.Guest.{Guest}
 use Rattle.pef_model.specs.PageOut.{may_page_out_in, has_frame, has_page, can_go_out, is_starting, page_out_code, bytes_out}
 use Rattle.pef_model.specs.Deed.{Deed, answering, giving, coming_back, returning, may_return_in, is_waiting, deed_page_out_begin, deed_return}
-use Rattle.pef_model.specs.History.{guest_after, deed_after}
-use Rattle.pef_model.specs.CountLaw.{part_after}
+use Rattle.pef_model.specs.History.{guest_after, deed_after, part_after}
 use Rattle.pef_model.proofs.Folds.{test_same}
 use Rattle.pef_model.proofs.Aims.{address_is_no_guest}
 use Rattle.pef_model.proofs.Works.{move_of}

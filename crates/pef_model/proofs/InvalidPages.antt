@@ -16,8 +16,7 @@ use Rattle.pef_model.specs.Plan.{Plan}
 use Rattle.pef_model.specs.Event.{Event, newest}
 use Rattle.pef_model.specs.GuestPart.{page_of}
 use Rattle.pef_model.specs.Deed.{Deed}
-use Rattle.pef_model.specs.History.{guest_after, Extends, last_store, reg}
-use Rattle.pef_model.specs.MoveLaw.{page_after}
+use Rattle.pef_model.specs.History.{guest_after, Extends, last_store, reg, page_after}
 use Rattle.pef_model.proofs.Folds.{same_test, test_same}
 use Rattle.pef_model.specs.SearchLaw.{step_decides, decides_doubleword}
 use Rattle.pef_model.specs.TransitionLaw.{kind_by, reaches_by, comes_in_by, goes_out_by}

@@ -9,8 +9,7 @@ use Rattle.pef_model.specs.declared.state.Work.TheVariants.{Inward}
 use Rattle.pef_model.specs.Plan.{Plan}
 use Rattle.pef_model.specs.Event.{Event}
 use Rattle.pef_model.specs.GuestPart.{Page, GuestPart, put, secured, begun_out, begun_in, refused_in, ended_out, is_invalid, is_secure, with_secure_page, with_page_out}
-use Rattle.pef_model.specs.History.{cpu_after, IsLegal}
-use Rattle.pef_model.specs.CountLaw.{part_after}
+use Rattle.pef_model.specs.History.{cpu_after, IsLegal, part_after}
 use Rattle.pef_model.proofs.Folds.{same_test}
 use Rattle.pef_model.proofs.Times.{times, times-append, times_passed, times_stopped}
 use Rattle.pef_model.proofs.Puts.{put-here, put-other}

@@ -19,8 +19,7 @@ use Rattle.pef_model.specs.GuestPart.{Page, GuestPart, page_of, with_secure_page
 use Rattle.pef_model.specs.PageOut.{has_frame, has_page}
 use Rattle.pef_model.specs.PageIn.{may_page_in_in, can_come_in, page_in_operands, is_last_sealed}
 use Rattle.pef_model.specs.Deed.{Deed, coming_back, returning, deed_page_in_with, deed_page_in_test}
-use Rattle.pef_model.specs.History.{pool_after, deed_after}
-use Rattle.pef_model.specs.CountLaw.{part_after}
+use Rattle.pef_model.specs.History.{pool_after, deed_after, part_after}
 use Rattle.pef_model.proofs.Folds.{test_same}
 use Rattle.pef_model.proofs.Changes.{Change, Comes, Reads, Accepts, Refuses, asked, entry, at_one, at_guest}
 use Rattle.pef_model.proofs.HypervisorChanges.{passes, no_mover, work_aims, copy_keeps, gone}

@@ -13,9 +13,9 @@ use Rattle.pef_model.specs.declared.state.Kind.TheVariants.{Out}
 use Rattle.pef_model.specs.Plan.{Plan}
 use Rattle.pef_model.specs.Event.{Event}
 use Rattle.pef_model.specs.GuestPart.{Page, GuestPart, put, secured, begun_out, ended_out, begun_in, refused_in}
-use Rattle.pef_model.specs.History.{cpu_after, IsLegal}
-use Rattle.pef_model.specs.CountLaw.{part_after}
-use Rattle.pef_model.specs.MoveLaw.{work_by, KeepsWhatIsSealed, EachCpuMovesItsPage, EachCpuMovesItsPageIn, EachMoverHasItsCall, EachPageKeepsWhatIsSealed}
+use Rattle.pef_model.specs.History.{cpu_after, IsLegal, part_after}
+use Rattle.pef_model.specs.MoveLaw.{KeepsWhatIsSealed, EachCpuMovesItsPage, EachCpuMovesItsPageIn, EachMoverHasItsCall, EachPageKeepsWhatIsSealed}
+use Rattle.pef_model.specs.Target.{work_by}
 use Rattle.pef_model.proofs.Fields.{ctxs, hands, ctxs_after, hands_after, same_ctxs, same_hands, field_after, same_field, kept_field}
 use Rattle.pef_model.proofs.Changes.{Change, Quiet, Begins, Copies, Ends, Drops, Comes, Reads, Accepts, Refuses, Takes, Parked, Gone, Backs, KeepsParts, PutsPart}
 use Rattle.pef_model.proofs.ChangeOf.{change}

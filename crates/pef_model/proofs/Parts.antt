@@ -20,8 +20,7 @@ use Rattle.pef_model.specs.declared.entry.Answer.TheVariants.{Done, Val, Ret, St
 use Rattle.pef_model.specs.GuestPart.{GuestPart, part_of_hypervisor, part_of_work, part_of_access, part_of_guest, part_in, page_of, start_part, start_phase, with_secure_page, with_running_vcpu, with_parked_vcpu, with_page_leaving, with_page_out, with_page_coming, with_page_refused}
 use Rattle.pef_model.specs.Guest.{Guest, next_guest}
 use Rattle.pef_model.specs.Deed.{may_return_in}
-use Rattle.pef_model.specs.History.{guest_after}
-use Rattle.pef_model.specs.CountLaw.{part_after}
+use Rattle.pef_model.specs.History.{guest_after, part_after}
 
 -- a fact holds of a public part, and of all that a step can make of it
 pub record IsKept (P : GuestPart → Type 0) (g : GuestPart) : Type 0 where

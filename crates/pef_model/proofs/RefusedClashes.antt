@@ -13,8 +13,7 @@ use Rattle.pef_model.specs.declared.state.Move.{Move}
 use Rattle.pef_model.specs.Plan.{Plan}
 use Rattle.pef_model.specs.Event.{Event}
 use Rattle.pef_model.specs.GuestPart.{GuestPart}
-use Rattle.pef_model.specs.History.{guest_after, IsLegal}
-use Rattle.pef_model.specs.MoveLaw.{last_begun}
+use Rattle.pef_model.specs.History.{guest_after, IsLegal, last_begun}
 use Rattle.pef_model.specs.Clash.{collide, collides_with, clashes_in}
 use Rattle.pef_model.specs.Sound.{clashes_at, is_clash, is_clean}
 use Rattle.pef_model.specs.Target.{Target, Alone, AtGuest, AtFrame, target_in, target_of}

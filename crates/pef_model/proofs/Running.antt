@@ -14,8 +14,8 @@ use Rattle.pef_model.specs.Target.{vcpu_in}
 use Rattle.pef_model.specs.Cpu.{CpuPart}
 use Rattle.pef_model.specs.GuestPart.{GuestPart, VcpuPart, put}
 use Rattle.pef_model.specs.Deed.{may_return_in, is_waiting}
-use Rattle.pef_model.specs.History.{cpu_after, IsLegal}
-use Rattle.pef_model.specs.CountLaw.{part_after, EachCpuRunsItsVcpu, EachRunIsOfAGeneration, NoVcpuRunsTwice}
+use Rattle.pef_model.specs.History.{cpu_after, IsLegal, part_after}
+use Rattle.pef_model.specs.CountLaw.{EachCpuRunsItsVcpu, EachRunIsOfAGeneration, NoVcpuRunsTwice}
 use Rattle.pef_model.proofs.Puts.{put-here, put-other, put_in, IsElsewhere, put_in-here, put_in-elsewhere}
 use Rattle.pef_model.proofs.Parts.{secure_where_allowed}
 use Rattle.pef_model.proofs.Moves.{runs_alone}

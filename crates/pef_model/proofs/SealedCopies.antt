@@ -14,8 +14,8 @@ use Rattle.pef_model.specs.Event.{Event}
 use Rattle.pef_model.specs.GuestPart.{Page, GuestPart, page_of, invalid_page}
 use Rattle.pef_model.specs.PageOut.{tag_of, private_page, sealed_page}
 use Rattle.pef_model.specs.Authority.{InSealedBytes, authority_by}
-use Rattle.pef_model.specs.History.{cpu_after, guest_after, last_store, IsLegal}
-use Rattle.pef_model.specs.MoveLaw.{begins_out, begins_out_in, OutPageIsSealed}
+use Rattle.pef_model.specs.History.{cpu_after, guest_after, last_store, IsLegal, begins_out_in, begins_out}
+use Rattle.pef_model.specs.MoveLaw.{OutPageIsSealed}
 use Rattle.pef_model.proofs.Changes.{Change, Quiet, Begins, Copies, Ends, Drops, Comes, Reads, Accepts, Refuses, Takes, Parked, Gone, Backs}
 use Rattle.pef_model.proofs.ChangeOf.{change}
 use Rattle.pef_model.proofs.Fields.{same_field, kept_field}

@@ -5,13 +5,13 @@ use Rattle.std.proofs.Math.Nat.{sub_self}
 use Rattle.pef_model.specs.declared.state.Ctx.{Ctx}
 use Rattle.pef_model.specs.declared.state.Ctx.TheVariants as ctx
 use Rattle.pef_model.specs.Plan.{Plan, plan_of}
-use Rattle.pef_model.specs.Event.{Event}
+use Rattle.pef_model.specs.Event.{Event, first}
 use Rattle.pef_model.specs.History.{PublicState, public_state}
 use Rattle.pef_model.specs.Report.{answer_text, entry_line, frames_below, free_text}
 use Rattle.pef_model.specs.View.{SeenStep, Sight, if_hypervisor, is_seen, sight, view}
 use Rattle.pef_model.specs.Memory.{either_of}
 use Rattle.pef_model.specs.Target.{is_hypervisor}
-use Rattle.pef_model.specs.Alike.{ShowTheSame, first}
+use Rattle.pef_model.specs.Alike.{ShowTheSame}
 use Rattle.pef_model.specs.SeenReport.{AlikeReportTheSame}
 use Rattle.pef_model.proofs.Views.{alike_show_the_same, length_alike, one_plan}
 use Rattle.std.specs.Prelude.{codes, decimal}

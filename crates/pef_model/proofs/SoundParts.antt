@@ -2,9 +2,8 @@
 use Rattle.std.proofs.Common.{◌≡◌, ℕ, suc, ◌-◌, ◌≤◌, nat_lt, List, [], ◌∷◌, drop, length, Bool, true, false, if◌then◌else◌, refl, ap, sym, ◌∙◌, arith}
 use Rattle.std.proofs.lemmas.Bool.Decides.{nat_tests}
 use Rattle.pef_model.specs.Plan.{Plan}
-use Rattle.pef_model.specs.Event.{Event}
+use Rattle.pef_model.specs.Event.{Event, first}
 use Rattle.pef_model.specs.History.{IsLegal}
-use Rattle.pef_model.specs.Alike.{first}
 use Rattle.pef_model.specs.Sound.{is_clean, sound}
 use Rattle.pef_model.specs.FreshLaw.{EachSoundPart}
 

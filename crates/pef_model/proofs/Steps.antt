@@ -18,11 +18,11 @@ use Rattle.pef_model.specs.declared.entry.Answer.{Answer}
 use Rattle.pef_model.specs.declared.entry.Answer.TheVariants.{Done, Val, Ret, Step, Enter, Exit, Again, Gone, Hole, Context}
 use Rattle.pef_model.specs.Plan.{Plan}
 use Rattle.pef_model.specs.Event.{Event}
-use Rattle.pef_model.specs.Registers.{number_of, interrupt_registers, load_return}
+use Rattle.pef_model.specs.Registers.{number_of, interrupt_registers, load_return, loaded_value}
 use Rattle.pef_model.specs.Cpu.{CpuPart, start_cpu, next_cpu, cpu_in, cpu_by, cpu_of_guest, own_after, own_after_call, own_after_load, last_after}
 use Rattle.pef_model.specs.Target.{touches_cpu, caller}
 use Rattle.pef_model.specs.History.{cpu_after, guest_after}
-use Rattle.pef_model.specs.SearchLaw.{loaded_value, IsCommand}
+use Rattle.pef_model.specs.SearchLaw.{IsCommand}
 use Rattle.pef_model.specs.StepLaw.{given_by_return, given_by_page_call, given_by_load, own_given_in, selected_lpid, selected_vid, let_out, EachEntryLeavesCpu, is_kept, given_by_work}
 use Rattle.pef_model.proofs.Folds.{same_test, test_same, counts}
 use Rattle.pef_model.proofs.Assigned.{returned_value, set_value}

@@ -5,8 +5,8 @@ use Rattle.std.proofs.lemmas.List.Sums.{sum_by-append, sum_by-cons}
 use Rattle.pef_model.specs.declared.state.Tag.{Tag}
 use Rattle.pef_model.specs.Plan.{Plan}
 use Rattle.pef_model.specs.Event.{Event}
-use Rattle.pef_model.specs.History.{IsLegal}
-use Rattle.pef_model.specs.MoveLaw.{begins_out, page_after, sealing_tag, NoTagTwice}
+use Rattle.pef_model.specs.History.{IsLegal, page_after, begins_out}
+use Rattle.pef_model.specs.MoveLaw.{sealing_tag, NoTagTwice}
 use Rattle.pef_model.proofs.Begun.{legal_before, version_counts}
 use Rattle.pef_model.proofs.TagBytes.{tag_bytes_tell}
 

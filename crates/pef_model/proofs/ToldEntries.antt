@@ -18,9 +18,8 @@ use Rattle.pef_model.specs.Target.{Ask, Target, AtGuest, frame_of, told, target_
 use Rattle.pef_model.specs.GuestPart.{GuestPart, Meeting, NoPlace, Moves, Private, Normal, Unbacked, meets, meets_in, meets_kind, has_place, is_private_in, is_shared, page_of}
 use Rattle.pef_model.specs.Guest.{Guest}
 use Rattle.pef_model.specs.Deed.{Deed, deed_access, deed_gone, deed_guest, deed_guest_in}
-use Rattle.pef_model.specs.History.{cpu_after, guest_after, pool_after, found_after, deed_after, ask_of, entry_of, Extends}
-use Rattle.pef_model.specs.ReadLaw.{tells_free}
-use Rattle.pef_model.specs.CountLaw.{part_after}
+use Rattle.pef_model.specs.History.{cpu_after, guest_after, pool_after, found_after, deed_after, ask_of, entry_of, Extends, part_after}
+use Rattle.pef_model.specs.Memory.{tells_free}
 use Rattle.std.proofs.Common.{rules}
 use Rattle.pef_model.specs.ToldLaw.{is_done, frame_met, AccessTellsItsFrame, PrivateAccessTellsNoFrame, told_any, told_found, EntryAtGuestIsTold}
 use Rattle.pef_model.proofs.DeedOf.{deed_of, ask_in, success_of, through_of, shown_of, reach, access_is}

@@ -12,7 +12,7 @@ use Rattle.pef_model.specs.declared.entry.Answer.{Answer}
 use Rattle.pef_model.specs.declared.entry.Answer.TheVariants.{Done, Val}
 use Rattle.pef_model.specs.Plan.{Plan, plan_of, with_entropy}
 use Rattle.pef_model.specs.Seal.{vault_image, stream_image, image as image_by}
-use Rattle.pef_model.specs.Event.{Event, mark_of}
+use Rattle.pef_model.specs.Event.{Event, mark_of, first}
 use Rattle.pef_model.specs.Target.{Ask, target_of_running, touches_cpu, touches_guest, touches_pool, touches_frame}
 use Rattle.pef_model.specs.Cpu.{CpuPart, start_cpu, next_cpu}
 use Rattle.pef_model.specs.GuestPart.{GuestPart, Meeting, Unbacked, meets, start_part, next_part}
@@ -24,7 +24,7 @@ use Rattle.pef_model.specs.Report.{command_name}
 use Rattle.pef_model.specs.SecretLaw.{open_cmd, open_answer, open_answer_of_guest, SecretsStayIn}
 use Rattle.pef_model.proofs.FrameOpen.{writes_open}
 use Rattle.pef_model.specs.View.{SeenStep, Sight, if_hypervisor, sight, view}
-use Rattle.pef_model.specs.Alike.{AgreeButWords, AreAlikeOpen, AllAlikeOpen, SealedBytesAgree, begins_sealing, first, AlikeShowTheSame, OpenIsAlike, UnsealedIsAlike}
+use Rattle.pef_model.specs.Alike.{AgreeButWords, AreAlikeOpen, AllAlikeOpen, SealedBytesAgree, begins_sealing, AlikeShowTheSame, OpenIsAlike, UnsealedIsAlike}
 use Rattle.pef_model.proofs.Opened.{name_open}
 use Rattle.pef_model.proofs.Secrets.{no_secret_in_one_entry, agree_more, part_after}
 use Rattle.pef_model.proofs.Deeds.{IsShut}

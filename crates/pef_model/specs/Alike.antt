@@ -1,11 +1,11 @@
 -- Two runs that agree but on secrets.
-use Rattle.std.specs.Prelude.{◌≡◌, ◌≢◌, ℕ, ◌-◌, ◌==◌, Bool, true, false, List, [], ◌∷◌, length, drop, IsTrue}
+use Rattle.std.specs.Prelude.{◌≡◌, ◌≢◌, ℕ, ◌==◌, Bool, true, false, List, [], ◌∷◌, length, IsTrue}
 use Rattle.std.specs.List.{count_by, AllByRecursion}
 use Rattle.pef_model.specs.declared.config.Config.{Config}
 use Rattle.pef_model.specs.declared.config.EntropyWord.{EntropyWord}
 use Rattle.pef_model.specs.declared.state.Phase.TheVariants.{Aborting}
 use Rattle.pef_model.specs.Plan.{Plan, plan_of}
-use Rattle.pef_model.specs.Event.{Event}
+use Rattle.pef_model.specs.Event.{Event, first}
 use Rattle.pef_model.specs.History.{guest_after, public_state, IsLegal}
 use Rattle.pef_model.specs.SecretLaw.{open_cmd}
 use Rattle.pef_model.specs.Target.{is_sealing, touches_guest}
@@ -58,10 +58,6 @@ SealedBytesAgree plan past history = Unit {0}
 pub record IsAlike (one : Config) (past : List Event) (other : Config) (history : List Event) : Type 0 where
   pub open_ : IsAlikeOpen one past other history
   pub sealed : SealedBytesAgree (plan_of one) past history
-
--- the first so many entries of a history
-abbrev pub first : ℕ → List Event → List Event
-first k past = drop (length past - k) past
 
 -- both runs show the hypervisor the same so far
 pub record ShowTheSame (plan other_plan : Plan) (past history : List Event) : Type 0 where

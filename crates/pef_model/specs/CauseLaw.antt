@@ -10,20 +10,18 @@ use Rattle.pef_model.specs.declared.state.Ctx.TheVariants as ctx
 use Rattle.pef_model.specs.declared.command.TheConstants.{PAGE_IN_FLAGS}
 use Rattle.pef_model.specs.declared.command.Code.TheVariants.{UBusy}
 use Rattle.pef_model.specs.declared.command.Cmd.{Cmd}
-use Rattle.pef_model.specs.declared.command.Cmd.TheVariants.{HLd, HSt, UPagein, UPageout, UReturn, GLi, GLd, GSt, GIrq, Go}
+use Rattle.pef_model.specs.declared.command.Cmd.TheVariants.{HLd, HSt, UPagein, UPageout, UReturn}
 use Rattle.pef_model.specs.declared.entry.Answer.TheVariants as answer
 use Rattle.pef_model.specs.Plan.{Plan, IsWithin}
 use Rattle.pef_model.specs.Event.{Event}
 use Rattle.pef_model.specs.Registers.{zero_registers}
-use Rattle.pef_model.specs.Target.{frame_of, vcpu_in}
+use Rattle.pef_model.specs.Target.{frame_of, vcpu_in, guest_address_in, is_command_in}
 use Rattle.pef_model.specs.Cpu.{CpuPart}
 use Rattle.pef_model.specs.GuestPart.{Page, GuestPart, page_of, has_place, is_shared}
 use Rattle.pef_model.specs.PageOut.{may_page_out_in, can_go_out, has_frame, has_page}
 use Rattle.pef_model.specs.PageIn.{may_page_in_in, may_come_in}
 use Rattle.pef_model.specs.Deed.{may_return_in, is_waiting}
-use Rattle.pef_model.specs.History.{cpu_after, guest_after, pool_after, frame_after, Extends}
-use Rattle.pef_model.specs.CountLaw.{part_after}
-use Rattle.pef_model.specs.MoveLaw.{page_after}
+use Rattle.pef_model.specs.History.{cpu_after, pool_after, Extends, part_after, page_after, ChangesNoMemory}
 
 -- a page can't come in at present: it has a mover, or it isn't Shared and no secure frame is free
 abbrev pub IsBusyIn : Page → ℕ → Type 0
@@ -110,12 +108,6 @@ EntersExactlyWhere =
     (plan : Plan) (past : List Event) (e : Event) (r0 r2 : ℕ) (outs : List ℕ) → Extends plan past e → e.saw.before ≡ ctx.Hv → e.trace.cmd ≡ UReturn r0 r2 outs →
     (e.trace.answer ≡ answer.Enter) ↔ ((may_return_in (part_after plan past e.saw.lpid).phase ≡ true) × (is_waiting ((part_after plan past e.saw.lpid).vcpus e.saw.vid).state ≡ true))
 
--- the guest address at which a command loads or stores
-abbrev pub guest_address_in : Cmd → Option ℕ
-guest_address_in (GLd rd gpa) = Some gpa
-guest_address_in (GSt rs gpa) = Some gpa
-guest_address_in cmd = None
-
 -- an entry is a load or store of a vCPU at a guest address, under its guest's generation
 pub record IsAccess (plan : Plan) (past : List Event) (e : Event) (run : Run) (gpa : ℕ) : Type 0 where
   pub before : e.saw.before ≡ ctx.Guest run
@@ -177,29 +169,6 @@ pub record HoleComes (plan : Plan) (past : List Event) (e : Event) : Type 0 wher
 
 abbrev pub HoleExactlyWhere : Type 0
 HoleExactlyWhere = (plan : Plan) (past : List Event) (e : Event) → Extends plan past e → HoleComes plan past e
-
--- whether a command is one of a context
-abbrev pub is_command_in : Ctx → Cmd → Bool
-is_command_in ctx.Hv (HLd ra) = true
-is_command_in ctx.Hv (HSt ra value) = true
-is_command_in ctx.Hv (UPagein lpid src gpa flags order) = true
-is_command_in ctx.Hv (UPageout lpid dest gpa flags order) = true
-is_command_in ctx.Hv (UReturn r0 r2 outs) = true
-is_command_in (ctx.Uv work) Go = true
-is_command_in (ctx.Guest run) (UPagein lpid src gpa flags order) = true
-is_command_in (ctx.Guest run) (UPageout lpid dest gpa flags order) = true
-is_command_in (ctx.Guest run) (UReturn r0 r2 outs) = true
-is_command_in (ctx.Guest run) (GLi rd value) = true
-is_command_in (ctx.Guest run) (GLd rd gpa) = true
-is_command_in (ctx.Guest run) (GSt rs gpa) = true
-is_command_in (ctx.Guest run) GIrq = true
-is_command_in before cmd = false
-
--- an entry changes no guest, no normal frame, and not the pool
-pub record ChangesNoMemory (plan : Plan) (past : List Event) (e : Event) : Type 0 where
-  pub guests : (lpid : ℕ) → guest_after plan lpid (e ∷ past) ≡ guest_after plan lpid past
-  pub pool : pool_after plan (e ∷ past) ≡ pool_after plan past
-  pub frames : (n : ℕ) → frame_after plan n (e ∷ past) ≡ frame_after plan n past
 
 -- where Context comes: exactly at a command that is none of its CPU's context, and nothing changes there
 pub record ContextComes (plan : Plan) (past : List Event) (e : Event) : Type 0 where

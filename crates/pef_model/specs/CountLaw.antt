@@ -8,12 +8,8 @@ use Rattle.pef_model.specs.declared.state.Ctx.TheVariants as ctx
 use Rattle.pef_model.specs.Plan.{Plan}
 use Rattle.pef_model.specs.Event.{Event}
 use Rattle.pef_model.specs.Target.{vcpu_in}
-use Rattle.pef_model.specs.GuestPart.{GuestPart, is_secure, frames_in, sum_below}
-use Rattle.pef_model.specs.History.{cpu_after, guest_after, pool_after, IsLegal}
-
--- a guest's public part after a history
-abbrev pub part_after : Plan → List Event → ℕ → GuestPart
-part_after plan past lpid = (guest_after plan lpid past).part
+use Rattle.pef_model.specs.GuestPart.{is_secure, frames_in, sum_below}
+use Rattle.pef_model.specs.History.{cpu_after, pool_after, IsLegal, part_after}
 
 -- a CPU runs the vCPU whose step is next on it: the one that its context names, or the one whose call is in progress
 pub record RunsItsVcpu (plan : Plan) (past : List Event) (n : ℕ) (run : Run) : Type 0 where

@@ -1,5 +1,5 @@
 -- Entries, and the value that a history gives an object. A history stands with its newest entry first.
-use Rattle.std.specs.Prelude.{ℕ, Bool, if◌then◌else◌, List, [], ◌∷◌, Option, unwrap_or}
+use Rattle.std.specs.Prelude.{ℕ, ◌-◌, Bool, if◌then◌else◌, List, [], ◌∷◌, length, drop, Option, unwrap_or}
 use Rattle.pef_model.specs.declared.entry.Trace.{Trace}
 use Rattle.pef_model.specs.declared.entry.Saw.{Saw}
 
@@ -29,3 +29,7 @@ newest decides start (e ∷ past) = unwrap_or (decides past e) (newest decides s
 abbrev pub value_after : {S : Type 0} → (Event → Bool) → (S → Event → S) → S → List Event → S
 value_after touches next start [] = start
 value_after touches next start (e ∷ past) = if touches e then next (value_after touches next start past) e else value_after touches next start past
+
+-- the first so many entries of a history
+abbrev pub first : ℕ → List Event → List Event
+first k past = drop (length past - k) past

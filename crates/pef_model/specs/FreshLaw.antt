@@ -10,13 +10,11 @@ use Rattle.pef_model.specs.declared.command.Code.TheVariants.{USuccess, UP2}
 use Rattle.pef_model.specs.declared.command.Cmd.TheVariants.{Go}
 use Rattle.pef_model.specs.declared.entry.Answer.TheVariants as answer
 use Rattle.pef_model.specs.Plan.{Plan}
-use Rattle.pef_model.specs.Event.{Event}
+use Rattle.pef_model.specs.Event.{Event, first}
 use Rattle.pef_model.specs.Target.{vcpu_in, touches_guest}
 use Rattle.pef_model.specs.declared.state.Kind.TheVariants.{Invalid, Out}
 use Rattle.pef_model.specs.GuestPart.{page_of, secured, refused_in}
-use Rattle.pef_model.specs.History.{guest_after, last_store, IsLegal}
-use Rattle.pef_model.specs.Alike.{first}
-use Rattle.pef_model.specs.MoveLaw.{page_after, last_begun}
+use Rattle.pef_model.specs.History.{guest_after, last_store, IsLegal, page_after, last_begun}
 use Rattle.pef_model.specs.Sound.{is_clash, is_clean, sound}
 
 -- an entry is the end of a page-in of a page that is Out, under the guest's generation

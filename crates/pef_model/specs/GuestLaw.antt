@@ -7,9 +7,7 @@ use Rattle.pef_model.specs.Plan.{Plan, plan_of}
 use Rattle.pef_model.specs.Event.{Event}
 use Rattle.pef_model.specs.Target.{touches_guest}
 use Rattle.pef_model.specs.GuestPart.{page_of}
-use Rattle.pef_model.specs.History.{guest_after, last_store, IsLegal}
-use Rattle.pef_model.specs.CountLaw.{part_after}
-use Rattle.pef_model.specs.MoveLaw.{page_after}
+use Rattle.pef_model.specs.History.{guest_after, last_store, IsLegal, part_after, page_after}
 use Rattle.pef_model.specs.Sound.{is_clean}
 
 -- a page that is Invalid holds 0 at each of its addresses

@@ -1,12 +1,15 @@
 -- The objects after a history, the one entry that a step adds, and legal histories.
-use Rattle.std.specs.Prelude.{◌≡◌, ℕ, ◌<◌, nat_lt, if◌then◌else◌, List, [], ◌∷◌, Option, slice_index}
+use Rattle.std.specs.Prelude.{◌≡◌, ℕ, ◌<◌, ◌==◌, nat_lt, Bool, false, ◌&&◌, if◌then◌else◌, List, [], ◌∷◌, Option, Some, None, slice_index}
+use Rattle.pef_model.specs.declared.state.Ctx.{Ctx}
 use Rattle.pef_model.specs.declared.command.Cmd.{Cmd}
+use Rattle.pef_model.specs.declared.command.Cmd.TheVariants.{UPageout}
+use Rattle.pef_model.specs.declared.entry.Answer.{Answer}
 use Rattle.pef_model.specs.Plan.{Plan}
 use Rattle.pef_model.specs.Event.{Event, Mark, mark_of, newest, value_after}
 use Rattle.pef_model.specs.Doubleword.{doubleword}
-use Rattle.pef_model.specs.Target.{Ask, Target, Alone, AtGuest, AtFrame, uses_hand, target_in, touches_cpu, touches_guest, touches_pool, touches_frame}
+use Rattle.pef_model.specs.Target.{Ask, Target, Alone, AtGuest, AtFrame, uses_hand, is_sealing, target_in, touches_cpu, touches_guest, touches_pool, touches_frame}
 use Rattle.pef_model.specs.Cpu.{CpuPart, start_cpu, next_cpu}
-use Rattle.pef_model.specs.GuestPart.{GuestPart}
+use Rattle.pef_model.specs.GuestPart.{GuestPart, Page, page_of}
 use Rattle.pef_model.specs.Guest.{Guest, start_guest, next_guest}
 use Rattle.pef_model.specs.Memory.{start_pool, next_pool, start_frame, next_frame, writes_of, written_at}
 use Rattle.pef_model.specs.Deed.{Deed, deed_alone, deed_guest, deed_frame}
@@ -18,6 +21,14 @@ cpu_after plan n past = value_after (touches_cpu n) next_cpu (start_cpu plan) pa
 -- a guest after a history, with what it keeps to itself
 abbrev pub guest_after : Plan → ℕ → List Event → Guest
 guest_after plan lpid past = value_after (touches_guest plan lpid) (next_guest plan) (start_guest plan lpid) past
+
+-- a guest's public part after a history
+abbrev pub part_after : Plan → List Event → ℕ → GuestPart
+part_after plan past lpid = (guest_after plan lpid past).part
+
+-- a page of a guest after a history
+abbrev pub page_after : Plan → List Event → ℕ → ℕ → Page
+page_after plan past lpid gfn = (guest_after plan lpid past).part.pages gfn
 
 -- the number of free secure frames after a history
 abbrev pub pool_after : Plan → List Event → ℕ
@@ -98,3 +109,27 @@ pub record Extends (plan : Plan) (past : List Event) (e : Event) : Type 0 where
 abbrev pub IsLegal : Plan → List Event → Type 0
 IsLegal plan [] = Unit {0}
 IsLegal plan (e ∷ past) = Extends plan past e × IsLegal plan past
+
+-- an entry changes no guest, no normal frame, and not the pool
+pub record ChangesNoMemory (plan : Plan) (past : List Event) (e : Event) : Type 0 where
+  pub guests : (lpid : ℕ) → guest_after plan lpid (e ∷ past) ≡ guest_after plan lpid past
+  pub pool : pool_after plan (e ∷ past) ≡ pool_after plan past
+  pub frames : (n : ℕ) → frame_after plan n (e ∷ past) ≡ frame_after plan n past
+
+-- whether a call names a page of a guest as the one to move outward
+abbrev pub names_page_out : Plan → ℕ → ℕ → Cmd → Bool
+names_page_out plan lpid gfn (UPageout named dest gpa flags order) = (named == lpid) && (page_of plan gpa == gfn)
+names_page_out plan lpid gfn cmd = false
+
+-- whether a step begins a page-out of a guest's page
+abbrev pub begins_out_in : Plan → ℕ → ℕ → Ctx → Cmd → Answer → Bool
+begins_out_in plan lpid gfn before cmd a = is_sealing before cmd a && names_page_out plan lpid gfn cmd
+
+-- whether an entry does
+abbrev pub begins_out : Plan → ℕ → ℕ → Event → Bool
+begins_out plan lpid gfn e = begins_out_in plan lpid gfn e.saw.before e.trace.cmd e.trace.answer
+
+-- the bytes of the newest begin of a page-out of a guest's page
+abbrev pub last_begun : Plan → ℕ → ℕ → List Event → Option (List ℕ)
+last_begun plan lpid gfn [] = None
+last_begun plan lpid gfn (e ∷ past) = if begins_out plan lpid gfn e then Some e.bytes else last_begun plan lpid gfn past

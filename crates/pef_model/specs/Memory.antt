@@ -1,5 +1,5 @@
 -- The pool of secure frames, and the normal frames.
-use Rattle.std.specs.Prelude.{ℕ, ◌+◌, ◌-◌, ◌%◌, ◌^◌, ◌==◌, if◌then◌else◌, List, [], ◌∷◌, ◌++◌, take, drop, length, Option, Some, None, replicate, Bool, ◌&&◌, nat_le, nat_lt}
+use Rattle.std.specs.Prelude.{ℕ, ◌+◌, ◌-◌, ◌%◌, ◌^◌, ◌==◌, if◌then◌else◌, List, [], ◌∷◌, ◌++◌, take, drop, length, Option, Some, None, replicate, Bool, false, ◌&&◌, nat_le, nat_lt}
 use Rattle.pef_model.specs.declared.state.Ctx.{Ctx}
 use Rattle.pef_model.specs.declared.state.Ctx.TheVariants as ctx
 use Rattle.pef_model.specs.declared.command.Cmd.{Cmd}
@@ -21,6 +21,11 @@ pool_with free (Some saw) = free - saw.taken + saw.given
 -- the number of free frames after an entry that touches the pool
 abbrev pub next_pool : ℕ → Event → ℕ
 next_pool free e = pool_with free e.saw.pool
+
+-- whether a step tells that a frame was free
+abbrev pub tells_free : Option PoolSaw → Bool
+tells_free None = false
+tells_free (Some saw) = saw.any
 
 -- at the start each secure frame is free
 abbrev pub start_pool : Plan → ℕ

@@ -1,36 +1,27 @@
 -- Laws of pages on the move, and of what is sealed.
-use Rattle.std.specs.Prelude.{◌≡◌, ◌≢◌, ℕ, ◌+◌, ◌/◌, ◌%◌, ◌^◌, ◌<◌, ◌↔◌, ◌==◌, Bool, true, false, ◌&&◌, if◌then◌else◌, List, [], ◌∷◌, ◌++◌, length, Option, Some, None, IsSome, option_map}
+use Rattle.std.specs.Prelude.{◌≡◌, ◌≢◌, ℕ, ◌+◌, ◌/◌, ◌%◌, ◌^◌, ◌<◌, ◌↔◌, true, false, List, ◌∷◌, ◌++◌, length, Some, IsSome, option_map}
 use Rattle.std.specs.List.{count_by}
 use Rattle.pef_model.specs.declared.config.Config.{Config}
 use Rattle.pef_model.specs.declared.state.Tag.{Tag}
 use Rattle.pef_model.specs.declared.state.Phase.TheVariants as phase
 use Rattle.pef_model.specs.declared.state.Kind.TheVariants.{Secure, Out}
-use Rattle.pef_model.specs.declared.state.Way.{Way}
 use Rattle.pef_model.specs.declared.state.Way.TheVariants as way
 use Rattle.pef_model.specs.declared.state.Mover.{Mover}
 use Rattle.pef_model.specs.declared.state.Move.{Move}
-use Rattle.pef_model.specs.declared.state.Work.{Work}
 use Rattle.pef_model.specs.declared.state.Work.TheVariants.{Inward, Outward}
-use Rattle.pef_model.specs.declared.state.Ctx.{Ctx}
 use Rattle.pef_model.specs.declared.state.Ctx.TheVariants as ctx
-use Rattle.pef_model.specs.declared.command.Cmd.{Cmd}
 use Rattle.pef_model.specs.declared.command.Cmd.TheVariants.{UPagein, UPageout, Go}
-use Rattle.pef_model.specs.declared.entry.Answer.{Answer}
 use Rattle.pef_model.specs.declared.entry.Answer.TheVariants as answer
 use Rattle.pef_model.specs.Plan.{Plan, IsWithin, IsInRange, plan_of}
 use Rattle.pef_model.specs.Event.{Event}
 use Rattle.pef_model.specs.Doubleword.{doubleword}
 use Rattle.pef_model.specs.Seal.{tag_bytes, image}
 use Rattle.pef_model.specs.TagLaw.{HasDoublewords}
-use Rattle.pef_model.specs.Target.{frame_of, is_sealing}
+use Rattle.pef_model.specs.Target.{frame_of, work_by}
 use Rattle.pef_model.specs.GuestPart.{Page, page_of}
 use Rattle.pef_model.specs.PageOut.{tag_of, page_bytes}
 use Rattle.pef_model.specs.Authority.{InSealedBytes, authority}
-use Rattle.pef_model.specs.History.{cpu_after, guest_after, frame_after, last_store, public_state, Extends, IsLegal}
-
--- a page of a guest after a history
-abbrev pub page_after : Plan → List Event → ℕ → ℕ → Page
-page_after plan past lpid gfn = (guest_after plan lpid past).part.pages gfn
+use Rattle.pef_model.specs.History.{cpu_after, guest_after, frame_after, last_store, public_state, Extends, IsLegal, page_after, begins_out, last_begun}
 
 -- a CPU moves the page outward that its call in progress names
 pub record MovesItsPage (plan : Plan) (past : List Event) (n : ℕ) (move : Move) : Type 0 where
@@ -55,11 +46,6 @@ EachCpuMovesItsPageIn =
     (plan : Plan) (past : List Event) (n : ℕ) (move : Move) → IsLegal plan past → (cpu_after plan n past).ctx ≡ ctx.Uv (Inward move) →
     move.generation ≡ (guest_after plan move.lpid past).part.generation → MovesItsPageIn plan past n move
 
--- the work of moving a page this way
-abbrev pub work_by : Way → Move → Work
-work_by way.Inward move = Inward move
-work_by way.Outward move = Outward move
-
 -- a page's mover has a call in progress that names the page
 pub record IsMovedBy (plan : Plan) (past : List Event) (lpid gfn : ℕ) (mover : Mover) : Type 0 where
   pub move : Move
@@ -81,24 +67,6 @@ pub record KeepsWhatIsSealed (page : Page) : Type 0 where
 
 abbrev pub EachPageKeepsWhatIsSealed : Type 0
 EachPageKeepsWhatIsSealed = (plan : Plan) (past : List Event) (lpid gfn : ℕ) → IsLegal plan past → KeepsWhatIsSealed (page_after plan past lpid gfn)
-
--- whether a call names a page of a guest as the one to move outward
-abbrev pub names_page_out : Plan → ℕ → ℕ → Cmd → Bool
-names_page_out plan lpid gfn (UPageout named dest gpa flags order) = (named == lpid) && (page_of plan gpa == gfn)
-names_page_out plan lpid gfn cmd = false
-
--- whether a step begins a page-out of a guest's page
-abbrev pub begins_out_in : Plan → ℕ → ℕ → Ctx → Cmd → Answer → Bool
-begins_out_in plan lpid gfn before cmd a = is_sealing before cmd a && names_page_out plan lpid gfn cmd
-
--- whether an entry does
-abbrev pub begins_out : Plan → ℕ → ℕ → Event → Bool
-begins_out plan lpid gfn e = begins_out_in plan lpid gfn e.saw.before e.trace.cmd e.trace.answer
-
--- the bytes of the newest begin of a page-out of a guest's page
-abbrev pub last_begun : Plan → ℕ → ℕ → List Event → Option (List ℕ)
-last_begun plan lpid gfn [] = None
-last_begun plan lpid gfn (e ∷ past) = if begins_out plan lpid gfn e then Some e.bytes else last_begun plan lpid gfn past
 
 -- what was last sealed of a page that is Out are the bytes of the begin of the page-out that made it Out, whatever happened between
 abbrev pub LastSealedIsBegun : Type 0

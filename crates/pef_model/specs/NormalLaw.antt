@@ -12,11 +12,10 @@ use Rattle.pef_model.specs.declared.entry.Answer.TheVariants as answer
 use Rattle.pef_model.specs.Plan.{Plan, plan_of, IsInRange}
 use Rattle.pef_model.specs.Event.{Event}
 use Rattle.pef_model.specs.Doubleword.{doubleword}
-use Rattle.pef_model.specs.Target.{frame_of, has_real_place}
+use Rattle.pef_model.specs.Target.{frame_of, has_real_place, work_by}
 use Rattle.pef_model.specs.Memory.{offset_of}
 use Rattle.pef_model.specs.History.{frame_after, guest_after, last_norm, Extends, IsLegal}
 use Rattle.pef_model.specs.View.{view, memory_seen}
-use Rattle.pef_model.specs.MoveLaw.{work_by}
 
 -- the frames of the public state hold last_norm everywhere
 abbrev pub FramesHoldLastNorm : Type 0

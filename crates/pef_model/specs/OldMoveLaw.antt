@@ -12,9 +12,8 @@ use Rattle.pef_model.specs.Event.{Event}
 use Rattle.pef_model.specs.Registers.{with_code}
 use Rattle.pef_model.specs.Memory.{overwritten}
 use Rattle.pef_model.specs.Cpu.{CpuPart}
-use Rattle.pef_model.specs.History.{cpu_after, guest_after, pool_after, frame_after, Extends}
-use Rattle.pef_model.specs.MoveLaw.{work_by}
-use Rattle.pef_model.specs.CauseLaw.{ChangesNoMemory}
+use Rattle.pef_model.specs.History.{cpu_after, guest_after, pool_after, frame_after, Extends, ChangesNoMemory}
+use Rattle.pef_model.specs.Target.{work_by}
 
 -- an entry is a step of a page's move under another generation than its guest's
 pub record IsOldMove (plan : Plan) (past : List Event) (way : Way) (move : Move) (e : Event) : Type 0 where

@@ -1,5 +1,5 @@
 -- Tables, computed of guests made by hand: what each phase and each kind of page let the hypervisor do, and what an access meets.
-use Rattle.std.specs.Prelude.{◌≡◌, ℕ, ◌==◌, Bool, true, false, if◌then◌else◌, List, [], ◌∷◌, map, replicate, Option, Some, None}
+use Rattle.std.specs.Prelude.{◌≡◌, ℕ, ◌==◌, Bool, true, false, if◌then◌else◌, List, [], ◌∷◌, map, replicate, Some, None}
 use Rattle.pef_model.specs.declared.state.Phase.{Phase}
 use Rattle.pef_model.specs.declared.state.Phase.TheVariants as phase
 use Rattle.pef_model.specs.declared.state.Kind.{Kind}

@@ -1,5 +1,5 @@
 -- Laws of what an object's next value reads of an entry, and which entries it reads at all.
-use Rattle.std.specs.Prelude.{◌≡◌, ℕ, Bool, true, false, if◌then◌else◌, List, Option, Some, None, ◌==◌}
+use Rattle.std.specs.Prelude.{◌≡◌, ℕ, Bool, true, false, if◌then◌else◌, List, Some, ◌==◌}
 use Rattle.std.specs.List.{filter}
 use Rattle.pef_model.specs.declared.command.Cmd.{Cmd}
 use Rattle.pef_model.specs.declared.command.Cmd.TheVariants.{UReturn}
@@ -15,7 +15,7 @@ use Rattle.pef_model.specs.Target.{Ask, touches_cpu, touches_guest, touches_pool
 use Rattle.pef_model.specs.Cpu.{CpuPart, next_cpu}
 use Rattle.pef_model.specs.GuestPart.{GuestPart, next_part}
 use Rattle.pef_model.specs.Guest.{Guest, next_guest}
-use Rattle.pef_model.specs.Memory.{next_pool, next_frame}
+use Rattle.pef_model.specs.Memory.{next_pool, next_frame, tells_free}
 use Rattle.pef_model.specs.Deed.{deed_guest}
 use Rattle.pef_model.specs.History.{cpu_after, guest_after, pool_after, frame_after, last_store, reg, Extends}
 
@@ -98,11 +98,6 @@ pub record AgreeWhereTouched (plan : Plan) (past other : List Event) (e : Event)
 -- the objects that an entry touches decide whether it extends a history
 abbrev pub TouchedObjectsDecide : Type 0
 TouchedObjectsDecide = (plan : Plan) (past other : List Event) (e : Event) → AgreeWhereTouched plan past other e → Extends plan past e → Extends plan other e
-
--- whether a step tells that a frame was free
-abbrev pub tells_free : Option PoolSaw → Bool
-tells_free None = false
-tells_free (Some saw) = saw.any
 
 -- whether a frame is free makes no difference to a step that doesn't tell it
 abbrev pub UnaskedMakesNoDifference : Type 0

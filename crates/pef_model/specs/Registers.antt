@@ -1,5 +1,5 @@
 -- Registers as lists of 32, and what a call loads into them.
-use Rattle.std.specs.Prelude.{ℕ, ◌+◌, List, [], ◌∷◌, ◌++◌, length, take, drop, slice_set, replicate}
+use Rattle.std.specs.Prelude.{ℕ, ◌+◌, ◌-◌, ◌==◌, nat_lt, nat_le, ◌&&◌, if◌then◌else◌, List, [], ◌∷◌, ◌++◌, length, take, drop, slice_index, slice_set, replicate, Option, Some, None}
 use Rattle.pef_model.specs.declared.command.TheConstants.{UV_PAGE_IN, UV_PAGE_OUT, UV_RETURN, EXTERNAL_INTERRUPT}
 use Rattle.pef_model.specs.declared.command.Code.{Code}
 use Rattle.pef_model.specs.declared.command.Code.TheVariants.{USuccess, UParameter, UP2, UP3, UP4, UP5, UFunction, UBusy, UPermission, UInvalid}
@@ -53,3 +53,23 @@ load_page_out gpr lpid dest gpa flags order = load_call gpr UV_PAGE_OUT (lpid �
 -- a code comes back in R3
 abbrev pub with_code : List ℕ → Code → List ℕ
 with_code gpr code = slice_set gpr 3 (number_of code)
+
+-- the value that UV_RETURN gives a register: R3 has this, R0, R2 and R4 to R12 the operands
+abbrev pub loaded_value : ℕ → ℕ → List ℕ → ℕ → ℕ → Option ℕ
+loaded_value r0 r2 outs code r =
+    if r == 0 then Some r0
+    else if r == 2 then Some r2
+    else if r == 3 then Some code
+    else if nat_le 4 r && nat_lt r 13 then Some (slice_index outs (r - 4))
+    else None
+
+-- the value that a call which moves a page gives a register: R3 has this, R4 to R8 the operands
+abbrev pub value_of_page_call : ℕ → ℕ → ℕ → ℕ → ℕ → ℕ → ℕ → Option ℕ
+value_of_page_call lpid ra gpa flags order code r =
+    if r == 3 then Some code
+    else if r == 4 then Some lpid
+    else if r == 5 then Some ra
+    else if r == 6 then Some gpa
+    else if r == 7 then Some flags
+    else if r == 8 then Some order
+    else None

@@ -1,5 +1,5 @@
 -- Laws of what a guest loads: the last store, as a search from the newest entry on.
-use Rattle.std.specs.Prelude.{◌≡◌, ℕ, ◌-◌, ◌/◌, ◌%◌, ◌^◌, ◌<◌, ◌==◌, nat_lt, nat_le, true, ◌&&◌, if◌then◌else◌, List, [], ◌∷◌, ◌++◌, length, Option, Some, None, slice_index}
+use Rattle.std.specs.Prelude.{◌≡◌, ℕ, ◌/◌, ◌%◌, ◌^◌, ◌<◌, ◌==◌, true, ◌&&◌, if◌then◌else◌, List, [], ◌∷◌, ◌++◌, length, Option, Some, None}
 use Rattle.std.specs.List.{AllByRecursion}
 use Rattle.pef_model.specs.declared.state.Phase.TheVariants as phase
 use Rattle.pef_model.specs.declared.state.Kind.TheVariants.{Secure}
@@ -12,7 +12,7 @@ use Rattle.pef_model.specs.declared.entry.Answer.{Answer}
 use Rattle.pef_model.specs.declared.entry.Answer.TheVariants as answer
 use Rattle.pef_model.specs.Plan.{Plan}
 use Rattle.pef_model.specs.Event.{Event, newest}
-use Rattle.pef_model.specs.Registers.{number_of}
+use Rattle.pef_model.specs.Registers.{number_of, loaded_value, value_of_page_call}
 use Rattle.pef_model.specs.Target.{caller, touches_guest}
 use Rattle.pef_model.specs.GuestPart.{page_of, is_private}
 use Rattle.pef_model.specs.Guest.{Guest}
@@ -32,26 +32,6 @@ abbrev pub LastStoreIsNewest : Type 0
 LastStoreIsNewest =
     (plan : Plan) (past : List Event) (lpid gpa : ℕ) →
     last_store plan past lpid gpa ≡ newest (decides_doubleword plan lpid gpa) 0 past
-
--- the value that UV_RETURN of a guest, which is refused, gives a register
-abbrev pub loaded_value : ℕ → ℕ → List ℕ → ℕ → ℕ → Option ℕ
-loaded_value r0 r2 outs code r =
-    if r == 0 then Some r0
-    else if r == 2 then Some r2
-    else if r == 3 then Some code
-    else if nat_le 4 r && nat_lt r 13 then Some (slice_index outs (r - 4))
-    else None
-
--- the value that a call which moves a page gives a register: R3 has this, R4 to R8 the operands
-abbrev pub value_of_page_call : ℕ → ℕ → ℕ → ℕ → ℕ → ℕ → ℕ → Option ℕ
-value_of_page_call lpid ra gpa flags order code r =
-    if r == 3 then Some code
-    else if r == 4 then Some lpid
-    else if r == 5 then Some ra
-    else if r == 6 then Some gpa
-    else if r == 7 then Some flags
-    else if r == 8 then Some order
-    else None
 
 -- the value that a command of a vCPU gives one of its registers, by the guest that it finds
 abbrev pub assigned_by_command : Guest → Cmd → Answer → ℕ → Option ℕ

@@ -18,12 +18,12 @@ use Rattle.pef_model.specs.declared.entry.Answer.{Answer}
 use Rattle.pef_model.specs.declared.entry.Answer.TheVariants as answer
 use Rattle.pef_model.specs.Plan.{Plan}
 use Rattle.pef_model.specs.Event.{Event}
-use Rattle.pef_model.specs.Registers.{number_of}
+use Rattle.pef_model.specs.Registers.{number_of, loaded_value, value_of_page_call}
 use Rattle.pef_model.specs.Target.{told, caller, vcpu_in, takes_bytes, is_hypervisor}
 use Rattle.pef_model.specs.Cpu.{CpuPart}
 use Rattle.pef_model.specs.Guest.{Guest}
 use Rattle.pef_model.specs.History.{cpu_after, guest_after, ask_of, Extends}
-use Rattle.pef_model.specs.SearchLaw.{loaded_value, value_of_page_call, IsCommand}
+use Rattle.pef_model.specs.SearchLaw.{IsCommand}
 
 -- whether the hypervisor keeps an answer as its last: it isn't Context, and the hypervisor ran before the step or runs after it
 abbrev pub is_kept : Ctx → Answer → Ctx → Bool

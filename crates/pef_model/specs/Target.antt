@@ -1,5 +1,7 @@
 -- At what a step aims, and which objects an entry touches.
 use Rattle.std.specs.Prelude.{ℕ, ◌/◌, ◌%◌, ◌^◌, ◌==◌, nat_lt, nat_le, Bool, true, false, ◌&&◌, if◌then◌else◌, List, [], Option, Some, None, is_some}
+use Rattle.pef_model.specs.declared.state.Way.{Way}
+use Rattle.pef_model.specs.declared.state.Way.TheVariants as way
 use Rattle.pef_model.specs.declared.state.Move.{Move}
 use Rattle.pef_model.specs.declared.state.Run.{Run}
 use Rattle.pef_model.specs.declared.state.Work.{Work}
@@ -7,7 +9,7 @@ use Rattle.pef_model.specs.declared.state.Work.TheVariants.{Inward, Outward}
 use Rattle.pef_model.specs.declared.state.Ctx.{Ctx}
 use Rattle.pef_model.specs.declared.state.Ctx.TheVariants as ctx
 use Rattle.pef_model.specs.declared.command.Cmd.{Cmd}
-use Rattle.pef_model.specs.declared.command.Cmd.TheVariants.{HLd, HSt, UPagein, UPageout, UReturn, Go}
+use Rattle.pef_model.specs.declared.command.Cmd.TheVariants.{HLd, HSt, UPagein, UPageout, UReturn, GLi, GLd, GSt, GIrq, Go}
 use Rattle.pef_model.specs.declared.entry.Answer.{Answer}
 use Rattle.pef_model.specs.declared.entry.Answer.TheVariants as answer
 use Rattle.pef_model.specs.Plan.{Plan}
@@ -18,6 +20,34 @@ abbrev pub is_hypervisor : Ctx → Bool
 is_hypervisor ctx.Hv = true
 is_hypervisor (ctx.Uv work) = false
 is_hypervisor (ctx.Guest run) = false
+
+-- whether a command is one of a context
+abbrev pub is_command_in : Ctx → Cmd → Bool
+is_command_in ctx.Hv (HLd ra) = true
+is_command_in ctx.Hv (HSt ra value) = true
+is_command_in ctx.Hv (UPagein lpid src gpa flags order) = true
+is_command_in ctx.Hv (UPageout lpid dest gpa flags order) = true
+is_command_in ctx.Hv (UReturn r0 r2 outs) = true
+is_command_in (ctx.Uv work) Go = true
+is_command_in (ctx.Guest run) (UPagein lpid src gpa flags order) = true
+is_command_in (ctx.Guest run) (UPageout lpid dest gpa flags order) = true
+is_command_in (ctx.Guest run) (UReturn r0 r2 outs) = true
+is_command_in (ctx.Guest run) (GLi rd value) = true
+is_command_in (ctx.Guest run) (GLd rd gpa) = true
+is_command_in (ctx.Guest run) (GSt rs gpa) = true
+is_command_in (ctx.Guest run) GIrq = true
+is_command_in before cmd = false
+
+-- the guest address at which a command loads or stores
+abbrev pub guest_address_in : Cmd → Option ℕ
+guest_address_in (GLd rd gpa) = Some gpa
+guest_address_in (GSt rs gpa) = Some gpa
+guest_address_in cmd = None
+
+-- the work of moving a page this way
+abbrev pub work_by : Way → Move → Work
+work_by way.Inward move = Inward move
+work_by way.Outward move = Outward move
 
 -- the vCPU whose call is in progress; None where it is one of the hypervisor
 abbrev pub caller : Work → Option Run

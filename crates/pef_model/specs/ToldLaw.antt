@@ -6,13 +6,11 @@ use Rattle.pef_model.specs.declared.entry.Answer.{Answer}
 use Rattle.pef_model.specs.declared.entry.Answer.TheVariants as answer
 use Rattle.pef_model.specs.Plan.{Plan}
 use Rattle.pef_model.specs.Event.{Event, mark_of}
-use Rattle.pef_model.specs.Target.{AtGuest, target_of, told}
+use Rattle.pef_model.specs.Target.{AtGuest, target_of, told, guest_address_in}
 use Rattle.pef_model.specs.GuestPart.{Meeting, Normal, meets, is_private, page_of}
 use Rattle.pef_model.specs.Deed.{deed_guest}
-use Rattle.pef_model.specs.History.{guest_after, entry_of, Extends}
-use Rattle.pef_model.specs.ReadLaw.{tells_free}
-use Rattle.pef_model.specs.CountLaw.{part_after}
-use Rattle.pef_model.specs.CauseLaw.{guest_address_in}
+use Rattle.pef_model.specs.History.{guest_after, entry_of, Extends, part_after}
+use Rattle.pef_model.specs.Memory.{tells_free}
 
 -- whether an access was done
 abbrev pub is_done : Answer → Bool

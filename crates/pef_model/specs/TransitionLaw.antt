@@ -21,8 +21,7 @@ use Rattle.pef_model.specs.Plan.{Plan}
 use Rattle.pef_model.specs.Event.{Event}
 use Rattle.pef_model.specs.Target.{vcpu_in}
 use Rattle.pef_model.specs.GuestPart.{GuestPart, page_of}
-use Rattle.pef_model.specs.History.{guest_after, Extends}
-use Rattle.pef_model.specs.MoveLaw.{page_after}
+use Rattle.pef_model.specs.History.{guest_after, Extends, page_after}
 
 -- whether a step is an access of a guest to its page that was done and took a frame for it
 abbrev pub reaches_by : Plan → ℕ → ℕ → Ctx → Cmd → Answer → Option PoolSaw → Bool
