@@ -1,5 +1,5 @@
 -- What an access of a guest meets in the machine, and what it leaves.
-use Rattle.std.specs.Prelude.{◌≡◌, ℕ, ◌+◌, ◌/◌, ◌%◌, ◌^◌, ◌==◌, ◌<◌, ◌≤◌, nat_lt, Bool, true, ◌&&◌, if◌then◌else◌, length, Option, Some, None, is_some, IfSome, Result, Ok, Err}
+use Rattle.std.specs.Prelude.{◌≡◌, ℕ, ◌+◌, ◌/◌, ◌%◌, ◌^◌, ◌==◌, ◌<◌, ◌≤◌, nat_lt, Bool, true, false, ◌&&◌, if◌then◌else◌, length, Option, Some, None, is_some, IfSome, Result, Ok, Err}
 use Rattle.pef_model.specs.declared.entry.Answer.{Answer}
 use Rattle.pef_model.specs.declared.entry.Answer.TheVariants.{Hole, Again}
 use Rattle.pef_model.specs.Doubleword.{doubleword, with_doubleword}
@@ -98,3 +98,8 @@ abbrev pub vcpu_after : Vcpu → Regs → Bool → Meeting → Vcpu
 vcpu_after vcpu regs any Private = with_registers vcpu regs
 vcpu_after vcpu regs true Unbacked = with_registers vcpu regs
 vcpu_after vcpu regs any met = vcpu
+
+-- whether an access asks for a free frame
+abbrev pub is_unbacked : Meeting → Bool
+is_unbacked Unbacked = true
+is_unbacked met = false

@@ -2,8 +2,10 @@
 #![tactic(auto)]
 
 mod access;
+mod asks;
 mod place;
 mod row;
 
+pub use asks::asks_for_frame;
 pub use place::place_below;
 pub use row::{load, store};

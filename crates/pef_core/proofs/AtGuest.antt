@@ -139,7 +139,7 @@ gone_or : (plan : Plan) (run : Run) (g : GuestWhole) (found : ℕ → ℕ → �
 gone_or plan run g found any ask cmd true = running_unframed plan run g found any ask cmd
 gone_or plan run g found any ask cmd false = refl
 
-unframed : (plan : Plan) (g : GuestWhole) (found : ℕ → ℕ → ℕ) (any : Bool) (ask : Ask) (c : Ctx) (l : ℕ) (cmd : Cmd) (k : ℕ) → guest_aimed c l cmd ≡ Some k → (deed_guest_in c plan g found any ask cmd).frame ≡ None
+pub unframed : (plan : Plan) (g : GuestWhole) (found : ℕ → ℕ → ℕ) (any : Bool) (ask : Ask) (c : Ctx) (l : ℕ) (cmd : Cmd) (k : ℕ) → guest_aimed c l cmd ≡ Some k → (deed_guest_in c plan g found any ask cmd).frame ≡ None
 unframed plan g found any ask ctx.Hv l (UPagein lpid src gpa flags order) k is = page_in_unframed plan g.part any ask lpid src gpa flags order
 unframed plan g found any ask ctx.Hv l (UPageout lpid dest gpa flags order) k is = page_out_unframed plan g ask lpid dest gpa flags order
 unframed plan g found any ask ctx.Hv l (UReturn r0 r2 outs) k is = return_unframed g.part ask

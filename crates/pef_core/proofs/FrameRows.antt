@@ -22,6 +22,7 @@ use Rattle.pef_guest.specs.declared.cpu.Cpu.{Cpu}
 use Rattle.pef_guest.specs.Shows.{ShowsCpu}
 use Rattle.pef_guest.specs.Rows.{ask_hypervisor, ask_reading, ask_outward}
 use Rattle.pef_guest.proofs.Asked.{ask_in_hypervisor}
+use Rattle.pef_move.proofs.Bundle.{ask_in_outward}
 use Rattle.pef_move.specs.PageIn.{CopiesPageIn}
 use Rattle.pef_move.specs.PageOut.{CopiesPageOut}
 use Rattle.pef_core.specs.Frames.{AimsAtFrame, ctx_copied, written_by, IsDone, RowFrame, DoesFrame}
@@ -76,11 +77,7 @@ module _ (cpu : Cpu) (frame : List ℕ) (hv : cpu.ctx ≡ ctx.Hv) (ra : ℕ) whe
         });
   }
 
--- what the next step of a page-out learns of its CPU
-ask_in_outward : (c : CpuPart) (move : Move) → c.ctx ≡ ctx.Uv (Outward move) → ask_of c Go ≡ ask_outward move c
-ask_in_outward c move is = λ i. record { before = is i; lpid = c.lpid; vid = c.vid; last = c.last; hand = if uses_hand (is i) Go then c.hand else [] }
-
--- and of a page-in that isn't copied
+-- what the copy of a page-in learns of its CPU
 ask_in_reading : (c : CpuPart) (move : Move) → c.ctx ≡ ctx.Uv (Inward move) → move.copied ≡ false → ask_of c Go ≡ ask_reading move c
 ask_in_reading c move is copied =
     (λ i. record { before = is i; lpid = c.lpid; vid = c.vid; last = c.last; hand = if uses_hand (is i) Go then c.hand else [] })

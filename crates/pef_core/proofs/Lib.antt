@@ -10,7 +10,10 @@ pub mod Placing
 pub mod Begun
 pub mod Leaving
 pub mod Alone
+pub mod Touching
+pub mod Looking
 pub mod FrameRows
 pub mod AtGuest
 pub mod Sites
 pub mod OtherAims
+pub mod Seeing

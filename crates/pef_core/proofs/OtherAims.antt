@@ -129,14 +129,14 @@ works_copied guests normal k (ctx.Uv (Inward move)) works = record { least = wor
 works_copied guests normal k (ctx.Uv (Outward move)) works = record { least = works.least; moves = works.moves; frame = works.frame }
 works_copied guests normal k (ctx.Guest run) works = works
 
-unpooled : (plan : Plan) (n : ℕ) (bytes : List ℕ) (ask : Ask) (c : Ctx) (cmd : Cmd) → (deed_frame_in c plan n bytes ask cmd).pool ≡ None
+pub unpooled : (plan : Plan) (n : ℕ) (bytes : List ℕ) (ask : Ask) (c : Ctx) (cmd : Cmd) → (deed_frame_in c plan n bytes ask cmd).pool ≡ None
 unpooled plan n bytes ask ctx.Hv cmd = refl
 unpooled plan n bytes ask (ctx.Uv (Inward move)) cmd = refl
 unpooled plan n bytes ask (ctx.Uv (Outward move)) cmd = refl
 unpooled plan n bytes ask (ctx.Guest run) cmd = refl
 
 -- it is told by the entry
-framed : (m : NormalState) (plan : Plan) (n : ℕ) (bytes : List ℕ) (ask : Ask) (c : Ctx) (cmd : Cmd) → FrameNamed m n c cmd → (deed_frame_in c plan n bytes ask cmd).frame ≡ Some n
+pub framed : (m : NormalState) (plan : Plan) (n : ℕ) (bytes : List ℕ) (ask : Ask) (c : Ctx) (cmd : Cmd) → FrameNamed m n c cmd → (deed_frame_in c plan n bytes ask cmd).frame ≡ Some n
 framed m plan n bytes ask ctx.Hv cmd at = refl
 framed m plan n bytes ask (ctx.Uv (Inward move)) cmd at = refl
 framed m plan n bytes ask (ctx.Uv (Outward move)) cmd at = refl

@@ -8,3 +8,4 @@ pub mod Frames
 pub mod Does
 pub mod Lent
 pub mod Places
+pub mod Did

@@ -4,14 +4,18 @@
 mod aim;
 mod at_frame;
 mod at_guest;
+mod did;
 mod lent;
 mod machine;
 mod normal;
 mod own;
+mod readiness;
 
 pub use aim::{Aim, target};
 pub use at_frame::apply_frame;
 pub use at_guest::apply_guest;
+pub use did::Did;
 pub use lent::{Inner, Want, needs};
 pub use machine::Machine;
 pub use own::apply_own;
+pub use readiness::{ready, ready_frame, ready_pool};

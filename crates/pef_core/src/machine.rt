@@ -13,11 +13,13 @@ ghost use Rattle.pef_core.specs.Refused.{LeavesRest};
 ghost use Rattle.pef_core.specs.Alone.{LeavesOthers};
 ghost use Rattle.pef_model.specs.Target.{Alone, AtGuest, AtFrame};
 ghost use Rattle.pef_core.specs.Does.{AimsAt, DoesStep};
+ghost use Rattle.pef_core.specs.Did.{LooksAt, TellsStep};
 ghost use Rattle.pef_guest.specs.declared.cpu.Cpu.{Cpu};
 ghost use Rattle.pef_core.specs.Places.{EachPageIsPlaced};
 
 use crate::aim::{self, Aim};
 use crate::at_guest::apply_guest;
+use crate::did::{Did, Look, look_of, pool_seen, touches_pool};
 use crate::lent::{Inner, Want, needs};
 use crate::normal::Normal;
 use crate::own::apply_own;
@@ -118,6 +120,52 @@ impl<S: Seal> Machine<S> {
     {
         self.steps += 1;
         self.counted(cpu, cmd)
+    }
+
+    /// The same step, and what it did.
+    pub fn step_seen(&mut self, cpu: u8, cmd: &Cmd) -> Did
+        requires cpu { cpu < length self.old.cpus }
+        requires count { self.old.steps < 2 ^ 63 }
+        ensures told { TellsStep S.stands S.image self.old cpu cmd.now result }
+        ensures step { Continues S.stands S.image self.old self.new cpu cmd.now result.answer }
+        ensures frames_once { FramesOnce self.new }
+        ensures refused { (own : Cpu) → slice_get self.old.cpus cpu ≡ Some own → LeavesRest cpu own.ctx cmd.now self.old self.new result.answer }
+        ensures alone { LeavesOthers cpu cmd.now self.old self.new }
+        ensures count { self.new.steps ≡ self.old.steps + 1 }
+        ensures cpus { length self.new.cpus ≡ length self.old.cpus }
+        ensures guests { length self.new.guests ≡ length self.old.guests }
+    {
+        let look = self.look(cpu, cmd);
+        let free = self.pool.free();
+        let answer = self.step(cpu, cmd);
+        Did {
+            cmd: *cmd,
+            answer,
+            before: look.before,
+            after: self.cpus[cpu as usize].ctx,
+            lpid: look.lpid,
+            vid: look.vid,
+            last: look.last,
+            pool: pool_seen(look.touched, free, self.pool.free()),
+            frame: look.frame,
+        }
+    }
+
+    /// What can be told of a step before it is done.
+    fn look(&self, cpu: u8, cmd: &Cmd) -> Look
+        requires cpu { cpu < length self.now.cpus }
+        requires count { self.now.steps < 2 ^ 63 }
+        ensures { LooksAt S.stands S.image self.now cpu cmd.now result }
+    {
+        let own = &self.cpus[cpu as usize];
+        match aim::target(own, cmd, &self.normal, self.guests.len() as u64) {
+            Aim::Own => look_of(own, false, None),
+            Aim::Guest(lpid) => {
+                let guest = &self.guests[lpid as usize - 1];
+                look_of(own, touches_pool(guest, own, cmd), None)
+            }
+            Aim::Frame(frame) => look_of(own, false, Some(frame)),
+        }
     }
 
     /// A step that is counted: at its CPU alone, at a guest or at a normal frame.

@@ -22,7 +22,7 @@ use Rattle.pef_model.specs.PageOut.{page_out_code}
 use Rattle.pef_model.specs.PageIn.{is_last_sealed}
 use Rattle.pef_model.specs.Deed.{deed_guest, deed_page_out, deed_page_out_begin, deed_page_in_end, deed_page_in_test, coming_back, returning}
 use Rattle.pef_model.specs.History.{ask_of, entry_of}
-use Rattle.pef_model.specs.Clash.{ends_in_clash, clashes_in}
+use Rattle.pef_model.specs.Clash.{ends_in_clash, clashes_in, clashes}
 use Rattle.pef_frames.specs.Pool.{PoolState}
 use Rattle.pef_frames.specs.PoolLaw.{times_free}
 use Rattle.pef_guest.specs.declared.cpu.Cpu.{Cpu}
@@ -31,7 +31,7 @@ use Rattle.pef_guest.specs.Keeps.{KeepsFrames, times_held}
 use Rattle.pef_guest.specs.Rows.{Row, RowWithPool, ask_hypervisor, ask_inward, ask_outward}
 use Rattle.pef_guest.specs.Shows.{ShowsCpu}
 use Rattle.pef_guest.specs.Ready.{KeepsOwn, WorksAt}
-use Rattle.pef_guest.specs.Does.{is_any_free, MakesEntry}
+use Rattle.pef_guest.specs.Does.{is_any_free, entry_at_guest, MakesEntry}
 use Rattle.pef_guest.proofs.Asked.{RowAsked, makes_hypervisor}
 use Rattle.pef_move.specs.declared.page_call.PageCall.{PageCall}
 use Rattle.pef_move.specs.PageOut.{KeepsCpu, ComesBackWith, BeginsPageOut, EndsPageOut}
@@ -74,6 +74,14 @@ end_bytes g ask move = by_test (move.generation == g.generation) (is_last_sealed
   by_test true false = refl
   by_test false last = refl
 
+-- an end that is no digest collision, by what is in the hand
+pub clean_end : (plan : Plan) (g : GuestWhole) (found : ℕ → ℕ → ℕ) (any : Bool) (c : CpuPart) (mark : Mark) (move : Move) → c.ctx ≡ ctx.Uv (Inward move) → move.copied ≡ true → clashes g.part (entry_at_guest plan g found any c mark Go) ≡ false →
+    ends_in_clash g.part (record move { copied = true }) c.hand ≡ false
+clean_end plan g found any c mark move is copied clean =
+    sym (ap (λ (b : Bool). ends_in_clash g.part (record move { copied = b }) c.hand) copied)
+    ∙ sym (ap (ends_in_clash g.part move) (end_bytes g.part (ask_inward move c) move))
+    ∙ subst (λ (ask : Ask). clashes_in g.part ask.before Go (deed_guest plan g found any ask Go).bytes ≡ false) (ask_in_inward c move is copied) clean
+
 module _ {S : Type 0} (takes : S → ℕ → ℕ → Type 0) (stands : S → Tag → List ℕ → List ℕ → Type 0) (image : S → Tag → List ℕ → List ℕ) (old new : Guest S) (cpu cpu_new : Cpu) (pool pool_new : PoolState) (a : Answer) where
   pub out_begins : (call : PageCall) → cpu.ctx ≡ ctx.Hv → pool_new ≡ pool → BeginsPageOut stands image call old new cpu cpu_new a →
       MakesEntry takes stands image (UPageout call.lpid call.ra call.gpa call.flags call.order) old new cpu cpu_new pool pool_new a
@@ -93,9 +101,6 @@ module _ {S : Type 0} (takes : S → ℕ → ℕ → Type 0) (stands : S → Tag
 
   pub in_ends : (move : Move) → cpu.ctx ≡ ctx.Uv (Inward move) → move.copied ≡ true → EndsPageIn stands image move old new cpu cpu_new pool pool_new a → MakesEntry takes stands image Go old new cpu cpu_new pool pool_new a
   in_ends move working copied does plan g found c mark marked shows shows_cpu clean =
-      let learns = ask_in_inward c move (sym shows_cpu.ctx ∙ working) copied in
-      let none : ends_in_clash g.part move (deed_page_in_end g.part (ask_inward move c) move).bytes ≡ false =
-      subst (λ (ask : Ask). clashes_in g.part ask.before Go (deed_guest plan g found (is_any_free pool) ask Go).bytes ≡ false) learns clean in
-      subst (RowAsked takes stands image Go old new cpu cpu_new pool pool_new a plan g found c mark) (sym learns)
-      (does plan g c mark shows shows_cpu
-      (sym (ap (λ (b : Bool). ends_in_clash g.part (record move { copied = b }) c.hand) copied) ∙ sym (ap (ends_in_clash g.part move) (end_bytes g.part (ask_inward move c) move)) ∙ none))
+      let is = sym shows_cpu.ctx ∙ working in
+      subst (RowAsked takes stands image Go old new cpu cpu_new pool pool_new a plan g found c mark) (sym (ask_in_inward c move is copied))
+      (does plan g c mark shows shows_cpu (clean_end plan g found (is_any_free pool) c mark move is copied clean))

@@ -94,7 +94,7 @@ module _ {S : Type 0} (stands : S → Tag → List ℕ → List ℕ → Type 0) 
   apart = sym (ap (λ (own : Bool). own && collides_with (g.part.pages gfn).sealed c.hand) lives) ∙ clean
 
   -- the test is the model's
-  is_kept : is_last_sealed (g.part.pages gfn).sealed c.hand ≡ kept
+  pub is_kept : is_last_sealed (g.part.pages gfn).sealed c.hand ≡ kept
   is_kept = last_sealed (g.part.pages gfn).sealed c.hand (digest_at old.pages gfn) kept
       (ap digest_of (comes old cpu move below moves).is ∙ sym (ap kept_in (comes old cpu move below moves).is) ∙ shows.sealed.digests gfn within ∙ ap (option_map digest_by) sealed)
       apart (subst (λ (hand : List ℕ). IsTrue kept ↔ (digest_at old.pages gfn ≡ Some (digest_by hand))) shows_cpu.hand test)

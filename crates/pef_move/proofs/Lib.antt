@@ -9,4 +9,5 @@ pub mod ComingRows
 pub mod OnWayIn
 pub mod Come
 pub mod ComeRows
-mod Bundle
+pub mod Bundle
+mod Asking

@@ -1,6 +1,7 @@
 //! A page moves between its secure frame and a normal one in three steps, and between them whatever else may happen.
 #![tactic(auto)]
 
+mod asks;
 mod page_call;
 mod page_in;
 mod page_out;
@@ -10,6 +11,7 @@ mod tests;
 #[cfg(test)]
 mod tests_in;
 
+pub use asks::{asks_for_frame, gives_frame_back, refuses_page};
 pub use page_call::PageCall;
 pub use page_in::{page_in_begin, page_in_copy, page_in_end, page_in_of_none};
 pub use page_out::{page_out_begin, page_out_copy, page_out_end, page_out_of_none};

@@ -138,7 +138,7 @@ pub fn page_in_end<S: Seal>(
 }
 
 /// Whether bytes have the digest that a page keeps.
-fn is_kept(pages: &Pages<SecFrame>, gfn: u32, bytes: &[u8]) -> bool
+pub(crate) fn is_kept(pages: &Pages<SecFrame>, gfn: u32, bytes: &[u8]) -> bool
     requires { gfn < length pages.now.pages }
     ensures { IsTrue result ↔ (digest_at pages.now gfn ≡ Some (digest_by bytes.now)) }
 {

@@ -10,7 +10,7 @@ ghost use Rattle.pef_guest.specs.Refused.{RefusesCpu};
 ghost use Rattle.pef_guest.specs.Does.{DoesRow};
 ghost use Rattle.pef_frames.specs.Pool.{PoolState};
 ghost use Rattle.pef_model.specs.declared.command.Cmd.{Cmd};
-ghost use Rattle.pef_guest.specs.Ready.{MayEnd, HasRoomFor};
+ghost use Rattle.pef_guest.specs.Ready.{MayEnd, HasRoomFor, KeepsOwn, WorksAt};
 ghost use Rattle.pef_move.specs.PageOut.{ComesBackWith, RefusesCall, CopiesPageOut, EndsOld, EndsNow};
 ghost use Rattle.pef_move.specs.Route.{code_for, CanBegin, HasBegun};
 
@@ -39,6 +39,10 @@ pub fn page_out_begin<S: Seal>(guest: &mut Guest<S>, cpu: &mut Cpu, call: &PageC
     requires whole { IsWhole S.takes guest.old }
     requires hand { length cpu.old.hand ≡ 2 ^ guest.old.shift }
     requires steps { guest.old.steps < 2 ^ 63 }
+    ensures whole { IsWhole S.takes guest.new }
+    ensures keeps { KeepsGuest guest.old guest.new }
+    ensures own { KeepsOwn guest.new cpu.old cpu.new }
+    ensures works { WorksAt guest.new cpu.new cpu.new.ctx }
     ensures does { (pool : PoolState) → DoesRow S.takes S.stands S.image (Cmd.UPageout call.now.lpid call.now.ra call.now.gpa call.now.flags call.now.order) guest.old guest.new cpu.old cpu.new pool pool result }
     ensures sealer { (tag : Tag) (page sealed : List ℕ) → tag.gfn ≢ call.now.gpa / 2 ^ guest.old.shift → S.stands guest.new.sealer tag page sealed ↔ S.stands guest.old.sealer tag page sealed }
     ensures code { (code : Code) → (result ≡ Answer.Ret code) ↔ (code_for guest.old call.now ≡ Some code) }

@@ -1,15 +1,15 @@
 //! Each step of a page-in, and the refusals that no script reaches.
 
-ghost use Rattle.std.specs.Prelude.{◌≡◌, ◌+◌, ◌<◌, length, IfSome};
+ghost use Rattle.std.specs.Prelude.{◌≡◌, ◌+◌, ◌<◌, true, length, IfSome};
 ghost use Rattle.pef_guest.specs.Whole.{IsOutside, IsWhole};
 ghost use Rattle.pef_guest.specs.Keeps.{IsPoolOf};
-ghost use Rattle.pef_move.specs.PageIn.{IsReadyIn};
+ghost use Rattle.pef_guest.specs.Ready.{MayEnd, HasRoomFor};
 
 use super::*;
 use crate::tests::{call, guest_in, guest_outside, outward_of};
 use pef_frames::{NormalFrame, Pool, SecFrame};
 use pef_guest::{Cpu, Guest};
-use pef_model::{Answer, Code, Ctx, Kind, Move, Phase, Work};
+use pef_model::{Answer, Code, Ctx, Kind, Move, Phase, Way, Work};
 use pef_pages::Pages;
 use pef_seal::Seal;
 use std::alloc::{AllocError, Global};
@@ -92,7 +92,9 @@ fn begins_and_copies<S: Seal>(
     ensures shift { guest.new.shift ≡ 8 }
     ensures hand { length cpu.new.hand ≡ 256 }
     ensures pool { IsPoolOf guest.new pool.new }
-    ensures ready { IsReadyIn guest.new cpu.new pool.new result }
+    ensures ready { MayEnd guest.new cpu.new Way.Inward result }
+    ensures room { HasRoomFor guest.new pool.new result }
+    ensures copied { result.copied ≡ true }
     ensures pages { length guest.new.pages.pages ≡ length guest.old.pages.pages }
     ensures steps { guest.new.steps ≡ 3 }
 {

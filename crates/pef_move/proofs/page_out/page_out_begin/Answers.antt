@@ -4,6 +4,7 @@ use Rattle.pef_model.specs.Registers.{load_call, load_page_out}
 use Rattle.pef_move.specs.declared.page_call.PageCall.{PageCall}
 use Rattle.pef_move.proofs.Begun.{whole, keeps, frames, movers, leaves, sealers}
 use Rattle.pef_move.proofs.BegunRows.{row_refused, row_begun}
+use Rattle.pef_frames.specs.Pool.{PoolState}
 use Rattle.pef_guest.specs.declared.guest.Guest.{Guest}
 use Rattle.pef_move.specs.PageOut.{KeepsCpu}
 use Rattle.pef_guest.proofs.Asked.{frames_stay}
@@ -54,3 +55,31 @@ returns-in-Err-clause-does g c pool = record {
       (row_refused g.S.Seal.stands g.S.Seal.image g.S.Seal.takes plan whole part mark c.args.guest.now c.args.cpu.now c.args.call.now shows shows_cpu c.requires.hypervisor c.load_page_out.new.gpr (loads c.args.cpu.now.gpr c.load_page_out.new.gpr c.operands.result c.args.call.now c.load_page_out.ensures.gpr c.operands.ensures)
       c.in-Err.code c.in-Err.ensures.code));
 }
+
+-- The same, for a caller that has no pool.
+any_pool : PoolState
+any_pool = record { count = 0; size = 0; free = [] }
+
+pub returns-in-Ok-clause-whole : goal.returns-in-Ok-clause-whole
+returns-in-Ok-clause-whole g c = (returns-in-Ok-clause-does g c any_pool).whole
+
+pub returns-in-Ok-clause-keeps : goal.returns-in-Ok-clause-keeps
+returns-in-Ok-clause-keeps g c = (returns-in-Ok-clause-does g c any_pool).keeps
+
+pub returns-in-Ok-clause-own : goal.returns-in-Ok-clause-own
+returns-in-Ok-clause-own g c = (returns-in-Ok-clause-does g c any_pool).own
+
+pub returns-in-Ok-clause-works : goal.returns-in-Ok-clause-works
+returns-in-Ok-clause-works g c = (returns-in-Ok-clause-does g c any_pool).works
+
+pub returns-in-Err-clause-whole : goal.returns-in-Err-clause-whole
+returns-in-Err-clause-whole g c = (returns-in-Err-clause-does g c any_pool).whole
+
+pub returns-in-Err-clause-keeps : goal.returns-in-Err-clause-keeps
+returns-in-Err-clause-keeps g c = (returns-in-Err-clause-does g c any_pool).keeps
+
+pub returns-in-Err-clause-own : goal.returns-in-Err-clause-own
+returns-in-Err-clause-own g c = (returns-in-Err-clause-does g c any_pool).own
+
+pub returns-in-Err-clause-works : goal.returns-in-Err-clause-works
+returns-in-Err-clause-works g c = (returns-in-Err-clause-does g c any_pool).works

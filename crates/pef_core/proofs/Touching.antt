@@ -1,0 +1,66 @@
+-- Which steps at a guest touch the pool in the model.
+use Rattle.std.proofs.Common.{◌≡◌, ℕ, ◌==◌, ◌&&◌, Bool, true, false, if◌then◌else◌, List, [], ◌∷◌, slice_index, Option, Some, None, is_some, refl}
+use Rattle.pef_model.specs.declared.state.Move.{Move}
+use Rattle.pef_model.specs.declared.state.Run.{Run}
+use Rattle.pef_model.specs.Memory.{offset_of}
+use Rattle.pef_model.specs.declared.state.Work.TheVariants.{Inward, Outward}
+use Rattle.pef_model.specs.declared.state.Ctx.TheVariants as ctx
+use Rattle.pef_model.specs.declared.command.Code.{Code}
+use Rattle.pef_model.specs.declared.command.Code.TheVariants.{UInvalid}
+use Rattle.pef_model.specs.declared.command.Cmd.{Cmd}
+use Rattle.pef_model.specs.declared.command.Cmd.TheVariants.{GLd, GSt, Go}
+use Rattle.pef_model.specs.declared.entry.Answer.{Answer}
+use Rattle.pef_model.specs.declared.entry.Answer.TheVariants as answer
+use Rattle.pef_model.specs.Plan.{Plan}
+use Rattle.pef_model.specs.Target.{Ask}
+use Rattle.pef_model.specs.GuestPart.{GuestPart, Meeting, Moves, Private, Unbacked, meets}
+use Rattle.pef_model.specs.Guest.{Guest as GuestWhole}
+use Rattle.pef_model.specs.PageOut.{page_out_code}
+use Rattle.pef_model.specs.Deed.{answering, returning, deed_access, deed_running, deed_return, deed_page_out, deed_page_out_begin, may_return_in, is_waiting}
+use Rattle.pef_guest.specs.Aims.{guest_aimed}
+use Rattle.pef_access.specs.Access.{is_unbacked}
+
+-- an access asks for a frame where it meets an Invalid page
+access_asks : (ask : Ask) (success : Answer) (through : ℕ → Answer) (shown : List ℕ) (any : Bool) (r : Meeting) → is_some (deed_access ask success through shown any r).pool ≡ is_unbacked r
+access_asks ask success through shown any Private = refl
+access_asks ask success through shown true Unbacked = refl
+access_asks ask success through shown false Unbacked = refl
+access_asks ask success through shown any Moves = refl
+access_asks ask success through shown any met = refl
+
+pub load_asks : (plan : Plan) (run : Run) (g : GuestWhole) (found : ℕ → ℕ → ℕ) (any : Bool) (ask : Ask) (rd gpa : ℕ) → is_some (deed_running plan run g found any ask (GLd rd gpa)).pool ≡ is_unbacked (meets plan g.part gpa)
+load_asks plan run g found any ask rd gpa = access_asks ask (answer.Val (g.content gpa)) (λ n. answer.Val (found n (offset_of plan gpa))) [] any (meets plan g.part gpa)
+
+pub store_asks : (plan : Plan) (run : Run) (g : GuestWhole) (found : ℕ → ℕ → ℕ) (any : Bool) (ask : Ask) (rs gpa : ℕ) → is_some (deed_running plan run g found any ask (GSt rs gpa)).pool ≡ is_unbacked (meets plan g.part gpa)
+store_asks plan run g found any ask rs gpa = access_asks ask answer.Done (λ n. answer.Done) (slice_index (g.registers run.vid).gpr rs ∷ []) any (meets plan g.part gpa)
+
+-- UV_RETURN asks for none
+pub return_asks_none : (g : GuestPart) (ask : Ask) → is_some (deed_return g ask).pool ≡ false
+return_asks_none g ask = by_test (may_return_in g.phase && is_waiting (g.vcpus ask.vid).state) where
+  by_test : (b : Bool) → is_some (if b then record (answering ask answer.Enter) { after = ctx.Guest (record { lpid = ask.lpid; vid = ask.vid; generation = g.generation }) } else answering ask (answer.Ret UInvalid)).pool ≡ false
+  by_test true = refl
+  by_test false = refl
+
+-- nor does UV_PAGE_OUT
+pub page_out_asks_none : (plan : Plan) (g : GuestWhole) (ask : Ask) (lpid dest gpa flags order : ℕ) → is_some (deed_page_out plan g ask lpid dest gpa flags order).pool ≡ false
+page_out_asks_none plan g ask lpid dest gpa flags order = by_code (page_out_code plan g.part dest gpa flags order) where
+  by_code : (code : Option Code) → is_some (returning ask code (deed_page_out_begin plan g ask lpid dest gpa)).pool ≡ false
+  by_code None = refl
+  by_code (Some code) = refl
+
+-- what aims at a guest with a move in progress is the end of the move
+pub record IsEnd (move : Move) (cmd : Cmd) : Type 0 where
+  pub is : cmd ≡ Go
+  pub copied : move.copied ≡ true
+
+copied_is : (b : Bool) (lpid k : ℕ) → (if b then Some lpid else None) ≡ Some k → b ≡ true
+copied_is true lpid k is = refl
+copied_is false lpid k is = cc
+
+pub ends_in : (move : Move) (l k : ℕ) (cmd : Cmd) → guest_aimed (ctx.Uv (Inward move)) l cmd ≡ Some k → IsEnd move cmd
+ends_in move l k Go is = record { is = refl; copied = copied_is move.copied move.lpid k is }
+ends_in move l k cmd is = absurd cc
+
+pub ends_out : (move : Move) (l k : ℕ) (cmd : Cmd) → guest_aimed (ctx.Uv (Outward move)) l cmd ≡ Some k → IsEnd move cmd
+ends_out move l k Go is = record { is = refl; copied = copied_is move.copied move.lpid k is }
+ends_out move l k cmd is = absurd cc

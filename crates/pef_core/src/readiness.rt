@@ -1,0 +1,128 @@
+//! Whether a step may be done at a guest or at a normal frame, by what can be tested of it, the CPU and the pool.
+
+ghost use Rattle.std.specs.Prelude.{◌≡◌, ◌↔◌, ◌^◌, ◌<◌, true, IsTrue, length};
+ghost use Rattle.pef_model.specs.Deed.{may_return_in};
+ghost use Rattle.pef_guest.specs.Whole.{IsWhole};
+ghost use Rattle.pef_guest.specs.Aims.{guest_aimed};
+ghost use Rattle.pef_guest.specs.Ready.{MayEnd, ReadyIn, IsReadyFor, IsReadyPool};
+ghost use Rattle.pef_core.specs.Frames.{IsPageSize, AimsAtFrame, IsReadyAt};
+
+use pef_frames::{NormalFrame, Pool};
+use pef_guest::{Cpu, Guest};
+use pef_model::{Cmd, Ctx, Move, Mover, Run, Way, Work};
+use pef_seal::Seal;
+
+/// Whether a command of a CPU may be done at a guest, which is whole: the command aims at it; the CPU's hand is of a page's
+/// size; a page whose move the CPU has in progress, in the guest's generation, is marked as its, and of that way; a vCPU that
+/// it selects or runs is one of the guest's, and the phase lets it run; and fewer than 2^63 steps were done on the guest.
+///
+/// Of a machine all this holds at each step.
+pub fn ready<S: Seal>(guest: &Guest<S>, cpu: &Cpu, cmd: &Cmd) -> bool
+    requires { IsWhole S.takes guest.now }
+    ensures { IsTrue result ↔ IsReadyFor S.takes cmd.now guest.now cpu.now }
+{
+    if aimed(cpu, cmd) != Some(u64::from(guest.lpid)) {
+        return false;
+    }
+    if cpu.hand().len() != 1 << guest.shift {
+        return false;
+    }
+    if !works(guest, cpu) {
+        return false;
+    }
+    guest.steps < 1 << 63
+}
+
+/// Whether a pool may be lent to a step of a CPU at a guest, which is whole: it is of the guest's machine, and has room for the
+/// frame of a page whose move the CPU has in progress, in the guest's generation.
+///
+/// Of a machine all this holds at each step.
+pub fn ready_pool<S: Seal>(guest: &Guest<S>, cpu: &Cpu, pool: &Pool) -> bool
+    requires { IsWhole S.takes guest.now }
+    ensures { IsTrue result ↔ IsReadyPool guest.now cpu.now pool.now }
+{
+    if pool.count() != guest.secure || pool.size() != 1 << guest.shift {
+        return false;
+    }
+    match cpu.ctx {
+        Ctx::Uv(Work::Inward(page)) => page.generation != guest.generation || pool.room() > 0,
+        Ctx::Uv(Work::Outward(page)) => page.generation != guest.generation || pool.room() > 0,
+        Ctx::Hv | Ctx::Guest(_) => true,
+    }
+}
+
+/// Whether a command of a CPU may be done at a normal frame of a page's size: it is a load or store of the hypervisor at the
+/// address of a doubleword, or the copy of a page's move, and the CPU's hand is of that size too.
+///
+/// Of a machine all this holds at each step.
+pub fn ready_frame(cpu: &Cpu, frame: &NormalFrame, cmd: &Cmd) -> bool
+    requires { IsPageSize (length frame.now) }
+    ensures { IsTrue result ↔ IsReadyAt cmd.now cpu.now frame.now }
+{
+    cpu.hand().len() == frame.bytes().len() && aims_at_frame(cpu, cmd)
+}
+
+/// Whether a command aims at a normal frame, as far as its CPU tells.
+fn aims_at_frame(cpu: &Cpu, cmd: &Cmd) -> bool
+    ensures { IsTrue result ↔ AimsAtFrame cpu.now.ctx cmd.now }
+{
+    match (cpu.ctx, cmd) {
+        (Ctx::Hv, Cmd::HLd { ra }) => *ra % 8 == 0,
+        (Ctx::Hv, Cmd::HSt { ra, .. }) => *ra % 8 == 0,
+        (Ctx::Uv(Work::Inward(page)), Cmd::Go) => !page.copied,
+        (Ctx::Uv(Work::Outward(page)), Cmd::Go) => !page.copied,
+        _ => false,
+    }
+}
+
+/// The number of the guest at which a command aims that aims at one.
+fn aimed(cpu: &Cpu, cmd: &Cmd) -> Option<u64>
+    ensures { result ≡ guest_aimed cpu.now.ctx cpu.now.lpid cmd.now }
+{
+    match (cpu.ctx, cmd) {
+        (Ctx::Hv, Cmd::UPagein { lpid, .. }) => Some(*lpid),
+        (Ctx::Hv, Cmd::UPageout { lpid, .. }) => Some(*lpid),
+        (Ctx::Hv, Cmd::UReturn { .. }) => Some(u64::from(cpu.lpid)),
+        (Ctx::Uv(Work::Inward(page)), Cmd::Go) if page.copied => Some(u64::from(page.lpid)),
+        (Ctx::Uv(Work::Outward(page)), Cmd::Go) if page.copied => Some(u64::from(page.lpid)),
+        (Ctx::Guest(_), Cmd::HLd { .. } | Cmd::HSt { .. } | Cmd::Go) => None,
+        (Ctx::Guest(run), _) => Some(u64::from(run.lpid)),
+        _ => None,
+    }
+}
+
+/// Whether what the CPU does may go on at the guest.
+fn works<S: Seal>(guest: &Guest<S>, cpu: &Cpu) -> bool
+    ensures { IsTrue result ↔ ReadyIn guest.now cpu.now cpu.now.ctx }
+{
+    match cpu.ctx {
+        Ctx::Hv => cpu.lpid != guest.lpid || (cpu.vid as usize) < guest.vcpus.len(),
+        Ctx::Uv(Work::Inward(page)) => may_end(guest, cpu, Way::Inward, page),
+        Ctx::Uv(Work::Outward(page)) => may_end(guest, cpu, Way::Outward, page),
+        Ctx::Guest(run) => may_run(guest, run),
+    }
+}
+
+/// Whether a page whose move is of the guest's generation is moved by the CPU, this way.
+fn may_end<S: Seal>(guest: &Guest<S>, cpu: &Cpu, way: Way, page: Move) -> bool
+    ensures { IsTrue result ↔ MayEnd guest.now cpu.now way page }
+{
+    if page.generation != guest.generation {
+        return true;
+    }
+    let mover = Mover {
+        cpu: cpu.number,
+        way,
+    };
+    page.gfn < guest.pages.count() && guest.pages.mover(page.gfn) == Some(mover)
+}
+
+/// Whether a vCPU is one of the guest's, whose phase lets it run where it is still in the generation.
+fn may_run<S: Seal>(guest: &Guest<S>, run: Run) -> bool
+    ensures { IsTrue result ↔ (run.vid < length guest.now.vcpus.items) × (run.generation ≡ guest.now.generation → may_return_in guest.now.phase ≡ true) }
+{
+    if run.generation != guest.generation {
+        return (run.vid as usize) < guest.vcpus.len();
+    }
+    (run.vid as usize) < guest.vcpus.len() && guest.may_return()
+}
