@@ -6,10 +6,6 @@ mod page_call;
 mod page_in;
 mod page_out;
 mod route;
-#[cfg(test)]
-mod tests;
-#[cfg(test)]
-mod tests_in;
 
 pub use asks::{asks_for_frame, gives_frame_back, refuses_page};
 pub use page_call::PageCall;
