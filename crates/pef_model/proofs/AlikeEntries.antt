@@ -174,14 +174,14 @@ module _ (plan : Plan) (words : ℕ → List ℕ) (past history : List Event) (e
     by_target (AtFrame n) at = sealed begins (λ lpid touched. let no : false ≡ true = sym (ap (is_guest lpid) (aims ∙ at)) ∙ touched in cc)
     by_target (AtGuest l) at = is_aborting_or (guest_after plan l past).part.phase
         (λ aborts.
-            let bytes = deeds_public plan words past history ask e.trace.cmd f.trace.cmd l same alike.cmd
-            (subst (λ (x : Target). (deed_after plan past ask e.trace.cmd x).shown ≡ (deed_after (with_entropy plan words) history ask f.trace.cmd x).shown) at let_out) aborts in
-            ap (λ (x : Event). x.bytes) is
-            ∙ subst (λ (x : Target). (deed_after plan past ask e.trace.cmd x).bytes ≡ (deed_after (with_entropy plan words) history ask f.trace.cmd x).bytes) (sym at) bytes
-            ∙ sym (ap (λ (x : Event). x.bytes) q))
+        let bytes = deeds_public plan words past history ask e.trace.cmd f.trace.cmd l same alike.cmd
+        (subst (λ (x : Target). (deed_after plan past ask e.trace.cmd x).shown ≡ (deed_after (with_entropy plan words) history ask f.trace.cmd x).shown) at let_out) aborts in
+        ap (λ (x : Event). x.bytes) is
+        ∙ subst (λ (x : Target). (deed_after plan past ask e.trace.cmd x).bytes ≡ (deed_after (with_entropy plan words) history ask f.trace.cmd x).bytes) (sym at) bytes
+        ∙ sym (ap (λ (x : Event). x.bytes) q))
         (λ private.
-            sealed begins (λ lpid touched. let here : l ≡ lpid = test_same l lpid (sym (ap (is_guest lpid) (aims ∙ at)) ∙ touched) in
-                subst (λ (x : ℕ). (guest_after plan x past).part.phase ≢ Aborting) here private))
+        sealed begins (λ lpid touched. let here : l ≡ lpid = test_same l lpid (sym (ap (is_guest lpid) (aims ∙ at)) ∙ touched) in
+        subst (λ (x : ℕ). (guest_after plan x past).part.phase ≢ Aborting) here private))
 
   -- else they agree where those of a page-out that begins do
   bytes_agree : (begins_sealing e ≡ true → e.bytes ≡ f.bytes) → deed.bytes ≡ other_deed.bytes
