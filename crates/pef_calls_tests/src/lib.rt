@@ -1,4 +1,5 @@
-//! The happy path of each public call below the top call, and one call for each refusal.
+//! The happy path of each public call of doublewords, frames, pages and sealers and of a machine's step, and one call for each
+//! refusal.
 #![tactic(auto)]
 
 #[cfg(test)]
