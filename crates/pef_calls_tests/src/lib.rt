@@ -10,4 +10,6 @@ mod num;
 #[cfg(test)]
 mod pages;
 #[cfg(test)]
+mod parts;
+#[cfg(test)]
 mod seal;
