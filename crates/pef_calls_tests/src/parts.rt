@@ -10,7 +10,7 @@ use crate::machine::{immediate, load, store, u_return};
 use pef_core::{Inner, Want, apply_frame, apply_guest, needs, ready, ready_frame, ready_pool};
 use pef_frames::{NormalFrame, Pool};
 use pef_guest::{Cpu, Guest};
-use pef_model::{Answer, Cmd, Code, Config, Exit};
+use pef_model::{Answer, Cmd, Code, Config};
 use pef_seal::{Seal, StreamSeal};
 use std::alloc::{AllocError, Global};
 use std::process::Abort;
@@ -118,6 +118,55 @@ fn selecting(alloc: Global, number: u8, lpid: u16, vid: u8) -> Result<Cpu, Alloc
     Ok(cpu)
 }
 
+/// Takes up the selected vCPU, which stores a value at address 0 of its guest.
+fn enters_and_stores(
+    rt: &impl Abort,
+    guest: &mut Guest<StreamSeal>,
+    cpu: &mut Cpu,
+    pool: &mut Pool,
+    value: u64,
+)
+    requires { IsWhole ⟦<StreamSeal as Seal>⟧.takes guest.old }
+    ensures { IsWhole ⟦<StreamSeal as Seal>⟧.takes guest.new }
+{
+    at_guest(rt, guest, cpu, pool, &u_return(), Answer::Enter);
+    at_guest(rt, guest, cpu, pool, &immediate(value), Answer::Done);
+    at_guest(rt, guest, cpu, pool, &store(0), Answer::Done);
+}
+
+/// Moves a page of a guest from the begin to the end of a call, while a vCPU of another guest loads what it stored, and stores it
+/// again.
+fn moves(
+    rt: &impl Abort,
+    guest: &mut Guest<StreamSeal>,
+    mover: &mut Cpu,
+    begin: &Cmd,
+    other: &mut Guest<StreamSeal>,
+    cpu: &mut Cpu,
+    pool: &mut Pool,
+    frame: &mut NormalFrame,
+)
+    requires guest { IsWhole ⟦<StreamSeal as Seal>⟧.takes guest.old }
+    requires other { IsWhole ⟦<StreamSeal as Seal>⟧.takes other.old }
+    requires size { length frame.old ≡ 256 }
+    ensures guest { IsWhole ⟦<StreamSeal as Seal>⟧.takes guest.new }
+    ensures other { IsWhole ⟦<StreamSeal as Seal>⟧.takes other.new }
+    ensures size { length frame.new ≡ 256 }
+{
+    at_guest(rt, guest, mover, pool, begin, Answer::Step);
+    at_guest(rt, other, cpu, pool, &load(0), Answer::Val(7));
+    copies(rt, mover, frame, 8);
+    at_guest(rt, other, cpu, pool, &store(0), Answer::Done);
+    at_guest(
+        rt,
+        guest,
+        mover,
+        pool,
+        &Cmd::Go,
+        Answer::Ret(Code::USuccess),
+    );
+}
+
 #[test]
 fn a_page_of_guest_2_goes_out_and_in_while_guest_1_runs(rt: HostRuntime) -> Result<(), Fail> {
     let config = config(rt.alloc())?;
@@ -129,15 +178,8 @@ fn a_page_of_guest_2_goes_out_and_in_while_guest_1_runs(rt: HostRuntime) -> Resu
     let mut second = selecting(rt.alloc(), 1, 1, 1)?;
     let mut third = selecting(rt.alloc(), 2, 2, 0)?;
     let mut fourth = selecting(rt.alloc(), 3, 1, 0)?;
-    let done = Answer::Ret(Code::USuccess);
-    at_guest(
-        &rt,
-        &mut one,
-        &mut first,
-        &mut pool,
-        &u_return(),
-        Answer::Enter,
-    );
+    enters_and_stores(&rt, &mut one, &mut first, &mut pool, 7);
+    enters_and_stores(&rt, &mut two, &mut third, &mut pool, 9);
     at_guest(
         &rt,
         &mut one,
@@ -146,100 +188,28 @@ fn a_page_of_guest_2_goes_out_and_in_while_guest_1_runs(rt: HostRuntime) -> Resu
         &u_return(),
         Answer::Enter,
     );
-    at_guest(
-        &rt,
-        &mut two,
-        &mut third,
-        &mut pool,
-        &u_return(),
-        Answer::Enter,
-    );
-    at_guest(
-        &rt,
-        &mut one,
-        &mut first,
-        &mut pool,
-        &immediate(7),
-        Answer::Done,
-    );
-    at_guest(
-        &rt,
-        &mut two,
-        &mut third,
-        &mut pool,
-        &immediate(9),
-        Answer::Done,
-    );
-    at_guest(
-        &rt,
-        &mut two,
-        &mut third,
-        &mut pool,
-        &store(0),
-        Answer::Done,
-    );
-    at_guest(
+    moves(
         &rt,
         &mut two,
         &mut fourth,
-        &mut pool,
         &page_out(),
-        Answer::Step,
-    );
-    at_guest(
-        &rt,
         &mut one,
         &mut first,
         &mut pool,
-        &store(0),
-        Answer::Done,
+        &mut frame,
     );
-    at_guest(
-        &rt,
-        &mut two,
-        &mut third,
-        &mut pool,
-        &load(0),
-        Answer::Again,
-    );
-    copies(&rt, &mut fourth, &mut frame, 8);
-    at_guest(
-        &rt,
-        &mut one,
-        &mut second,
-        &mut pool,
-        &load(0),
-        Answer::Val(7),
-    );
-    at_guest(&rt, &mut two, &mut fourth, &mut pool, &Cmd::Go, done);
     assert_eq!(rt; pool.free(), 15);
     at_guest(&rt, &mut two, &mut third, &mut pool, &load(0), Answer::Hole);
-    at_guest(
+    moves(
         &rt,
         &mut two,
         &mut fourth,
-        &mut pool,
         &page_in(),
-        Answer::Step,
-    );
-    at_guest(
-        &rt,
         &mut one,
         &mut first,
         &mut pool,
-        &store(0x100),
-        Answer::Done,
+        &mut frame,
     );
-    copies(&rt, &mut fourth, &mut frame, 8);
-    at_guest(
-        &rt,
-        &mut one,
-        &mut second,
-        &mut pool,
-        &load(0x100),
-        Answer::Val(7),
-    );
-    at_guest(&rt, &mut two, &mut fourth, &mut pool, &Cmd::Go, done);
     at_guest(
         &rt,
         &mut two,
@@ -251,11 +221,11 @@ fn a_page_of_guest_2_goes_out_and_in_while_guest_1_runs(rt: HostRuntime) -> Resu
     at_guest(
         &rt,
         &mut one,
-        &mut first,
+        &mut second,
         &mut pool,
-        &Cmd::GIrq,
-        Answer::Exit(Exit::Irq),
+        &load(0),
+        Answer::Val(7),
     );
-    assert_eq!(rt; pool.free(), 13);
+    assert_eq!(rt; pool.free(), 14);
     Ok(())
 }
