@@ -11,4 +11,6 @@ mod num;
 #[cfg(test)]
 mod pages;
 #[cfg(test)]
+mod parts;
+#[cfg(test)]
 mod seal;

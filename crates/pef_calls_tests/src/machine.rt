@@ -67,7 +67,7 @@ fn begins(rt: &impl Abort, machine: &Machine<StreamSeal>, number: u32, start: &[
     assert!(rt; bytes.iter().skip(start.len()).all(|byte| *byte == 0));
 }
 
-fn u_return() -> Cmd {
+pub(crate) fn u_return() -> Cmd {
     Cmd::UReturn {
         r0: 0,
         r2: 0,
@@ -75,21 +75,21 @@ fn u_return() -> Cmd {
     }
 }
 
-fn immediate(value: u64) -> Cmd {
+pub(crate) fn immediate(value: u64) -> Cmd {
     Cmd::GLi {
         rd: register(20),
         value,
     }
 }
 
-fn store(gpa: u64) -> Cmd {
+pub(crate) fn store(gpa: u64) -> Cmd {
     Cmd::GSt {
         rs: register(20),
         gpa,
     }
 }
 
-fn load(gpa: u64) -> Cmd {
+pub(crate) fn load(gpa: u64) -> Cmd {
     Cmd::GLd {
         rd: register(6),
         gpa,
