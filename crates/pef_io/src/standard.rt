@@ -1,4 +1,4 @@
-//! What standard input gives and standard output takes is not told, but each of their failures is counted.
+//! A standard device keeps the bytes that it moved, and counts its failures.
 
 ghost use Rattle.std.specs.Prelude.{◌≡◌, ◌↔◌, ◌≤◌, ◌<◌, ◌++◌, [], false, length, take, IfOk, IsTrue, Ok};
 ghost use Rattle.std.specs.Io.KnownBytes.{ReadConsumes, WriteAppends};

@@ -2,7 +2,6 @@
 use Rattle.std.proofs.Common.{◌≡◌, ◌≢◌, ℕ, ◌+◌, ◌-◌, ◌<◌, ◌≤◌, List, [], ◌∷◌, ◌++◌, length, take, drop, Bool, true, false, refl, ap, sym, subst, ◌∙◌, ◌==◌, ◌&&◌, nat_lt, nat_le, if◌then◌else◌, Option, Some, None, arith, length-append, length-take, length-drop, get_or}
 use Rattle.std.proofs.lemmas.List.{get_or-replicate, get_or-drop}
 use Rattle.std.specs.Prelude.{unwrap_or, slice_set}
-use Rattle.std.specs.List.{AllByRecursion}
 use Rattle.std.proofs.Math.ListN.{length-set}
 use Rattle.std.proofs.lemmas.Grind.{common_steps}
 use Rattle.std.proofs.lemmas.Bool.Decides.{nat_tests}
@@ -15,13 +14,14 @@ use Rattle.pef_model.specs.declared.command.Cmd.{Cmd}
 use Rattle.pef_model.specs.declared.command.Cmd.TheVariants.{UPagein, UPageout, UReturn, GLi, GLd, GSt}
 use Rattle.pef_model.specs.declared.entry.Answer.{Answer}
 use Rattle.pef_model.specs.declared.entry.Answer.TheVariants.{Done, Val, Ret, Enter}
+use Rattle.pef_model.specs.Commands.{IsCommand}
 use Rattle.pef_model.specs.Plan.{Plan}
 use Rattle.pef_model.specs.Event.{Event, newest}
 use Rattle.pef_model.specs.Registers.{number_of, load_return, loaded_value}
 use Rattle.pef_model.specs.Target.{touches_guest}
 use Rattle.pef_model.specs.Guest.{Guest, start_guest, entered_at, registers_after_command, registers_of_hypervisor, registers_in, next_guest}
-use Rattle.pef_model.specs.History.{guest_after, reg}
-use Rattle.pef_model.specs.SearchLaw.{decides_register, assigned_by_command, assigned_in, IsCommand, RegIsNewest}
+use Rattle.pef_model.specs.History.{guest_after, reg, IsLegal}
+use Rattle.pef_model.specs.SearchLaw.{decides_register, assigned_by_command, assigned_in, RegIsNewest}
 use Rattle.pef_model.proofs.Folds.{test_same, counts, skips}
 use Rattle.pef_model.proofs.Called.{length-called, called_value}
 
@@ -107,7 +107,7 @@ returned_value gpr outs r0 r2 code r h k small = by_zero (r == 0) refl where
 length_command : (g : Guest) (regs : Regs) (cmd : Cmd) (a : Answer) → IsCommand cmd → length regs.gpr ≡ 32 → length (registers_after_command g regs cmd a).gpr ≡ 32
 length_command g regs (UPagein lpid src gpa flags order) (Ret code) k h = length-called regs.gpr UV_PAGE_IN lpid src gpa flags order (number_of code) h
 length_command g regs (UPageout lpid dest gpa flags order) (Ret code) k h = length-called regs.gpr UV_PAGE_OUT lpid dest gpa flags order (number_of code) h
-length_command g regs (UReturn r0 r2 outs) (Ret code) k h = length-returned (loaded regs.gpr r0 r2) outs r0 r2 (number_of code) (length-loaded regs.gpr r0 r2 h) k
+length_command g regs (UReturn r0 r2 outs) (Ret code) k h = length-returned (loaded regs.gpr r0 r2) outs r0 r2 (number_of code) (length-loaded regs.gpr r0 r2 h) k.2
 length_command g regs (GLi rd value) Done k h = simp length-set h
 length_command g regs (GLd rd gpa) (Val value) k h = simp length-set h
 length_command g regs (GSt rs gpa) Done k h = h
@@ -124,9 +124,9 @@ command_value : (g : Guest) (regs : Regs) (cmd : Cmd) (a : Answer) (r : ℕ) →
     get_or (registers_after_command g regs cmd a).gpr r 0 ≡ unwrap_or (assigned_by_command g cmd a r) (get_or regs.gpr r 0)
 command_value g regs (UPagein lpid src gpa flags order) (Ret code) r k h small = called_value regs.gpr UV_PAGE_IN lpid src gpa flags order (number_of code) r h
 command_value g regs (UPageout lpid dest gpa flags order) (Ret code) r k h small = called_value regs.gpr UV_PAGE_OUT lpid dest gpa flags order (number_of code) r h
-command_value g regs (UReturn r0 r2 outs) (Ret code) r k h small = returned_value regs.gpr outs r0 r2 (number_of code) r h k small
-command_value g regs (GLi rd value) Done r k h small = set_value regs.gpr rd value r h k
-command_value g regs (GLd rd gpa) (Val value) r k h small = set_value regs.gpr rd value r h k
+command_value g regs (UReturn r0 r2 outs) (Ret code) r k h small = returned_value regs.gpr outs r0 r2 (number_of code) r h k.2 small
+command_value g regs (GLi rd value) Done r k h small = set_value regs.gpr rd value r h k.0
+command_value g regs (GLd rd gpa) (Val value) r k h small = set_value regs.gpr rd value r h k.0
 command_value g regs (GSt rs gpa) Done r k h small = refl
 command_value g regs cmd a r k h small = refl
 
@@ -173,18 +173,18 @@ value_after_step (ctx.Guest run) g selected cmd a vid r k full small = by_test (
       ∙ ap (λ (v : ℕ). unwrap_or (assigned_by_command g cmd a r) (get_or (g.registers v).gpr r 0)) (sym (test_same vid run.vid t))
   by_test false t = refl
 
-full_registers : (plan : Plan) (past : List Event) (lpid : ℕ) → AllByRecursion (λ (e : Event). IsCommand e.trace.cmd) past → AreFull (guest_after plan lpid past).registers
-full_registers plan [] lpid commands = λ vid. refl
-full_registers plan (e ∷ past) lpid commands = by_test (full_registers plan past lpid commands.1) (touches_guest plan lpid e) refl where
+full_registers : (plan : Plan) (past : List Event) (lpid : ℕ) → IsLegal plan past → AreFull (guest_after plan lpid past).registers
+full_registers plan [] lpid legal = λ vid. refl
+full_registers plan (e ∷ past) lpid legal = by_test (full_registers plan past lpid legal.1) (touches_guest plan lpid e) refl where
   by_test : AreFull (guest_after plan lpid past).registers → (b : Bool) → touches_guest plan lpid e ≡ b → AreFull (guest_after plan lpid (e ∷ past)).registers
   by_test ih true t =
       subst (λ (g : Guest). AreFull g.registers) (sym (counts (touches_guest plan lpid) (next_guest plan) (start_guest plan lpid) e past t))
-      (full_after e.saw.before (guest_after plan lpid past) e.saw.vid e.trace.cmd e.trace.answer commands.0 ih)
+      (full_after e.saw.before (guest_after plan lpid past) e.saw.vid e.trace.cmd e.trace.answer legal.0.command ih)
   by_test ih false t = subst (λ (g : Guest). AreFull g.registers) (sym (skips (touches_guest plan lpid) (next_guest plan) (start_guest plan lpid) e past t)) ih
 
 pub reg_is_newest : RegIsNewest
-reg_is_newest plan [] lpid vid r small commands = get_or-replicate 32 r 0 0 small
-reg_is_newest plan (e ∷ past) lpid vid r small commands = by_test (reg_is_newest plan past lpid vid r small commands.1) (touches_guest plan lpid e) refl where
+reg_is_newest plan [] lpid vid r small legal = get_or-replicate 32 r 0 0 small
+reg_is_newest plan (e ∷ past) lpid vid r small legal = by_test (reg_is_newest plan past lpid vid r small legal.1) (touches_guest plan lpid e) refl where
   decision : Bool → Option ℕ
   decision b = if b then assigned_in e.saw.before (guest_after plan lpid past) vid e.trace.cmd e.trace.answer r else None
 
@@ -195,7 +195,7 @@ reg_is_newest plan (e ∷ past) lpid vid r small commands = by_test (reg_is_newe
       reg plan (e ∷ past) lpid vid r ≡ newest (decides_register plan lpid vid r) 0 (e ∷ past)
   by_test ih true t =
       ap value (counts (touches_guest plan lpid) (next_guest plan) (start_guest plan lpid) e past t)
-      ∙ value_after_step e.saw.before (guest_after plan lpid past) e.saw.vid e.trace.cmd e.trace.answer vid r commands.0 (full_registers plan past lpid commands.1) small
+      ∙ value_after_step e.saw.before (guest_after plan lpid past) e.saw.vid e.trace.cmd e.trace.answer vid r legal.0.command (full_registers plan past lpid legal.1) small
       ∙ ap (unwrap_or (decision true)) ih
       ∙ ap (λ (b : Bool). unwrap_or (decision b) (newest (decides_register plan lpid vid r) 0 past)) (sym t)
   by_test ih false t =

@@ -1,5 +1,5 @@
 -- Where a page begins to move, and where a vCPU is taken up.
-use Rattle.std.proofs.Common.{◌≡◌, ◌≢◌, ℕ, ◌<◌, List, Bool, true, false, ◌&&◌, nat_le, nat_lt, if◌then◌else◌, Option, Some, None, refl, ap, sym, subst, ◌∙◌, arith}
+use Rattle.std.proofs.Common.{◌≡◌, ◌≢◌, ℕ, ◌<◌, List, Bool, true, false, nat_lt, if◌then◌else◌, Option, Some, None, refl, ap, sym, subst, ◌∙◌, arith}
 use Rattle.std.specs.Prelude.{is_some, ◌↔◌}
 use Rattle.std.proofs.lemmas.Grind.{common_steps}
 use Rattle.std.proofs.lemmas.Bool.Decides.{nat_tests}
@@ -9,20 +9,18 @@ use Rattle.pef_model.specs.declared.state.Mover.{Mover}
 use Rattle.pef_model.specs.declared.state.Ctx.TheVariants as ctx
 use Rattle.pef_model.specs.declared.command.Cmd.{Cmd}
 use Rattle.pef_model.specs.declared.command.Cmd.TheVariants.{HLd, HSt, UPagein, UPageout, UReturn}
-use Rattle.pef_model.specs.declared.command.TheConstants.{PAGE_IN_FLAGS}
 use Rattle.pef_model.specs.declared.entry.Answer.{Answer}
 use Rattle.pef_model.specs.declared.entry.Answer.TheVariants.{Step, Enter}
 use Rattle.pef_model.specs.Plan.{Plan}
 use Rattle.pef_model.specs.Event.{Event}
 use Rattle.pef_model.specs.Target.{Ask, Alone, AtFrame, frame_of, has_real_place}
 use Rattle.pef_model.specs.Cpu.{CpuPart}
-use Rattle.pef_model.specs.GuestPart.{GuestPart, page_of, is_shared}
+use Rattle.pef_model.specs.GuestPart.{Page, GuestPart, page_of, is_shared}
 use Rattle.pef_model.specs.PageOut.{is_starting}
 use Rattle.pef_model.specs.Deed.{Deed, may_return_in, is_waiting, deed_return}
 use Rattle.pef_model.specs.History.{cpu_after, pool_after, deed_after, Extends, part_after, page_after}
-use Rattle.pef_model.specs.CauseLaw.{IsReadyIn, IsReadyOut, PageInFinds, PageOutFinds, BeginCause, BeginsPageIn, BeginsPageOut, BeginsExactlyWhere, EntersExactlyWhere}
-use Rattle.pef_model.proofs.Folds.{same_test, test_same}
-use Rattle.pef_model.proofs.BusyAnswers.{in_deed, out_deed, within_test, test_within, not_below, below_not, none_free}
+use Rattle.pef_model.specs.CauseLaw.{IsReadyIn, IsReadyOut, BeginCause, BeginsPageIn, BeginsPageOut, BeginsExactlyWhere, EntersExactlyWhere}
+use Rattle.pef_model.proofs.PageCalls.{in_answer, out_answer, in_answers, out_answers, page_in_finds, page_out_finds, comes_unshared}
 use Rattle.pef_model.proofs.DeedOf.{ask_in, deed_in, deed_is}
 
 some_free : (n : ℕ) → nat_lt 0 n ≡ true → 0 < n
@@ -46,93 +44,19 @@ starting_not phase.Starting other = absurd (other refl)
 starting_not phase.Secure other = refl
 starting_not phase.Aborting other = refl
 
--- what a page-in that begins names and finds
-page_in_from : (plan : Plan) (past : List Event) (e : Event) (ask : Ask) (lpid src gpa flags order : ℕ) → e.saw.before ≡ ctx.Hv → e.trace.cmd ≡ UPagein lpid src gpa flags order →
-    (b : Bool) → (nat_le 1 lpid && nat_le lpid plan.guests) ≡ b → (in_deed plan past ask lpid src gpa flags order b).answer ≡ Step → PageInFinds IsReadyIn plan past e
-page_in_from plan past e ask lpid src gpa flags order before cmd_is false t h = cc
-page_in_from plan past e ask lpid src gpa flags order before cmd_is true t h = record {
-  lpid = lpid;
-  src = src;
-  gpa = gpa;
-  flags = flags;
-  order = order;
-  before = before;
-  cmd_is = cmd_is;
-  right = record {
-    guest = within_test lpid plan.guests t;
-    phase = grind (arith, common_steps);
-    frame = grind (arith, common_steps);
-    page = grind (arith, common_steps);
-    flags_are = not_below PAGE_IN_FLAGS flags (grind (arith, common_steps));
-    order_is = test_same order plan.shift (grind (arith, common_steps));
-  };
-  found = (at_rest (page_after plan past lpid (page_of plan gpa)).mover (grind (arith, common_steps)), λ other. some_free (pool_after plan past) (grind (arith, common_steps)));
-}
+-- what a page-in that begins finds
+ready_in : (page : Page) (free : ℕ) → in_answer page free ≡ Step → IsReadyIn page free
+ready_in page free h = (at_rest page.mover (grind (arith, common_steps)), λ other. some_free free (grind (arith, common_steps)))
+
+in_ready : (page : Page) (free : ℕ) → is_shared page.kind ≡ false → IsReadyIn page free → in_answer page free ≡ Step
+in_ready page free other ready = rw (ready.0, free_test free (ready.1 other)) refl
 
 -- and a page-out
-page_out_from : (plan : Plan) (past : List Event) (e : Event) (ask : Ask) (lpid dest gpa flags order : ℕ) → e.saw.before ≡ ctx.Hv → e.trace.cmd ≡ UPageout lpid dest gpa flags order →
-    (b : Bool) → (nat_le 1 lpid && nat_le lpid plan.guests) ≡ b → (out_deed plan past ask lpid dest gpa flags order b).answer ≡ Step → PageOutFinds IsReadyOut plan past e
-page_out_from plan past e ask lpid dest gpa flags order before cmd_is false t h = cc
-page_out_from plan past e ask lpid dest gpa flags order before cmd_is true t h = record {
-  lpid = lpid;
-  dest = dest;
-  gpa = gpa;
-  flags = flags;
-  order = order;
-  before = before;
-  cmd_is = cmd_is;
-  right = record {
-    guest = within_test lpid plan.guests t;
-    phase = grind (arith, common_steps);
-    frame = grind (arith, common_steps);
-    page = grind (arith, common_steps);
-    kind = grind (arith, common_steps);
-    flags_are = none_free flags (grind (arith, common_steps));
-    order_is = test_same order plan.shift (grind (arith, common_steps));
-  };
-  found = (
-    grind (arith, common_steps),
-    not_starting (part_after plan past lpid).phase (grind (arith, common_steps)),
-    at_rest (page_after plan past lpid (page_of plan gpa)).mover (grind (arith, common_steps)),
-  );
-}
+ready_out : (p : Phase) (page : Page) → out_answer p page ≡ Step → IsReadyOut p page
+ready_out p page h = (grind (arith, common_steps), not_starting p (grind (arith, common_steps)), at_rest page.mover (grind (arith, common_steps)))
 
--- a page that can come in isn't Shared
-comes_unshared : (plan : Plan) (past : List Event) (e : Event) (asks : PageInFinds IsReadyIn plan past e) → is_shared (page_after plan past asks.lpid (page_of plan asks.gpa)).kind ≡ false
-comes_unshared plan past e asks = let page = asks.right.page in grind (arith, common_steps)
-
--- and what names and finds this begins
-page_in_begins : (plan : Plan) (past : List Event) (e : Event) (ask : Ask) (asks : PageInFinds IsReadyIn plan past e) →
-    (in_deed plan past ask asks.lpid asks.src asks.gpa asks.flags asks.order (nat_le 1 asks.lpid && nat_le asks.lpid plan.guests)).answer ≡ Step
-page_in_begins plan past e ask asks =
-    rw (
-      test_within asks.lpid plan.guests asks.right.guest,
-      asks.right.phase,
-      asks.right.frame,
-      asks.right.page,
-      below_not PAGE_IN_FLAGS asks.flags asks.right.flags_are,
-      asks.right.order_is,
-      same_test plan.shift,
-      asks.found.0,
-      free_test (pool_after plan past) (asks.found.1 (comes_unshared plan past e asks)),
-    ) refl
-
-page_out_begins : (plan : Plan) (past : List Event) (e : Event) (ask : Ask) (asks : PageOutFinds IsReadyOut plan past e) →
-    (out_deed plan past ask asks.lpid asks.dest asks.gpa asks.flags asks.order (nat_le 1 asks.lpid && nat_le asks.lpid plan.guests)).answer ≡ Step
-page_out_begins plan past e ask asks =
-    rw (
-      test_within asks.lpid plan.guests asks.right.guest,
-      asks.right.phase,
-      asks.right.frame,
-      asks.right.page,
-      asks.right.kind,
-      asks.right.flags_are,
-      asks.right.order_is,
-      same_test plan.shift,
-      asks.found.0,
-      starting_not (part_after plan past asks.lpid).phase asks.found.1,
-      asks.found.2,
-    ) refl
+out_ready : (p : Phase) (page : Page) → IsReadyOut p page → out_answer p page ≡ Step
+out_ready p page ready = rw (ready.0, starting_not p ready.1, ready.2) refl
 
 -- no other command of the hypervisor begins a call
 load_begins_none : (plan : Plan) (past : List Event) (ask : Ask) (ra : ℕ) (b : Bool) → (deed_after plan past (record ask { before = ctx.Hv }) (HLd ra) (if b then AtFrame (frame_of plan ra) else Alone)).answer ≢ Step
@@ -149,8 +73,8 @@ module _ (plan : Plan) (past : List Event) (e : Event) (extends : Extends plan p
   cpu = cpu_after plan e.trace.cpu past
 
   begins_from : (cmd : Cmd) → e.trace.cmd ≡ cmd → (deed_in plan past cpu ctx.Hv cmd).answer ≡ Step → BeginCause plan past e
-  begins_from (UPagein lpid src gpa flags order) cmd_is h = BeginsPageIn (page_in_from plan past e (ask_in cpu ctx.Hv (UPagein lpid src gpa flags order)) lpid src gpa flags order before cmd_is (nat_le 1 lpid && nat_le lpid plan.guests) refl h)
-  begins_from (UPageout lpid dest gpa flags order) cmd_is h = BeginsPageOut (page_out_from plan past e (ask_in cpu ctx.Hv (UPageout lpid dest gpa flags order)) lpid dest gpa flags order before cmd_is (nat_le 1 lpid && nat_le lpid plan.guests) refl h)
+  begins_from (UPagein lpid src gpa flags order) cmd_is h = BeginsPageIn (page_in_finds plan past (ask_in cpu ctx.Hv (UPagein lpid src gpa flags order)) lpid src gpa flags order IsReadyIn e Step before cmd_is refl h (λ other. ready_in (page_after plan past lpid (page_of plan gpa)) (pool_after plan past)))
+  begins_from (UPageout lpid dest gpa flags order) cmd_is h = BeginsPageOut (page_out_finds plan past (ask_in cpu ctx.Hv (UPageout lpid dest gpa flags order)) lpid dest gpa flags order IsReadyOut e Step before cmd_is refl h (ready_out (part_after plan past lpid).phase (page_after plan past lpid (page_of plan gpa))))
   begins_from (HLd ra) cmd_is h = absurd (load_begins_none plan past (ask_in cpu ctx.Hv (HLd ra)) ra (has_real_place plan ra) h)
   begins_from (HSt ra value) cmd_is h = absurd (store_begins_none plan past (ask_in cpu ctx.Hv (HSt ra value)) ra value (has_real_place plan ra) h)
   begins_from (UReturn r0 r2 outs) cmd_is h = absurd (return_begins_none (part_after plan past cpu.lpid) (ask_in cpu ctx.Hv (UReturn r0 r2 outs)) h)
@@ -162,10 +86,12 @@ module _ (plan : Plan) (past : List Event) (e : Event) (extends : Extends plan p
   begins_to : BeginCause plan past e → e.trace.answer ≡ Step
   begins_to (BeginsPageIn asks) =
       let cmd : Cmd = UPagein asks.lpid asks.src asks.gpa asks.flags asks.order in
-      answer_is cmd asks.cmd_is ∙ page_in_begins plan past e (ask_in cpu ctx.Hv cmd) asks
+      answer_is cmd asks.cmd_is ∙ in_answers plan past (ask_in cpu ctx.Hv cmd) asks.lpid asks.src asks.gpa asks.flags asks.order asks.right
+      ∙ in_ready (page_after plan past asks.lpid (page_of plan asks.gpa)) (pool_after plan past) (comes_unshared plan past (ask_in cpu ctx.Hv cmd) asks.lpid asks.src asks.gpa asks.flags asks.order asks.right) asks.found
   begins_to (BeginsPageOut asks) =
       let cmd : Cmd = UPageout asks.lpid asks.dest asks.gpa asks.flags asks.order in
-      answer_is cmd asks.cmd_is ∙ page_out_begins plan past e (ask_in cpu ctx.Hv cmd) asks
+      answer_is cmd asks.cmd_is ∙ out_answers plan past (ask_in cpu ctx.Hv cmd) asks.lpid asks.dest asks.gpa asks.flags asks.order asks.right
+      ∙ out_ready (part_after plan past asks.lpid).phase (page_after plan past asks.lpid (page_of plan asks.gpa)) asks.found
 
 pub begins_exactly_where : BeginsExactlyWhere
 begins_exactly_where plan past e extends before = (

@@ -1,18 +1,23 @@
 -- Lemmas on what is read: its configuration is in its ranges, and its lines are counted.
-use Rattle.std.proofs.Common.{◌≡◌, ◌≤◌, ℕ, ◌+◌, ◌<◌, Bool, true, false, cond, ◌&&◌, List, [], ◌∷◌, length, map, get_or, refl, ap, ◌∙◌, arith, rules, subst, zero, suc}
+use Rattle.std.proofs.Common.{◌≡◌, ◌≤◌, ℕ, ◌+◌, ◌<◌, Bool, true, false, cond, ◌&&◌, List, [], ◌∷◌, length, map, replicate, get_or, refl, ap, sym, ◌^◌, ◌∙◌, arith, rules, subst, zero, suc}
 use Rattle.std.specs.Prelude.{Option, Some, None, codes, nat_le, option_and_then, IfSome}
+use Rattle.std.specs.List.{AllByRecursion}
 use Rattle.std.specs.Str.{bytes_eq}
 use Rattle.std.specs.List.Sorted.{IsStrictlyIncreasing}
 use Rattle.std.proofs.lemmas.Bool.Decides.{nat_tests}
 use Rattle.std.proofs.lemmas.Option.{cond_some, option_and_then_some, same_Some}
 use Rattle.pef_model.specs.declared.config.Config.{Config}
+use Rattle.pef_model.specs.declared.command.Directive.{Directive}
+use Rattle.pef_model.specs.declared.command.Directive.TheVariants.{Once, GoAll}
 use Rattle.pef_model.specs.declared.command.Cmd.TheVariants.{HLd, HSt, UPagein, UPageout, UReturn, GLi, GLd, GSt, GIrq, Go}
 use Rattle.pef_model.specs.GrammarLaw.{IsReadFrom, WritableIsCommand}
 use Rattle.pef_model.specs.Header.{Header, born_one, word_after, after_value, with_line, vault_in, with_shift, with_normal, with_secure, with_cpus, with_pages, with_seal, header_of}
+use Rattle.pef_model.specs.Commands.{IsCommand}
 use Rattle.pef_model.specs.Plan.{IsWithin, IsInRange}
-use Rattle.pef_model.specs.Script.{Line, Script, IsScript, Reads, command_lines, with_commands, begun, script_behind, script_in}
-use Rattle.pef_model.specs.ScriptText.{CountsFrom, HasDefaults, IsWritable}
+use Rattle.pef_model.specs.Script.{Line, Script, IsScript, Reads, first_command, command_lines, with_commands, begun, script_behind, script_in}
+use Rattle.pef_model.specs.ScriptText.{CountsFrom, HasDefaults, DirectiveCanBeWritten, IsWritable}
 use Rattle.pef_model.specs.Words.{number_in, number_within, words_of, lines_of}
+use Rattle.pef_model.proofs.Lists.{all_give}
 use Rattle.pef_model.proofs.ReadCommands.{AreRead, command_lines_read}
 
 -- a number that is read in a range is within it
@@ -176,22 +181,34 @@ numbers_rise n lines counts k h =
     let all = numbers lines in
     omega (arith, number_at n lines k counts (omega arith), number_at n lines (k + 1) counts (omega arith))
 
+-- a command that can be written is one: zeros have 64 bits
+zeros_fit : AllByRecursion (λ (n : ℕ). n < 2 ^ 64) (replicate 9 0)
+zeros_fit = search rules
+
+pub writable_is_command : WritableIsCommand
+writable_is_command (HLd ra) can = can
+writable_is_command (HSt ra value) can = can
+writable_is_command (UPagein lpid src gpa flags order) can = can
+writable_is_command (UPageout lpid dest gpa flags order) can = can
+writable_is_command (UReturn r0 r2 outs) can = (can.0, can.1, ap (length {A = ℕ}) can.2, subst (AllByRecursion (λ (n : ℕ). n < 2 ^ 64)) (sym can.2) zeros_fit)
+writable_is_command (GLi rd value) can = can
+writable_is_command (GLd rd gpa) can = can
+writable_is_command (GSt rs gpa) can = can
+writable_is_command GIrq can = tt
+writable_is_command Go can = tt
+
+first_is_command : (d : Directive) → DirectiveCanBeWritten d → IsCommand (first_command d)
+first_is_command (Once cmd) can = writable_is_command cmd can
+first_is_command GoAll can = tt
+
 -- what is read is a script
 pub script_is_script : (text : List ℕ) (s : Script) → Reads text s → IsScript s
 script_is_script text s reads =
     let found = read_from text s reads in
     let writable = found.1.writable in
-    record { config = writable.range; rises = numbers_rise found.0 s.lines writable.counts; cpus = writable.cpus }
-
--- a command that can be written has the registers, the outputs and the value of a command
-pub writable_is_command : WritableIsCommand
-writable_is_command (HLd ra) can = tt
-writable_is_command (HSt ra value) can = can.1
-writable_is_command (UPagein lpid src gpa flags order) can = tt
-writable_is_command (UPageout lpid dest gpa flags order) can = tt
-writable_is_command (UReturn r0 r2 outs) can = ap (length {A = ℕ}) can.2
-writable_is_command (GLi rd value) can = can.0
-writable_is_command (GLd rd gpa) can = can.0
-writable_is_command (GSt rs gpa) can = can.0
-writable_is_command GIrq can = tt
-writable_is_command Go can = tt
+    record {
+      config = writable.range;
+      rises = numbers_rise found.0 s.lines writable.counts;
+      cpus = writable.cpus;
+      commands = all_give (λ (line : Line). DirectiveCanBeWritten line.directive) (λ (line : Line). IsCommand (first_command line.directive)) s.lines (λ line can. first_is_command line.directive can) writable.directives;
+    }

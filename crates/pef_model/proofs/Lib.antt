@@ -78,6 +78,7 @@ pub mod InvalidPages
 pub mod TagBytes
 pub mod ToldEntries
 pub mod GuestsKeep
+pub mod PageCalls
 pub mod BusyAnswers
 mod Unworded
 mod Taken

@@ -12,6 +12,7 @@ use Rattle.pef_model.specs.declared.command.Cmd.{Cmd}
 use Rattle.pef_model.specs.declared.command.Cmd.TheVariants.{HSt, Go}
 use Rattle.pef_model.specs.declared.entry.Answer.{Answer}
 use Rattle.pef_model.specs.declared.entry.Answer.TheVariants.{Done, Step}
+use Rattle.pef_model.specs.Commands.{IsCommand}
 use Rattle.pef_model.specs.Plan.{Plan, plan_of, IsInRange}
 use Rattle.pef_model.specs.Event.{Event}
 use Rattle.pef_model.specs.Doubleword.{doubleword, with_doubleword}
@@ -161,15 +162,16 @@ frames_hold_last_norm config past ra range legal placed = let holds = frame_hold
 
 -- after a store it is the value that was stored
 pub store_is_last_norm : StoreIsLastNorm
-store_is_last_norm config past e ra value range legal before cmd_is answer_is small =
+store_is_last_norm config past e ra value range legal before cmd_is answer_is =
     let plan : Plan = plan_of config in
     let n : ℕ = frame_of plan ra in
     let off : ℕ = offset_of plan ra in
     let old : List ℕ = frame_after plan n past in
+    let command : IsCommand (HSt ra value) = subst IsCommand cmd_is legal.0.command in
     let placed = store_is_placed plan past e ra value legal.0 before cmd_is answer_is in
     let now = frame_holds config past ra range legal.1 placed.place in
     let fits : off + 8 ≤ length old = let room = room_at plan.shift ra range.shift.0 (aligned plan ra placed.place) in let size = now.size in omega arith in
     let writes : writes_of plan e ≡ write_in plan ctx.Hv (HSt ra value) Done e.bytes n = (λ i. writes_in plan (before i) (cmd_is i) (answer_is i) e.bytes (placed.frame i)) in
     let written : frame_after plan n (e ∷ past) ≡ with_doubleword old off value =
     frame_written plan e past n ∙ ap (after_writes n old) writes ∙ ap (λ (b : Bool). if b then overwritten old off (big_bytes 8 value) else old) (same_test n) ∙ doubleword_overwrites old off value in
-    sym (frames_hold_last_norm config (e ∷ past) ra range legal placed.place) ∙ ap (λ (bytes : List ℕ). doubleword bytes off) written ∙ doubleword-put old off value fits small
+    sym (frames_hold_last_norm config (e ∷ past) ra range legal placed.place) ∙ ap (λ (bytes : List ℕ). doubleword bytes off) written ∙ doubleword-put old off value fits command.1

@@ -1,6 +1,5 @@
 -- The hypervisor has 32 registers on each CPU.
 use Rattle.std.proofs.Common.{◌≡◌, ℕ, List, [], ◌∷◌, length, Bool, true, false, arith, refl, ap, ◌∙◌, length-append, length-take, length-drop, Option, Some, None}
-use Rattle.std.specs.List.{AllByRecursion}
 use Rattle.std.proofs.Math.ListN.{length-set}
 use Rattle.pef_model.specs.declared.state.Ctx.{Ctx}
 use Rattle.pef_model.specs.declared.state.Ctx.TheVariants as ctx
@@ -16,8 +15,8 @@ use Rattle.pef_model.specs.Event.{Event}
 use Rattle.pef_model.specs.Registers.{load_return, load_page_in, load_page_out}
 use Rattle.pef_model.specs.Target.{touches_cpu, caller}
 use Rattle.pef_model.specs.Cpu.{CpuPart, start_cpu, next_cpu, own_after, own_after_call, own_after_load, cpu_in, cpu_of_guest, cpu_of_call}
-use Rattle.pef_model.specs.History.{cpu_after}
-use Rattle.pef_model.specs.SearchLaw.{IsCommand}
+use Rattle.pef_model.specs.History.{cpu_after, IsLegal}
+use Rattle.pef_model.specs.Commands.{IsCommand}
 use Rattle.pef_model.proofs.Folds.{counts, skips}
 use Rattle.pef_model.proofs.Called.{length-loaded}
 
@@ -40,7 +39,7 @@ after_command : (own : List ℕ) (cmd : Cmd) (a : Answer) → IsCommand cmd → 
 after_command own (HLd ra) a k h = after_load own a h
 after_command own (UPagein lpid src gpa flags order) a k h = after_call (load_page_in own lpid src gpa flags order) a (length-loaded own UV_PAGE_IN lpid src gpa flags order h)
 after_command own (UPageout lpid dest gpa flags order) a k h = after_call (load_page_out own lpid dest gpa flags order) a (length-loaded own UV_PAGE_OUT lpid dest gpa flags order h)
-after_command own (UReturn r0 r2 outs) a k h = after_call (load_return own r0 r2 outs) a (length-load_return own outs r0 r2 h k)
+after_command own (UReturn r0 r2 outs) a k h = after_call (load_return own r0 r2 outs) a (length-load_return own outs r0 r2 h k.2)
 after_command own cmd a k h = h
 
 -- and so does a step of a vCPU
@@ -62,9 +61,9 @@ after_step cpu (ctx.Uv work) cmd a shown k h = after_work cpu (caller work) a sh
 after_step cpu (ctx.Guest run) cmd a shown k h = after_guest cpu run a shown h
 
 -- by induction over the history
-pub own_registers : (plan : Plan) (past : List Event) (n : ℕ) → AllByRecursion (λ (e : Event). IsCommand e.trace.cmd) past → length (cpu_after plan n past).own ≡ 32
-own_registers plan [] n commands = refl
-own_registers plan (e ∷ past) n commands = by_test (own_registers plan past n commands.1) (touches_cpu n e) refl where
+pub own_registers : (plan : Plan) (past : List Event) (n : ℕ) → IsLegal plan past → length (cpu_after plan n past).own ≡ 32
+own_registers plan [] n legal = refl
+own_registers plan (e ∷ past) n legal = by_test (own_registers plan past n legal.1) (touches_cpu n e) refl where
   cpu : CpuPart
   cpu = cpu_after plan n past
 
@@ -74,5 +73,5 @@ own_registers plan (e ∷ past) n commands = by_test (own_registers plan past n 
   by_test : length cpu.own ≡ 32 → (b : Bool) → touches_cpu n e ≡ b → length (cpu_after plan n (e ∷ past)).own ≡ 32
   by_test ih true t =
       ap own (counts (touches_cpu n) next_cpu (start_cpu plan) e past t)
-      ∙ after_step cpu e.saw.before e.trace.cmd e.trace.answer e.saw.shown commands.0 ih
+      ∙ after_step cpu e.saw.before e.trace.cmd e.trace.answer e.saw.shown legal.0.command ih
   by_test ih false t = ap own (skips (touches_cpu n) next_cpu (start_cpu plan) e past t) ∙ ih

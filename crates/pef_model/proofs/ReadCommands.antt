@@ -16,7 +16,7 @@ use Rattle.pef_model.specs.ScriptText.{CanBeWritten, DirectiveCanBeWritten, Coun
 use Rattle.pef_model.specs.Words.{words_of, numeral_in, number_in, number_below, register_at, register_in}
 
 -- what holds of what is found, if anything is
-abbrev Holds : {A : Type 0} → (A → Type 0) → Option A → Type 0
+abbrev pub Holds : {A : Type 0} → (A → Type 0) → Option A → Type 0
 Holds {A} P found = (a : A) → found ≡ Some a → P a
 
 -- where nothing is found it holds
@@ -29,7 +29,7 @@ either_holds {A} P true a b h k = h
 either_holds {A} P false a b h k = k
 
 -- a value is in the limit if there is one
-abbrev AllBelow : ℕ → Option ℕ → Type 0
+abbrev pub AllBelow : ℕ → Option ℕ → Type 0
 AllBelow limit found = Holds (λ n. n < limit) found
 
 numeral_below : (radix most : ℕ) (ds : List ℕ) → AllBelow (2 ^ 64) (numeral_in radix most ds)
@@ -42,7 +42,7 @@ numeral_below radix most ds n e =
     let below : digits_value radix ds < 2 ^ 64 = ltb-true _ _ fits in
     omega (arith, found.1, below)
 
-number_fits : (word : List ℕ) → AllBelow (2 ^ 64) (number_in word)
+pub number_fits : (word : List ℕ) → AllBelow (2 ^ 64) (number_in word)
 number_fits word = either_holds (λ n. n < 2 ^ 64) (starts_with nat_eq word (codes "0x")) _ _ (numeral_below 16 16 (drop 2 word)) (numeral_below 10 20 word)
 
 register_at_below : (found : Option ℕ) → AllBelow 32 (register_at found)
@@ -52,7 +52,7 @@ register_at_below (Some n) r e =
     let below : n < 32 = ltb-true n 32 found.0 in
     omega (arith, found.1, below)
 
-register_below : (word : List ℕ) → AllBelow 32 (register_in word)
+pub register_below : (word : List ℕ) → AllBelow 32 (register_in word)
 register_below word = either_holds (λ n. n < 32) _ _ None (register_at_below (numeral_in 10 2 (drop 1 word))) (none_holds (λ n. n < 32))
 
 -- a command can be written if there is one

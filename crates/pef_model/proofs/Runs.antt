@@ -6,11 +6,12 @@ use Rattle.pef_model.specs.declared.command.Cmd.{Cmd}
 use Rattle.pef_model.specs.declared.command.Cmd.TheVariants.{Go}
 use Rattle.pef_model.specs.declared.command.Directive.{Directive}
 use Rattle.pef_model.specs.declared.command.Directive.TheVariants.{Once, GoAll}
+use Rattle.pef_model.specs.Commands.{IsCommand}
 use Rattle.pef_model.specs.Plan.{Plan, plan_of}
 use Rattle.pef_model.specs.Event.{Event}
 use Rattle.pef_model.specs.Target.{touches_cpu}
-use Rattle.pef_model.specs.Script.{Line, Script}
-use Rattle.pef_model.specs.Run.{first_command, command_after, command_at, entry_after, with_directive, run_after, run_of, next_of}
+use Rattle.pef_model.specs.Script.{Line, Script, first_command}
+use Rattle.pef_model.specs.Run.{command_after, command_at, entry_after, with_directive, run_after, run_of, next_of}
 use Rattle.pef_model.proofs.Folds.{same_test, keeps}
 use Rattle.pef_model.proofs.Lists.{all_give, both_give, all_kept}
 use Rattle.std.proofs.lemmas.Bool.{ne_eqb, le-ltb}
@@ -44,6 +45,7 @@ record IsLineOf (plan : Plan) (script : Script) (line : Line) : Type 0 where
   later : List Line
   is : script.lines ≡ reverse_aux earlier (line ∷ later)
   cpu : line.cpu < plan.cpus
+  command : IsCommand (first_command line.directive)
   falls : AreBelow line.number earlier
 
 -- a history of the earlier lines and entries of a line, which gives this command next
@@ -67,13 +69,13 @@ gives_after past e line number cpu =
     ∙ rw (le-ltb e.trace.line line.number (omega (arith, number)), number, same_test line.number) refl
 
 -- the line's entry makes it longer
-one_more : {plan : Plan} {script : Script} {line : Line} (of : IsLineOf plan script line) (past : List Event) (cmd : Cmd) → IsAt of past (Some cmd) →
+one_more : {plan : Plan} {script : Script} {line : Line} (of : IsLineOf plan script line) (past : List Event) (cmd : Cmd) → IsCommand cmd → IsAt of past (Some cmd) →
     IsAt of (entry_after plan past line cmd ∷ past) (command_after line.directive (entry_after plan past line cmd))
-one_more {plan = plan} {script = script} {line = line} of past cmd at =
+one_more {plan = plan} {script = script} {line = line} of past cmd command at =
     let e : Event = entry_after plan past line cmd in
     record {
       part = record {
-        legal = (record { cpu = of.cpu; is = refl }, at.part.legal);
+        legal = (record { cpu = of.cpu; command = command; is = refl }, at.part.legal);
         part = (record { step = next_is script past of.earlier line of.later cmd of.is at.done at.gives; place = refl }, at.part.part);
         order = (at.upto, at.part.order);
         stamped = (refl, at.part.stamped);
@@ -92,35 +94,38 @@ gos_more {plan = plan} {line = line} of past (suc n) m all left at =
     let before : List Event = gos plan n past line in
     let next = further plan before line m (gos_go_on plan n (suc m) past line (omega (arith, left))).1 in
     subst (IsAt of (gos plan (suc n) past line)) (ap (λ (d : Directive). command_after d (entry_after plan before line Go)) all ∙ ap (λ (ends : Bool). cond ends None (Some Go)) next.0.goes_on)
-    (one_more of before Go (gos_more of past n (suc m) all (omega (arith, left)) at))
+    (one_more of before Go tt (gos_more of past n (suc m) all (omega (arith, left)) at))
 
 -- and those of a directive, after which the line is done
 directive_more : {plan : Plan} {script : Script} {line : Line} (of : IsLineOf plan script line) (past : List Event) (directive : Directive) → line.directive ≡ directive →
     IsAt of past (Some (first_command directive)) → IsAt of (with_directive plan past line directive) None
 directive_more {plan = plan} {line = line} of past (Once cmd) is at =
-    subst (IsAt of (entry_after plan past line cmd ∷ past)) (ap (λ (d : Directive). command_after d (entry_after plan past line cmd)) is) (one_more of past cmd at)
+    subst (IsAt of (entry_after plan past line cmd ∷ past)) (ap (λ (d : Directive). command_after d (entry_after plan past line cmd)) is)
+    (one_more of past cmd (subst (λ (d : Directive). IsCommand (first_command d)) is of.command) at)
 directive_more {plan = plan} {line = line} of past GoAll is at =
     let n : ℕ = gos_left (ctx_at plan past line) in
     let before : List Event = gos plan n past line in
     let ends = last plan before line (gos_go_on plan n 0 past line (omega arith)).1 in
     subst (λ (xs : List Event). IsAt of xs None) (sym (most_gos_is plan past line))
     (subst (IsAt of (gos plan (suc n) past line)) (ap (λ (d : Directive). command_after d (entry_after plan before line Go)) is ∙ ap (λ (b : Bool). cond b None (Some Go)) ends)
-    (one_more of before Go (gos_more of past n 0 is (omega arith) at)))
+    (one_more of before Go tt (gos_more of past n 0 is (omega arith) at)))
 
 -- a line gives its first command after entries of earlier lines
 gives_first : (own : List Event) (line : Line) → AllByRecursion (λ (e : Event). e.trace.line < line.number) own → command_at own line ≡ Some (first_command line.directive)
 gives_first [] line below = refl
 gives_first (e ∷ earlier) line below = rw (lt-ltb e.trace.line line.number below.0) refl
 
-run_is : (plan : Plan) (script : Script) (lines later : List Line) → script.lines ≡ reverse_aux lines later → AllByRecursion (λ (line : Line). line.cpu < plan.cpus) script.lines → Fall lines →
+run_is : (plan : Plan) (script : Script) (lines later : List Line) → script.lines ≡ reverse_aux lines later → AllByRecursion (λ (line : Line). line.cpu < plan.cpus) script.lines →
+    AllByRecursion (λ (line : Line). IsCommand (first_command line.directive)) script.lines → Fall lines →
     IsRunOf plan script lines (run_after plan lines)
-run_is plan script [] later is on fall = record { part = record { legal = tt; part = tt; order = tt; stamped = tt }; below = λ n lines. tt; done = tt }
-run_is plan script (line ∷ earlier) later is on fall =
+run_is plan script [] later is on commands fall = record { part = record { legal = tt; part = tt; order = tt; stamped = tt }; below = λ n lines. tt; done = tt }
+run_is plan script (line ∷ earlier) later is on commands fall =
     let past : List Event = run_after plan earlier in
-    let before : IsRunOf plan script earlier past = run_is plan script earlier (line ∷ later) is on fall.1 in
+    let before : IsRunOf plan script earlier past = run_is plan script earlier (line ∷ later) is on commands fall.1 in
     let below = before.below line.number fall.0 in
     let cpu = (all_back (λ (l : Line). l.cpu < plan.cpus) earlier (line ∷ later) (subst (AllByRecursion (λ (l : Line). l.cpu < plan.cpus)) is on)).1.0 in
-    let of : IsLineOf plan script line = record { earlier = earlier; later = later; is = is; cpu = cpu; falls = fall.0 } in
+    let command = (all_back (λ (l : Line). IsCommand (first_command l.directive)) earlier (line ∷ later) (subst (AllByRecursion (λ (l : Line). IsCommand (first_command l.directive))) is commands)).1.0 in
+    let of : IsLineOf plan script line = record { earlier = earlier; later = later; is = is; cpu = cpu; command = command; falls = fall.0 } in
     let after : IsAt of (with_directive plan past line line.directive) None = directive_more of past line.directive refl (record {
       part = before.part;
       upto = all_give (λ (e : Event). e.trace.line < line.number) (λ (e : Event). e.trace.line ≤ line.number) past (λ e less. omega (arith, less)) below;
@@ -140,7 +145,7 @@ one_run script is =
     let back : script.lines ≡ reverse_aux lines [] = sym (reverse-reverse script.lines) in
     let fall : Fall lines = reverse_falls script.lines is.rises in
     let on : OnCpus (cpu_at lines) script.lines = (all_back (λ (line : Line). cpu_at lines line.number ≡ line.cpu) script.lines [] (cpus_are_own lines fall)).0 in
-    let run : IsRunOf plan script lines (run_of script) = run_is plan script lines [] back is.cpus fall in
+    let run : IsRunOf plan script lines (run_of script) = run_is plan script lines [] back is.cpus is.commands fall in
     let ended : (n : ℕ) → next_of script (run_of script) n ≡ None = (λ n. none_is_next script (run_of script) lines n back run.done) in
     record {
       holds = record { legal = run.part.legal; serial = record { scheduled = record { part = run.part.part; ended = ended }; order = run.part.order; stamped = run.part.stamped } };

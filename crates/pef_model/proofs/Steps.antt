@@ -22,7 +22,7 @@ use Rattle.pef_model.specs.Registers.{number_of, interrupt_registers, load_retur
 use Rattle.pef_model.specs.Cpu.{CpuPart, start_cpu, next_cpu, cpu_in, cpu_by, cpu_of_guest, own_after, own_after_call, own_after_load, last_after}
 use Rattle.pef_model.specs.Target.{touches_cpu, caller}
 use Rattle.pef_model.specs.History.{cpu_after, guest_after}
-use Rattle.pef_model.specs.SearchLaw.{IsCommand}
+use Rattle.pef_model.specs.Commands.{IsCommand}
 use Rattle.pef_model.specs.StepLaw.{given_by_return, given_by_page_call, given_by_load, own_given_in, selected_lpid, selected_vid, let_out, EachEntryLeavesCpu, is_kept, given_by_work}
 use Rattle.pef_model.proofs.Folds.{same_test, test_same, counts}
 use Rattle.pef_model.proofs.Assigned.{returned_value, set_value}
@@ -156,7 +156,7 @@ own_left : (cpu : CpuPart) (c : Ctx) (cmd : Cmd) (a : Answer) (shown : List ℕ)
 own_left cpu ctx.Hv (HLd ra) a shown r k full small = own_by_load cpu.own a r full
 own_left cpu ctx.Hv (UPagein lpid src gpa flags order) a shown r k full small = own_by_page_call cpu.own UV_PAGE_IN lpid src gpa flags order a r full
 own_left cpu ctx.Hv (UPageout lpid dest gpa flags order) a shown r k full small = own_by_page_call cpu.own UV_PAGE_OUT lpid dest gpa flags order a r full
-own_left cpu ctx.Hv (UReturn r0 r2 outs) a shown r k full small = own_by_return cpu.own r0 r2 outs a r k full small
+own_left cpu ctx.Hv (UReturn r0 r2 outs) a shown r k full small = own_by_return cpu.own r0 r2 outs a r k.2 full small
 own_left cpu ctx.Hv cmd a shown r k full small = refl
 own_left cpu (ctx.Uv work) cmd a shown r k full small = own_by_work cpu work cmd a shown r full
 own_left cpu (ctx.Guest run) cmd (Exit exit.Irq) shown r k full small = interrupt_shows r small
@@ -230,11 +230,11 @@ pub ctx_after : (plan : Plan) (past : List Event) (e : Event) → (cpu_after pla
 ctx_after plan past e = ap (λ (x : CpuPart). x.ctx) (own_cpu plan past e)
 
 pub each_entry_leaves_cpu : EachEntryLeavesCpu
-each_entry_leaves_cpu plan past e command commands extends =
+each_entry_leaves_cpu plan past e legal =
     let cpu : CpuPart = cpu_after plan e.trace.cpu past in
-    let before : cpu.ctx ≡ e.saw.before = ap (λ (x : Event). x.saw.before) (sym extends.is) in
+    let before : cpu.ctx ≡ e.saw.before = ap (λ (x : Event). x.saw.before) (sym legal.0.is) in
     let is : cpu_after plan e.trace.cpu (e ∷ past) ≡ next_cpu cpu e = own_cpu plan past e in
-    let h : Outcome e.saw.before e.trace.cmd e.trace.answer e.saw.after e.saw.shown = outcome plan past e extends in
+    let h : Outcome e.saw.before e.trace.cmd e.trace.answer e.saw.after e.saw.shown = outcome plan past e legal.0 in
     let stays = selection_left cpu e.saw.before e.trace.cmd e.trace.answer e.saw.shown in
     record {
       after = ctx_after plan past e;
@@ -242,7 +242,7 @@ each_entry_leaves_cpu plan past e command commands extends =
           is ∙ ap (λ (a : Answer). cpu_by cpu e.saw.before e.saw.after e.trace.cmd a e.saw.shown e.bytes) k
           ∙ context_leaves cpu e.saw.before e.saw.after e.trace.cmd e.saw.shown e.bytes before (subst (λ (a : Answer). Outcome e.saw.before e.trace.cmd a e.saw.after e.saw.shown) k h);
       last = ap (λ (x : CpuPart). x.last) is ∙ last_left cpu e.saw.before e.saw.after e.trace.cmd e.trace.answer e.saw.shown h;
-      own = λ r small. ap (λ (x : CpuPart). get_or x.own r 0) is ∙ own_left cpu e.saw.before e.trace.cmd e.trace.answer e.saw.shown r command (own_registers plan past e.trace.cpu commands) small;
+      own = λ r small. ap (λ (x : CpuPart). get_or x.own r 0) is ∙ own_left cpu e.saw.before e.trace.cmd e.trace.answer e.saw.shown r legal.0.command (own_registers plan past e.trace.cpu legal.1) small;
       lpid = ap (λ (x : CpuPart). x.lpid) is ∙ stays.0;
       vid = ap (λ (x : CpuPart). x.vid) is ∙ stays.1;
       hand = ap (λ (x : CpuPart). x.hand) is;

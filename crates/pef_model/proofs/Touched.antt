@@ -78,7 +78,7 @@ at_frame plan n bytes ask cmd is = by_ctx ask.before is where
   by_ctx (ctx.Guest run) h = running run.lpid cmd h
 
 pub touched_objects_decide : TouchedObjectsDecide
-touched_objects_decide plan past other e agree extends = record { cpu = extends.cpu; is = extends.is ∙ by_target (target_in plan ask.before ask.lpid e.trace.cmd) refl ∙ asked } where
+touched_objects_decide plan past other e agree extends = record { cpu = extends.cpu; command = extends.command; is = extends.is ∙ by_target (target_in plan ask.before ask.lpid e.trace.cmd) refl ∙ asked } where
   ask : Ask
   ask = ask_of (cpu_after plan e.trace.cpu past) e.trace.cmd
 

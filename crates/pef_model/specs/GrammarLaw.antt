@@ -2,7 +2,7 @@
 use Rattle.std.specs.Prelude.{◌≡◌, ℕ, ◌+◌, Bool, List, length, IfSome}
 use Rattle.pef_model.specs.declared.command.Cmd.{Cmd}
 use Rattle.pef_model.specs.Plan.{IsWithin}
-use Rattle.pef_model.specs.SearchLaw.{IsCommand}
+use Rattle.pef_model.specs.Commands.{IsCommand}
 use Rattle.pef_model.specs.Script.{Script, IsScript, Reads}
 use Rattle.pef_model.specs.ScriptText.{script_text, CanBeWritten, IsWritable}
 use Rattle.pef_model.specs.Words.{lines_of}
@@ -29,6 +29,6 @@ pub record IsReadFrom (text : List ℕ) (s : Script) (first : ℕ) : Type 0 wher
 abbrev pub ReadsWhatCanBeWritten : Type 0
 ReadsWhatCanBeWritten = (text : List ℕ) (s : Script) → Reads text s → (first : ℕ) × IsReadFrom text s first
 
--- each command that a script can say is one of which the laws of registers and of normal memory speak
+-- each command that a script can say is one that a history can have
 abbrev pub WritableIsCommand : Type 0
 WritableIsCommand = (cmd : Cmd) → CanBeWritten cmd → IsCommand cmd

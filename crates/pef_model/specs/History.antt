@@ -4,6 +4,7 @@ use Rattle.pef_model.specs.declared.state.Ctx.{Ctx}
 use Rattle.pef_model.specs.declared.command.Cmd.{Cmd}
 use Rattle.pef_model.specs.declared.command.Cmd.TheVariants.{UPageout}
 use Rattle.pef_model.specs.declared.entry.Answer.{Answer}
+use Rattle.pef_model.specs.Commands.{IsCommand}
 use Rattle.pef_model.specs.Plan.{Plan}
 use Rattle.pef_model.specs.Event.{Event, Mark, mark_of, newest, value_after}
 use Rattle.pef_model.specs.Doubleword.{doubleword}
@@ -100,9 +101,10 @@ next_entry_by plan past ask mark cmd = entry_of ask mark cmd (deed_after plan pa
 abbrev pub next_entry : Plan → List Event → Mark → Cmd → Event
 next_entry plan past mark cmd = next_entry_by plan past (ask_of (cpu_after plan mark.cpu past) cmd) mark cmd
 
--- an entry extends a history: its CPU is one of the machine's, and it is the one that its step adds
+-- an entry extends a history: its CPU is one of the machine's, its command is one, and it is the one that its step adds
 pub record Extends (plan : Plan) (past : List Event) (e : Event) : Type 0 where
   pub cpu : e.trace.cpu < plan.cpus
+  pub command : IsCommand e.trace.cmd
   pub is : e ≡ next_entry plan past (mark_of e) e.trace.cmd
 
 -- each entry of a history extends those before it

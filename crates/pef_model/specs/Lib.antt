@@ -1,4 +1,5 @@
 pub mod Plan
+pub mod Commands
 pub mod Event
 pub mod Doubleword
 pub mod Seal

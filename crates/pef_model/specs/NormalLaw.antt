@@ -1,5 +1,5 @@
 -- Laws of normal memory.
-use Rattle.std.specs.Prelude.{◌≡◌, ◌≢◌, Some, ℕ, ◌<◌, true, false, List, ◌∷◌, ◌^◌}
+use Rattle.std.specs.Prelude.{◌≡◌, ◌≢◌, Some, ℕ, true, false, List, ◌∷◌}
 use Rattle.pef_model.specs.declared.config.Config.{Config}
 use Rattle.pef_model.specs.declared.state.Run.{Run}
 use Rattle.pef_model.specs.declared.state.Ctx.TheVariants as ctx
@@ -62,4 +62,4 @@ LoadGivesLastNorm =
 abbrev pub StoreIsLastNorm : Type 0
 StoreIsLastNorm =
     (config : Config) (past : List Event) (e : Event) (ra value : ℕ) → IsInRange config → IsLegal (plan_of config) (e ∷ past) →
-    e.saw.before ≡ ctx.Hv → e.trace.cmd ≡ HSt ra value → e.trace.answer ≡ answer.Done → value < 2 ^ 64 → last_norm (plan_of config) (e ∷ past) ra ≡ value
+    e.saw.before ≡ ctx.Hv → e.trace.cmd ≡ HSt ra value → e.trace.answer ≡ answer.Done → last_norm (plan_of config) (e ∷ past) ra ≡ value

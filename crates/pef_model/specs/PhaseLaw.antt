@@ -129,14 +129,18 @@ pub record MeetsByPhase : Type 0 where
   pub no_place : map (meets small_plan (guest_in phase.Normal invalid_page Idle).part) (0x104 ∷ 0x200 ∷ []) ≡ NoPlace ∷ NoPlace ∷ []
   pub no_page : map (meets small_plan (guest_in phase.Secure invalid_page Idle).part) (0x104 ∷ 0x400 ∷ []) ≡ NoPlace ∷ NoPlace ∷ []
 
--- what a load of a vCPU answers in a guest that is Secure, by its pages
+-- the pages of them that aren't Shared
+abbrev pub unshared_pages : List Page
+unshared_pages = at_rest Invalid ∷ at_rest Secure ∷ at_rest Out ∷ on_the_move Secure Outward ∷ on_the_move Out Inward ∷ []
+
+-- what a load of a vCPU answers in a guest that is Secure, by these pages; a Shared page is out of reach by the law on Hole
 abbrev pub loads_of : Bool → List Answer
-loads_of free = map (λ page. answer_at (ctx.Guest (record { lpid = 1; vid = 0; generation = 1 })) (guest_in phase.Secure page (Running 1)) free (GLd 6 0x108)) pages
+loads_of free = map (λ page. answer_at (ctx.Guest (record { lpid = 1; vid = 0; generation = 1 })) (guest_in phase.Secure page (Running 1)) free (GLd 6 0x108)) unshared_pages
 
 -- where a secure frame is free, and where none is
 pub record LoadsByKind : Type 0 where
-  pub free : loads_of true ≡ Val 0 ∷ Val 0 ∷ Hole ∷ Hole ∷ Hole ∷ Again ∷ Again ∷ []
-  pub none : loads_of false ≡ Hole ∷ Val 0 ∷ Hole ∷ Hole ∷ Hole ∷ Again ∷ Again ∷ []
+  pub free : loads_of true ≡ Val 0 ∷ Val 0 ∷ Hole ∷ Again ∷ Again ∷ []
+  pub none : loads_of false ≡ Hole ∷ Val 0 ∷ Hole ∷ Again ∷ Again ∷ []
 
 -- the tables
 pub record TablesByPhase : Type 0 where

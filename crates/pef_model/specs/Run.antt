@@ -13,7 +13,7 @@ use Rattle.pef_model.specs.Plan.{Plan, plan_of}
 use Rattle.pef_model.specs.Event.{Event, Mark}
 use Rattle.pef_model.specs.Target.{touches_cpu}
 use Rattle.pef_model.specs.History.{IsLegal, next_entry}
-use Rattle.pef_model.specs.Script.{Line, Script}
+use Rattle.pef_model.specs.Script.{Line, Script, first_command}
 
 -- whether a line is one of a CPU
 abbrev pub is_line_of : ℕ → Line → Bool
@@ -51,11 +51,6 @@ pub record NextStep : Type 0 where
 -- the step of an entry
 abbrev pub step_of : Event → NextStep
 step_of e = record { line = e.trace.line; cmd = e.trace.cmd }
-
--- the first command that a directive gives
-abbrev pub first_command : Directive → Cmd
-first_command (Once cmd) = cmd
-first_command GoAll = Go
 
 -- the command that a directive gives after an entry of it; None where it is done
 abbrev pub command_after : Directive → Event → Option Cmd

@@ -8,6 +8,7 @@ use Rattle.pef_model.specs.declared.command.Directive.{Directive}
 use Rattle.pef_model.specs.declared.command.Directive.TheVariants.{Once, GoAll}
 use Rattle.pef_model.specs.declared.command.Cmd.{Cmd}
 use Rattle.pef_model.specs.declared.command.Cmd.TheVariants.{HLd, HSt, UPagein, UPageout, UReturn, GLi, GLd, GSt, GIrq, Go}
+use Rattle.pef_model.specs.Commands.{IsCommand}
 use Rattle.pef_model.specs.Header.{Header, header_of}
 use Rattle.pef_model.specs.Plan.{IsInRange}
 use Rattle.pef_model.specs.Words.{lines_of, words_of, number_in, number_below, register_in}
@@ -23,11 +24,17 @@ pub record Script : Type 0 where
   pub config : Config
   pub lines : List Line
 
--- a script's configuration is in its ranges, its line numbers rise strictly, and each line's CPU is one of the machine's
+-- the first command that a directive gives
+abbrev pub first_command : Directive → Cmd
+first_command (Once cmd) = cmd
+first_command GoAll = Go
+
+-- a script's configuration is in its ranges, its line numbers rise strictly, and each line's CPU is one of the machine's and its command is one
 pub record IsScript (script : Script) : Type 0 where
   pub config : IsInRange script.config
   pub rises : IsStrictlyIncreasing (map (λ (line : Line). line.number) script.lines)
   pub cpus : AllByRecursion (λ (line : Line). line.cpu < script.config.cpus) script.lines
+  pub commands : AllByRecursion (λ (line : Line). IsCommand (first_command line.directive)) script.lines
 
 -- a load of the hypervisor
 abbrev pub load_of : Option ℕ → Option Cmd

@@ -7,6 +7,7 @@ use Rattle.pef_model.specs.declared.command.Directive.{Directive}
 use Rattle.pef_model.specs.declared.command.Directive.TheVariants.{Once, GoAll}
 use Rattle.pef_model.specs.declared.command.Cmd.{Cmd}
 use Rattle.pef_model.specs.declared.command.Cmd.TheVariants.{HLd, HSt, UPagein, UPageout, UReturn, GLi, GLd, GSt, GIrq, Go}
+use Rattle.pef_model.specs.Commands.{IsCommand}
 use Rattle.pef_model.specs.Plan.{IsInRange}
 use Rattle.pef_model.specs.Script.{Line, Script}
 
@@ -68,18 +69,10 @@ words_text words = join_with_byte 32 words ++ codes "\n"
 abbrev pub script_text : Bool → Script → List ℕ
 script_text hex script = flat_map words_text (header_words hex script.config ++ map (line_words hex) script.lines)
 
--- a command whose register is below 32, whose numbers are below 2^64, and which returns nothing in R4 to R12
+-- a command that returns nothing in R4 to R12
 abbrev pub CanBeWritten : Cmd → Type 0
-CanBeWritten (HLd ra) = ra < 2 ^ 64
-CanBeWritten (HSt ra value) = (ra < 2 ^ 64) × (value < 2 ^ 64)
-CanBeWritten (UPagein lpid src gpa flags order) = (lpid < 2 ^ 64) × (src < 2 ^ 64) × (gpa < 2 ^ 64) × (flags < 2 ^ 64) × (order < 2 ^ 64)
-CanBeWritten (UPageout lpid dest gpa flags order) = (lpid < 2 ^ 64) × (dest < 2 ^ 64) × (gpa < 2 ^ 64) × (flags < 2 ^ 64) × (order < 2 ^ 64)
 CanBeWritten (UReturn r0 r2 outs) = (r0 < 2 ^ 64) × (r2 < 2 ^ 64) × (outs ≡ replicate 9 0)
-CanBeWritten (GLi rd value) = (rd < 32) × (value < 2 ^ 64)
-CanBeWritten (GLd rd gpa) = (rd < 32) × (gpa < 2 ^ 64)
-CanBeWritten (GSt rs gpa) = (rs < 32) × (gpa < 2 ^ 64)
-CanBeWritten GIrq = Unit {0}
-CanBeWritten Go = Unit {0}
+CanBeWritten cmd = IsCommand cmd
 
 -- a directive whose command can be written
 abbrev pub DirectiveCanBeWritten : Directive → Type 0

@@ -1,13 +1,12 @@
 -- Laws of what a guest loads: the last store, as a search from the newest entry on.
-use Rattle.std.specs.Prelude.{◌≡◌, ℕ, ◌/◌, ◌%◌, ◌^◌, ◌<◌, ◌==◌, true, ◌&&◌, if◌then◌else◌, List, [], ◌∷◌, ◌++◌, length, Option, Some, None}
-use Rattle.std.specs.List.{AllByRecursion}
+use Rattle.std.specs.Prelude.{◌≡◌, ℕ, ◌/◌, ◌%◌, ◌^◌, ◌<◌, ◌==◌, true, ◌&&◌, if◌then◌else◌, List, [], ◌∷◌, ◌++◌, Option, Some, None}
 use Rattle.pef_model.specs.declared.state.Phase.TheVariants as phase
 use Rattle.pef_model.specs.declared.state.Kind.TheVariants.{Secure}
 use Rattle.pef_model.specs.declared.state.Run.{Run}
 use Rattle.pef_model.specs.declared.state.Ctx.{Ctx}
 use Rattle.pef_model.specs.declared.state.Ctx.TheVariants as ctx
 use Rattle.pef_model.specs.declared.command.Cmd.{Cmd}
-use Rattle.pef_model.specs.declared.command.Cmd.TheVariants.{HSt, UPagein, UPageout, UReturn, GLi, GLd, GSt}
+use Rattle.pef_model.specs.declared.command.Cmd.TheVariants.{UPagein, UPageout, UReturn, GLi, GLd, GSt}
 use Rattle.pef_model.specs.declared.entry.Answer.{Answer}
 use Rattle.pef_model.specs.declared.entry.Answer.TheVariants as answer
 use Rattle.pef_model.specs.Plan.{Plan}
@@ -16,7 +15,7 @@ use Rattle.pef_model.specs.Registers.{number_of, loaded_value, value_of_page_cal
 use Rattle.pef_model.specs.Target.{caller, touches_guest}
 use Rattle.pef_model.specs.GuestPart.{page_of, is_private}
 use Rattle.pef_model.specs.Guest.{Guest}
-use Rattle.pef_model.specs.History.{guest_after, last_store, reg, Extends}
+use Rattle.pef_model.specs.History.{guest_after, last_store, reg, Extends, IsLegal}
 
 -- what a step decides, by the normal frame and the bytes that it tells: a store of the guest to the address, in no frame, what was in its register
 abbrev pub step_decides : Plan → ℕ → ℕ → List Event → Ctx → Cmd → Answer → Option ℕ → List ℕ → Option ℕ
@@ -57,19 +56,10 @@ assigned_in (ctx.Guest run) g vid cmd a r = if vid == run.vid then assigned_by_c
 abbrev pub decides_register : Plan → ℕ → ℕ → ℕ → List Event → Event → Option ℕ
 decides_register plan lpid vid r past e = if touches_guest plan lpid e then assigned_in e.saw.before (guest_after plan lpid past) vid e.trace.cmd e.trace.answer r else None
 
--- a command that a script can have: its registers are R0 to R31, UV_RETURN has nine outputs, and what the hypervisor stores has 64 bits
-abbrev pub IsCommand : Cmd → Type 0
-IsCommand (HSt ra value) = value < 2 ^ 64
-IsCommand (UReturn r0 r2 outs) = length outs ≡ 9
-IsCommand (GLi rd value) = rd < 32
-IsCommand (GLd rd gpa) = rd < 32
-IsCommand (GSt rs gpa) = rs < 32
-IsCommand cmd = Unit {0}
-
 -- reg is what the newest entry says that assigned the register
 abbrev pub RegIsNewest : Type 0
 RegIsNewest =
-    (plan : Plan) (past : List Event) (lpid vid r : ℕ) → r < 32 → AllByRecursion (λ (e : Event). IsCommand e.trace.cmd) past →
+    (plan : Plan) (past : List Event) (lpid vid r : ℕ) → r < 32 → IsLegal plan past →
     reg plan past lpid vid r ≡ newest (decides_register plan lpid vid r) 0 past
 
 -- of a history and its entries since then, none of these gave the doubleword at the address a value

@@ -1,6 +1,5 @@
 -- Laws of one entry: what it makes of its CPU and lets out, and what it makes of a vCPU's registers.
 use Rattle.std.specs.Prelude.{◌≡◌, ◌≢◌, ℕ, ◌+◌, ◌%◌, ◌^◌, ◌==◌, ◌<◌, Bool, true, false, ◌||◌, if◌then◌else◌, List, [], ◌∷◌, Option, Some, None, unwrap_or, slice_index}
-use Rattle.std.specs.List.{AllByRecursion}
 use Rattle.pef_model.specs.declared.state.Phase.{Phase}
 use Rattle.pef_model.specs.declared.state.Phase.TheVariants as phase
 use Rattle.pef_model.specs.declared.state.Pending.TheVariants as pending
@@ -22,8 +21,7 @@ use Rattle.pef_model.specs.Registers.{number_of, loaded_value, value_of_page_cal
 use Rattle.pef_model.specs.Target.{told, caller, vcpu_in, takes_bytes, is_hypervisor}
 use Rattle.pef_model.specs.Cpu.{CpuPart}
 use Rattle.pef_model.specs.Guest.{Guest}
-use Rattle.pef_model.specs.History.{cpu_after, guest_after, ask_of, Extends}
-use Rattle.pef_model.specs.SearchLaw.{IsCommand}
+use Rattle.pef_model.specs.History.{cpu_after, guest_after, ask_of, Extends, IsLegal}
 
 -- whether the hypervisor keeps an answer as its last: it isn't Context, and the hypervisor ran before the step or runs after it
 abbrev pub is_kept : Ctx → Answer → Ctx → Bool
@@ -121,8 +119,7 @@ pub record LeavesCpu (plan : Plan) (past : List Event) (e : Event) : Type 0 wher
   pub shown : e.saw.shown ≡ let_out plan (λ lpid. guest_after plan lpid past) e.saw.before e.trace.cmd e.trace.answer e.saw.frame
 
 abbrev pub EachEntryLeavesCpu : Type 0
-EachEntryLeavesCpu =
-    (plan : Plan) (past : List Event) (e : Event) → IsCommand e.trace.cmd → AllByRecursion (λ (f : Event). IsCommand f.trace.cmd) past → Extends plan past e → LeavesCpu plan past e
+EachEntryLeavesCpu = (plan : Plan) (past : List Event) (e : Event) → IsLegal plan (e ∷ past) → LeavesCpu plan past e
 
 -- an entry is a step of a vCPU, or of its call in progress
 pub record IsStepOf (lpid vid : ℕ) (run : Run) (e : Event) : Type 0 where

@@ -39,8 +39,9 @@ pub fn again_exactly_where()
     ensures { AgainExactlyWhere }
 {}
 
-/// Hole comes at loads and stores alone: of the hypervisor exactly outside normal memory, of a guest that isn't Normal exactly
-/// at an address in no page, or in a page at rest that is Out or Shared, or Invalid while no secure frame is free.
+/// Hole comes at loads and stores alone: of the hypervisor exactly at no doubleword of normal memory; of a guest that isn't
+/// Normal, under its generation, exactly at no doubleword of a page, or in a page at rest that is Out or Shared, or Invalid
+/// while no secure frame is free.
 pub fn hole_exactly_where()
     ensures { HoleExactlyWhere }
 {}

@@ -1,6 +1,7 @@
 //! A command is one of a closed list, and names no register above R31.
 
 ghost use Rattle.std.specs.Prelude.{◌≡◌, ◌<◌, ◌↔◌, IsSome, IfSome};
+ghost use Rattle.pef_model.specs.Commands.{IsCommand};
 ghost use Rattle.pef_model.specs.Registers.{number_of};
 
 use std::marker::Model;
@@ -166,6 +167,28 @@ pub enum Cmd {
     GIrq,
     /// The next step of the call in progress.
     Go,
+}
+
+impl Cmd {
+    /// A command is one that a history can have: its types bound its numbers. It does nothing.
+    pub fn numbers_fit(self)
+        ensures { IsCommand self }
+    {
+        match self {
+            Cmd::HLd { .. } => {}
+            Cmd::HSt { .. } => {}
+            Cmd::UPagein { .. } => {}
+            Cmd::UPageout { .. } => {}
+            Cmd::UReturn { outs, .. } => {
+                let [_r4, _r5, _r6, _r7, _r8, _r9, _r10, _r11, _r12] = outs;
+            }
+            Cmd::GLi { .. } => {}
+            Cmd::GLd { .. } => {}
+            Cmd::GSt { .. } => {}
+            Cmd::GIrq => {}
+            Cmd::Go => {}
+        }
+    }
 }
 
 /// What a line of a script tells its CPU to do.

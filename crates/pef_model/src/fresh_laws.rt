@@ -3,13 +3,15 @@
 ghost use Rattle.pef_model.specs.FreshLaw.{Freshness, MovesKeepLastStore, EachSoundPart, OwnEntriesClash, EachClashIsRefused, EachCollisionIsClash, NoRefusalIsClean};
 ghost use Rattle.pef_model.specs.RunLaw.{OutAndIn, TagIsSeen, AnOlderImage, ChangeAfterCopy, OneBitBeforeCopy};
 
-/// What comes in is accepted exactly where it is what was last paged out of the page, which is Secure then; other bytes are
-/// refused, and the page stays as it was. The guest's last stores stay either way.
+/// What comes in for a page that is Out, under its guest's generation, is accepted exactly where it is what was last paged out
+/// of the page, which is Secure then; other bytes are refused, and the page is at rest as it was. The guest's last stores stay
+/// either way.
 pub fn freshness()
     ensures { Freshness }
 {}
 
-/// No step but one of the guest's own changes what it last stored.
+/// While a guest has one generation, no step but one of its own changes what it last stored in a page that is Invalid neither
+/// before the step nor after it.
 pub fn moves_keep_last_store()
     ensures { MovesKeepLastStore }
 {}

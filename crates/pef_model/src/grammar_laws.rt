@@ -22,7 +22,7 @@ pub fn reads_what_can_be_written()
     ensures { ReadsWhatCanBeWritten }
 {}
 
-/// Each command that a script can say is one of which the laws of registers and of normal memory speak.
+/// Each command that a script can say is one that a history can have.
 pub fn writable_is_command()
     ensures { WritableIsCommand }
 {}

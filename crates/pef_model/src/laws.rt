@@ -48,12 +48,13 @@ pub fn reg_is_newest()
     ensures { RegIsNewest }
 {}
 
-/// Each load that is done gives the last store.
+/// Each load of a private page that is done gives the last store.
 pub fn load_gives_last_store()
     ensures { LoadGivesLastStore }
 {}
 
-/// An access to a page that is Secure and at rest is done, and a load gives the last store.
+/// In a guest that is Secure, under its generation, an access to a doubleword of a page that is Secure and at rest is done, and
+/// a load gives the last store.
 pub fn secure_page_is_reached()
     ensures { SecurePageIsReached }
 {}
@@ -145,7 +146,7 @@ pub fn load_gives_last_norm()
     ensures { LoadGivesLastNorm }
 {}
 
-/// A guest's step changes no normal frame.
+/// A guest's step changes no normal frame but the one that it tells.
 pub fn guest_leaves_frames()
     ensures { GuestLeavesFrames }
 {}

@@ -2,7 +2,8 @@
 
 ghost use Rattle.pef_model.specs.MoveLaw.{EachCpuMovesItsPage, EachCpuMovesItsPageIn, EachMoverHasItsCall, EachPageKeepsWhatIsSealed, LastSealedIsBegun, VersionsCountPageOuts, NoTagTwice, PageOutSealsLastStore, PageHasEachDoubleword, PageHasItsLength, SealedPagesFill, OutPageIsSealed, EachMoveGoesThroughHand, EachCallBeginsWhatIsNamed};
 
-/// A CPU with a page-out in progress, in its guest's generation, moves the page that its call names, and has in its hand what is pending of it.
+/// A CPU with a page-out in progress, in its guest's generation, moves the page that its call names, which is still Secure, and
+/// has in its hand what is pending of it.
 pub fn each_cpu_moves_its_page()
     ensures { EachCpuMovesItsPage }
 {}
@@ -22,7 +23,7 @@ pub fn last_sealed_is_begun()
     ensures { LastSealedIsBegun }
 {}
 
-/// A page's version is how many page-outs of it began.
+/// While a guest has one generation, the version of a page rises by how many page-outs of it begin.
 pub fn versions_count_page_outs()
     ensures { VersionsCountPageOuts }
 {}
@@ -32,7 +33,7 @@ pub fn no_tag_twice()
     ensures { NoTagTwice }
 {}
 
-/// A page-out seals the page of the last stores, under the tag of the page's next version.
+/// A page-out of a guest that is Secure seals the page of the last stores, under the tag of the page's next version.
 pub fn page_out_seals_last_store()
     ensures { PageOutSealsLastStore }
 {}
@@ -52,7 +53,8 @@ pub fn sealed_pages_fill()
     ensures { SealedPagesFill }
 {}
 
-/// A CPU with a page-in in progress, in its guest's generation, moves the page that its call names, which is still Out.
+/// A CPU with a page-in in progress, in its guest's generation, moves the page that its call names, which is still Out in a
+/// guest that is Secure.
 pub fn each_cpu_moves_its_page_in()
     ensures { EachCpuMovesItsPageIn }
 {}

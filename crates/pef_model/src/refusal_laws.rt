@@ -50,12 +50,13 @@ pub fn tables_by_phase()
     ensures { TablesByPhase }
 {}
 
-/// A report with each command's name, each code and each answer that a run gives.
+/// A report with each command's name, each code and each answer but Gone and Nothing, and how these two are written.
 pub fn each_name_is_written()
     ensures { EachNameIsWritten }
 {}
 
-/// The line of a normal frame.
+/// A report has a line for each normal frame that isn't all zero, in their order, with the SHA-256 of its bytes; it has CPUs and
+/// frames in decimal, and values in hexadecimal.
 pub fn frame_has_its_line()
     ensures { FrameHasItsLine }
 {}

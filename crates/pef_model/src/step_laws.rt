@@ -28,7 +28,7 @@ pub fn each_run_is_of_a_generation()
     ensures { EachRunIsOfAGeneration }
 {}
 
-/// No vCPU runs on two CPUs.
+/// In one generation no vCPU runs, or has its call in progress, on two CPUs.
 pub fn no_vcpu_runs_twice()
     ensures { NoVcpuRunsTwice }
 {}

@@ -54,10 +54,11 @@ fn run_script<S: Source, K: Sink>(
 /// Runs the script that a source gives, and writes its report to a sink.
 ///
 /// What was taken is what the source gave in this call, and what was given is what the sink took in it; nothing is asked of
-/// the devices but what `Source` and `Sink` say. The words are those after the program's name. Refusals come in this order: the words; a failed read or a script that is
-/// too long, as reading goes; an input that is no script, by its first faulty line; limits 2, 3 and 4; want of memory, which may come wherever
-/// memory is taken; a failed write. At a failed write a first part of the report was written, or, where the run has a digest
-/// collision, a first part of the lines before the first, or these and more; at every other refusal nothing.
+/// the devices but what `Source` and `Sink` say. The words are those after the program's name. Refusals come in this order: the
+/// words; a failed read or a script that is too long, as reading goes; an input that is no script, by its first faulty line;
+/// limits 2, 3 and 4; want of memory, which may come wherever memory is taken; a failed write. At a failed write a first part of
+/// the report was written, or, where the run has a digest collision, a first part of the lines before the first, or these and
+/// more; at every other refusal nothing.
 pub fn pef_run<S: Source, K: Sink>(
     alloc: Global,
     words: &[String],
