@@ -16,6 +16,7 @@ use Rattle.pef_model.specs.declared.command.Cmd.{Cmd}
 use Rattle.pef_model.specs.declared.command.Cmd.TheVariants.{HLd, HSt, UPagein, UPageout, UReturn, Go}
 use Rattle.pef_model.specs.declared.entry.Answer.{Answer}
 use Rattle.pef_model.specs.declared.entry.Answer.TheVariants as answer
+use Rattle.pef_model.specs.Commands.{IsCommand}
 use Rattle.pef_model.specs.Plan.{Plan}
 use Rattle.pef_model.specs.Event.{Event, Mark}
 use Rattle.pef_model.specs.Target.{Ask, Alone, AtGuest, AtFrame, frame_of, has_real_place, is_guest, target_in}
@@ -247,8 +248,8 @@ module _ {S : Type 0} (takes : S → ℕ → ℕ → Type 0) (old : State S) (n 
     New = record old { cpus = slice_set old.cpus n new_cpu; guests = slice_set old.guests i new_guest; pool = pool }
 
     -- the entry is the one that the model gives
-    continues : n < length old.cpus → i < length old.guests → Continues stands image old New n cmd a
-    continues below here plan past line place stamp fits clean =
+    continues : n < length old.cpus → i < length old.guests → IsCommand cmd → Continues stands image old New n cmd a
+    continues below here command plan past line place stamp fits clean =
         let mark : Mark = mark_at n line place stamp in
         let c : CpuPart = cpu_after plan n past in
         let g : GuestWhole = guest_after plan (i + 1) past in
@@ -262,7 +263,7 @@ module _ {S : Type 0} (takes : S → ℕ → ℕ → Type 0) (old : State S) (n 
         let is : next_entry plan past mark cmd ≡ e =
         entry_at plan past mark cmd (ask_of c cmd) (AtGuest (i + 1)) refl aimed ∙ ap (λ (free : ℕ). entry_of (ask_of c cmd) mark cmd (deed_guest plan g found (nat_lt 0 free) (ask_of c cmd) cmd)) (sym fits.free) in
         let clear : clashes g.part e ≡ false = ap (clashes_at (λ lpid. (guest_after plan lpid past).part) e) (sym aimed) ∙ ap (is_clash plan past) (sym is) ∙ clean in
-        makes_at_guest stands image old n below cpu s.there plan past line place stamp fits cmd e is new_cpu i guest new_guest pool a s.here (λ lpid. ap (is_guest lpid) aimed)
+        makes_at_guest stands image old n below cpu s.there plan past line place stamp fits cmd e is command new_cpu i guest new_guest pool a s.here (λ lpid. ap (is_guest lpid) aimed)
         (unframed plan g found (is_any_free old.pool) (ask_of c cmd) c.ctx c.lpid cmd (i + 1) at) (does.row plan g found c mark (sym s.is_cpu.number) (fits.guests i guest s.here) shows clear)
 
     -- its CPU alone changes, and counts of steps

@@ -6,6 +6,7 @@ use Rattle.pef_model.specs.declared.state.Ctx.{Ctx}
 use Rattle.pef_model.specs.declared.state.Tag.{Tag}
 use Rattle.pef_model.specs.declared.command.Cmd.{Cmd}
 use Rattle.pef_model.specs.declared.entry.Answer.{Answer}
+use Rattle.pef_model.specs.Commands.{IsCommand}
 use Rattle.pef_model.specs.Plan.{Plan}
 use Rattle.pef_model.specs.Event.{Event, Mark}
 use Rattle.pef_model.specs.Target.{Ask, Alone, is_guest, target_in, touches_guest}
@@ -36,9 +37,12 @@ module _ {S : Type 0} (stands : S → Tag → List ℕ → List ℕ → Type 0) 
   within : (plan : Plan) (past : List Event) → Fits stands image plan old past → n < plan.cpus
   within plan past fits = subst (λ (k : ℕ). n < k) fits.cpu_count below
 
-  module _ (plan : Plan) (past : List Event) (line place stamp : ℕ) (fits : Fits stands image plan old past) (cmd : Cmd) (e : Event) (is : next_entry plan past (mark_at n line place stamp) cmd ≡ e) where
+  module _ (plan : Plan) (past : List Event) (line place stamp : ℕ) (fits : Fits stands image plan old past) (cmd : Cmd) (e : Event) (is : next_entry plan past (mark_at n line place stamp) cmd ≡ e) (command : IsCommand cmd) where
     own : e.trace.cpu ≡ n
     own = ap (λ (x : Event). x.trace.cpu) (sym is)
+
+    commanded : IsCommand e.trace.cmd
+    commanded = subst IsCommand (ap (λ (x : Event). x.trace.cmd) is) command
 
     -- a step at no guest, once its entry is known
     pub makes_alone : (new_cpu : Cpu) (normal : NormalState) (a : Answer) → a ≡ e.trace.answer → ((lpid : ℕ) → touches_guest plan lpid e ≡ false) → e.saw.pool ≡ None →
@@ -48,7 +52,7 @@ module _ {S : Type 0} (stands : S → Tag → List ℕ → List ℕ → Type 0) 
         subst (λ (x : Event). Makes stands image plan (record old { cpus = slice_set old.cpus n new_cpu; normal = normal }) past x a) (sym is)
         (record {
           answered = answered;
-          extends = record { cpu = subst (λ (k : ℕ). k < plan.cpus) (sym own) (within plan past fits); is = sym is ∙ same };
+          extends = record { cpu = subst (λ (k : ℕ). k < plan.cpus) (sym own) (within plan past fits); command = commanded; is = sym is ∙ same };
           fits = record {
             cpu_count = length-set old.cpus n new_cpu ∙ fits.cpu_count;
             guest_count = fits.guest_count;
@@ -69,7 +73,7 @@ module _ {S : Type 0} (stands : S → Tag → List ℕ → List ℕ → Type 0) 
         subst (λ (x : Event). Makes stands image plan (record old { cpus = slice_set old.cpus n new_cpu; guests = slice_set old.guests i new_guest; pool = pool }) past x a) (sym is)
         (record {
           answered = row.row.answered;
-          extends = record { cpu = subst (λ (k : ℕ). k < plan.cpus) (sym own) (within plan past fits); is = sym is ∙ same };
+          extends = record { cpu = subst (λ (k : ℕ). k < plan.cpus) (sym own) (within plan past fits); command = commanded; is = sym is ∙ same };
           fits = record {
             cpu_count = length-set old.cpus n new_cpu ∙ fits.cpu_count;
             guest_count = length-set old.guests i new_guest ∙ fits.guest_count;
@@ -83,12 +87,12 @@ module _ {S : Type 0} (stands : S → Tag → List ℕ → List ℕ → Type 0) 
           same = ap (λ (x : Event). next_entry plan past (record { line = x.trace.line; cpu = x.trace.cpu; place = x.trace.place; stamp = x.trace.stamp }) x.trace.cmd) is
 
   -- a command that aims at nothing
-  pub alone : (plan : Plan) (past : List Event) (line place stamp : ℕ) → Fits stands image plan old past → (new_cpu : Cpu) (ask : Ask) (cmd : Cmd) (a : Answer) →
+  pub alone : (plan : Plan) (past : List Event) (line place stamp : ℕ) → Fits stands image plan old past → (new_cpu : Cpu) (ask : Ask) (cmd : Cmd) (a : Answer) → IsCommand cmd →
       ask_of (cpu_after plan n past) cmd ≡ ask → target_in plan ask.before ask.lpid cmd ≡ Alone → a ≡ (deed_alone plan ask cmd).answer →
       ShowsCpu new_cpu (next_cpu (cpu_after plan n past) (entry_of ask (mark_at n line place stamp) cmd (deed_alone plan ask cmd))) →
       Makes stands image plan (record old { cpus = slice_set old.cpus n new_cpu }) past (next_entry plan past (mark_at n line place stamp) cmd) a
-  alone plan past line place stamp fits new_cpu ask cmd a learns aims answered shows =
+  alone plan past line place stamp fits new_cpu ask cmd a command learns aims answered shows =
       let mark : Mark = mark_at n line place stamp in
       let e : Event = entry_of ask mark cmd (deed_alone plan ask cmd) in
-      makes_alone plan past line place stamp fits cmd e (entry_at plan past mark cmd ask Alone learns aims) new_cpu old.normal a answered (λ lpid. ap (is_guest lpid) aims) refl shows
+      makes_alone plan past line place stamp fits cmd e (entry_at plan past mark cmd ask Alone learns aims) command new_cpu old.normal a answered (λ lpid. ap (is_guest lpid) aims) refl shows
       (frames_stay plan past e old.normal refl fits.normal_is)

@@ -11,6 +11,7 @@ use Rattle.pef_model.specs.declared.command.Cmd.{Cmd}
 use Rattle.pef_model.specs.declared.command.Cmd.TheVariants.{HLd, HSt, UPagein, UPageout, UReturn, Go}
 use Rattle.pef_model.specs.declared.entry.Answer.{Answer}
 use Rattle.pef_model.specs.declared.entry.Answer.TheVariants as answer
+use Rattle.pef_model.specs.Commands.{IsCommand}
 use Rattle.pef_model.specs.Plan.{Plan}
 use Rattle.pef_model.specs.Event.{Event, Mark}
 use Rattle.pef_model.specs.Target.{Ask, Target, Alone, AtGuest, AtFrame, frame_of, has_real_place, is_guest, target_in, target_of_running, touches_frame, is_number}
@@ -204,12 +205,12 @@ module _ {S : Type 0} (takes : S → ℕ → ℕ → Type 0) (old : State S) (n 
       own_leaves c answer.Context h = on_cpu old n cpu there (λ c d. d ≡ c) new_cpu h
       own_leaves c b h = absurd h
 
-      own_continues : Continues stands image old Own n cmd a
-      own_continues plan past line place stamp fits clean =
+      own_continues : IsCommand cmd → Continues stands image old Own n cmd a
+      own_continues command plan past line place stamp fits clean =
           let c : CpuPart = cpu_after plan n past in
           let shows = fits.cpus n cpu there in
           let row = does.row plan c (mark_at n line place stamp) shows in
-          alone stands image old n below cpu there plan past line place stamp fits new_cpu (ask_of c cmd) cmd a refl
+          alone stands image old n below cpu there plan past line place stamp fits new_cpu (ask_of c cmd) cmd a command refl
           (aimed Alone targets plan c shows.ctx shows.lpid (sym fits.normal_is.shift) (sym fits.normal_is.count) (sym fits.guest_count)) row.answered row.cpu_is
 
       pub own_does : DoesStep stands image n cmd old Own a
@@ -271,8 +272,8 @@ module _ {S : Type 0} (takes : S → ℕ → ℕ → Type 0) (old : State S) (n 
       frame_leaves (ctx.Guest run) answer.Step h = tt
       frame_leaves c b h = absurd h
 
-      frame_continues : Continues stands image old Framed n cmd a
-      frame_continues plan past line place stamp fits clean =
+      frame_continues : IsCommand cmd → Continues stands image old Framed n cmd a
+      frame_continues command plan past line place stamp fits clean =
           let mark : Mark = mark_at n line place stamp in
           let c : CpuPart = cpu_after plan n past in
           let shows = fits.cpus n cpu there in
@@ -285,7 +286,7 @@ module _ {S : Type 0} (takes : S → ℕ → ℕ → Type 0) (old : State S) (n 
           let row : RowFrame plan frame c e new_cpu (frame_at normal.frames frame) (bytes frame) a =
           subst (λ (old_bytes : List ℕ). RowFrame plan frame c (entry_of (ask_of c cmd) mark cmd (deed_frame plan frame old_bytes (ask_of c cmd) cmd)) new_cpu (frame_at normal.frames frame) old_bytes a) shown
           (does.row plan frame c mark (size ∙ ap (λ (s : ℕ). 2 ^ s) fits.normal_is.shift) shows) in
-          makes_alone stands image old n below cpu there plan past line place stamp fits cmd e is new_cpu normal a row.answered (λ lpid. ap (is_guest lpid) at) (unpooled plan frame (bytes frame) (ask_of c cmd) c.ctx cmd) row.cpu_is
+          makes_alone stands image old n below cpu there plan past line place stamp fits cmd e is command new_cpu normal a row.answered (λ lpid. ap (is_guest lpid) at) (unpooled plan frame (bytes frame) (ask_of c cmd) c.ctx cmd) row.cpu_is
           (subst (λ (x : NormalState). ShowsNormal plan x (λ k. frame_after plan k (e ∷ past))) (sym rest) (shows_frame plan old.normal bytes frame (frame_at normal.frames frame) e fits.normal_is frame_there told row.frame_is))
 
       pub frame_does : DoesStep stands image n cmd old Framed a

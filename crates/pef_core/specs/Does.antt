@@ -8,6 +8,7 @@ use Rattle.pef_model.specs.declared.command.Cmd.{Cmd}
 use Rattle.pef_model.specs.declared.command.Cmd.TheVariants.{HLd, HSt, UReturn, Go}
 use Rattle.pef_model.specs.declared.entry.Answer.{Answer}
 use Rattle.pef_model.specs.declared.entry.Answer.TheVariants as answer
+use Rattle.pef_model.specs.Commands.{IsCommand}
 use Rattle.pef_model.specs.Plan.{Plan}
 use Rattle.pef_model.specs.Event.{Mark}
 use Rattle.pef_model.specs.Cpu.{CpuPart}
@@ -79,7 +80,7 @@ FrameNamed normal n before cmd = ⊥
 
 -- what every step of a CPU does to a machine
 pub record DoesStep {S : Type 0} (stands : S → Tag → List ℕ → List ℕ → Type 0) (image : S → Tag → List ℕ → List ℕ) (n : ℕ) (cmd : Cmd) (old new : State S) (a : Answer) : Type 0 where
-  pub step : Continues stands image old new n cmd a
+  pub step : IsCommand cmd → Continues stands image old new n cmd a
   pub frames_once : FramesOnce new
   pub refused : (own : Cpu) → slice_get old.cpus n ≡ Some own → LeavesRest n own.ctx cmd old new a
   pub alone : LeavesOthers n cmd old new

@@ -119,6 +119,7 @@ impl<S: Seal> Machine<S> {
         ensures guests { length self.new.guests ≡ length self.old.guests }
     {
         self.steps += 1;
+        cmd.numbers_fit();
         self.counted(cpu, cmd)
     }
 

@@ -6,5 +6,6 @@ mod Settings
 mod ScriptLines
 mod Results
 mod Ranges
+mod ReadOperands
 pub mod ReadScripts
 mod WrittenLines

@@ -8,7 +8,8 @@ use Rattle.std.proofs.lemmas.Option.{cond_some}
 use Rattle.pef_model.specs.declared.config.Config.{Config}
 use Rattle.pef_model.specs.Plan.{default_config}
 use Rattle.pef_model.specs.Words.{number_in}
-use Rattle.pef_model.specs.Script.{Line, Script, IsScript}
+use Rattle.pef_model.specs.Commands.{IsCommand}
+use Rattle.pef_model.specs.Script.{Line, Script, IsScript, first_command}
 use Rattle.pef_script.specs.declared.fault.Cause.{Cause}
 use Rattle.pef_script.specs.declared.fault.Cause.TheVariants as cause
 use Rattle.pef_script.specs.declared.fault.ScriptFault.{ScriptFault}
@@ -22,6 +23,7 @@ use Rattle.pef_script.specs.Setting.{ok_of, setting_in}
 use Rattle.pef_script.specs.Token.{tokens_of}
 use Rattle.pef_script.specs.Script.{ReadScript, Begun, is_skipped, is_begin, at_line, header_in, before, commands_in, behind_first, lines_of, script_or_fault, reads, left_script, ReadsScripts}
 use Rattle.pef_script.proofs.Results.{bind_ok, or_ok, same_Ok, option_map_some}
+use Rattle.pef_script.proofs.ReadOperands.{read_is_command}
 use Rattle.pef_script.proofs.Ranges.{IsSettled, first_settled, setting_settles}
 
 -- what has no fault at a line is the same without the line's number
@@ -67,13 +69,17 @@ rise_from : (least higher : ℕ) (lines : List ReadLine) → least ≤ higher �
 rise_from least higher [] h rise = tt
 rise_from least higher (line ∷ more) h rise = (omega (arith, h, rise.0), rise.1)
 
--- lines that are read rise, and each has one of the CPUs
+-- lines that are read rise, and each has one of the CPUs and a command
 record AreRead (cpus number : ℕ) (lines : List ReadLine) : Type 0 where
   rise : Rise number lines
   cpus_below : AllByRecursion (λ (line : Line). line.cpu < cpus) (map (λ (line : ReadLine). line.line) lines)
+  commands : AllByRecursion (λ (line : Line). IsCommand (first_command line.directive)) (map (λ (line : ReadLine). line.line) lines)
 
--- a line that is read has its number and one of the CPUs
-line_is : (cpus number : ℕ) (tokens : List (List ℕ)) (line : ReadLine) → line_in cpus number tokens ≡ Ok line → (line.line.number ≡ number) × (line.line.cpu < cpus)
+-- a line that is read has its number, one of the CPUs and a command
+abbrev IsRead : ℕ → ℕ → ReadLine → Type 0
+IsRead cpus number line = (line.line.number ≡ number) × (line.line.cpu < cpus) × IsCommand (first_command line.line.directive)
+
+line_is : (cpus number : ℕ) (tokens : List (List ℕ)) (line : ReadLine) → line_in cpus number tokens ≡ Ok line → IsRead cpus number line
 unfolding line_in
 line_is cpus number tokens line e =
     bind_ok (or_fault cause.Number (option_and_then number_in (first tokens))) _ line e (λ cpu is e1.
@@ -84,23 +90,27 @@ line_is cpus number tokens line e =
     let found = cond_some (nat_lt cpu cpus) cpu own (or_ok cause.Range _ own is) in
     let below : cpu < cpus = ltb-true cpu cpus found.0 in
     let same : record { line = record { number = number; cpu = own; directive = s.make o }; right = o.right } ≡ line = same_Ok _ _ last in
-    (sym (ap (λ (l : ReadLine). l.line.number) same), omega (arith, below, found.1, ap (λ (l : ReadLine). l.line.cpu) same)))))))
+    let command = read_is_command (drop 1 tokens) (drop 2 tokens) s o (or_ok cause.Word _ s named) (or_ok cause.Number _ o given) in (
+      sym (ap (λ (l : ReadLine). l.line.number) same),
+      omega (arith, below, found.1, ap (λ (l : ReadLine). l.line.cpu) same),
+      subst (λ (l : ReadLine). IsCommand (first_command l.line.directive)) same command,
+    ))))))
 
 -- a line that is read, before others that are
 before_are : (cpus number : ℕ) (first : Result ReadLine ScriptFault) (rest : Result (List ReadLine) ScriptFault) (lines : List ReadLine) →
-    ((line : ReadLine) → first ≡ Ok line → (line.line.number ≡ number) × (line.line.cpu < cpus)) → ((more : List ReadLine) → rest ≡ Ok more → AreRead cpus (number + 1) more) →
+    ((line : ReadLine) → first ≡ Ok line → IsRead cpus number line) → ((more : List ReadLine) → rest ≡ Ok more → AreRead cpus (number + 1) more) →
     before first rest ≡ Ok lines → AreRead cpus number lines
 before_are cpus number (Ok line) (Ok more) lines one others e =
     let is = one line refl in
     let are = others more refl in
     subst (AreRead cpus number) (same_Ok _ _ e)
-    (record { rise = (omega (arith, is.0), rise_from (line.line.number + 1) (number + 1) more (omega (arith, is.0)) are.rise); cpus_below = (is.1, are.cpus_below) })
+    (record { rise = (omega (arith, is.0), rise_from (line.line.number + 1) (number + 1) more (omega (arith, is.0)) are.rise); cpus_below = (is.1, are.cpus_below); commands = (is.2, are.commands) })
 before_are cpus number (Ok line) (Err f) lines one others e = absurd (cc)
 before_are cpus number (Err f) rest lines one others e = absurd (cc)
 
 -- the command lines that are read
 commands_are : (cpus number : ℕ) (texts : List (List ℕ)) (lines : List ReadLine) → commands_in cpus number texts ≡ Ok lines → AreRead cpus number lines
-commands_are cpus number [] lines e = subst (AreRead cpus number) (same_Ok _ _ e) (record { rise = tt; cpus_below = tt })
+commands_are cpus number [] lines e = subst (AreRead cpus number) (same_Ok _ _ e) (record { rise = tt; cpus_below = tt; commands = tt })
 commands_are cpus number (text ∷ more) lines e = by_skip (λ others found. commands_are cpus (number + 1) more others found) (is_skipped text) refl
   where
     rest : Result (List ReadLine) ScriptFault
@@ -113,7 +123,7 @@ commands_are cpus number (text ∷ more) lines e = by_skip (λ others found. com
     by_skip others true is =
         let later : now true ≡ Ok lines = sym (ap now is) ∙ e in
         let are = others lines later in
-        record { rise = rise_from number (number + 1) lines (omega arith) are.rise; cpus_below = are.cpus_below }
+        record { rise = rise_from number (number + 1) lines (omega arith) are.rise; cpus_below = are.cpus_below; commands = are.commands }
     by_skip others false is =
         let both : now false ≡ Ok lines = sym (ap now is) ∙ e in
         before_are cpus number (at_line number (line_in cpus number (tokens_of text))) rest lines
@@ -139,7 +149,7 @@ script_is_script text s e =
     let settled = header_settles 2 0 default_config more h first_settled header in
     let are = commands_are h.config.cpus h.number h.rest lines read in
     subst (λ (r : ReadScript). IsScript (left_script r)) (same_Ok _ _ last)
-    (record { config = settled.1.range; rises = λ k inside. rises_at h.number lines k are.rise inside; cpus = are.cpus_below }))))
+    (record { config = settled.1.range; rises = λ k inside. rises_at h.number lines k are.rise inside; cpus = are.cpus_below; commands = are.commands }))))
 
 ok_is : {A E : Type 0} (r : Result A E) (x : A) → ok_of r ≡ Some x → r ≡ Ok x
 ok_is (Ok y) x e = cc

@@ -17,7 +17,7 @@ pub returns-clause-step : goal.returns-clause-step
 returns-clause-step g c =
     subst (λ m. Continues g.S.Seal.stands g.S.Seal.image m c.counted.new.self c.args.cpu c.args.cmd.now c.counted.result) c.self.view_is
     (λ plan past line place stamp fits.
-    c.counted.ensures.step plan past line place stamp
+    c.counted.ensures.step c.numbers_fit.ensures plan past line place stamp
     (record { cpu_count = fits.cpu_count; guest_count = fits.guest_count; cpus = fits.cpus; guests = fits.guests; normal_is = fits.normal_is; free = fits.free }))
 
 pub returns-clause-refused : goal.returns-clause-refused
