@@ -38,7 +38,6 @@ use Rattle.pef_core.specs.Normal.{NormalState}
 use Rattle.pef_core.specs.State.{State, IsVcpu, HasVcpu, MayRun, IsMoveOf, IsWholeMachine, Works}
 use Rattle.pef_core.specs.Steps.{Continues}
 use Rattle.pef_core.specs.Refused.{OnCpu, ChangesGuest, RefusesPage, LeavesRest}
-use Rattle.pef_core.specs.Alone.{normal_after}
 use Rattle.pef_core.specs.Does.{Targets, DoesStep}
 use Rattle.pef_core.proofs.Entries.{entry_at, return_unframed, running_unframed, page_out_unframed, page_in_unframed, out_unframed, in_unframed}
 use Rattle.pef_core.proofs.Continuing.{mark_at, makes_at_guest}
@@ -49,10 +48,6 @@ use Rattle.pef_core.proofs.Leaving.{get_other, at_place, guests_stay, on_guest}
 use Rattle.pef_core.proofs.Alone.{alone_guest}
 
 -- the end of a move aims at the guest whose page it is
-copied_at : {X : Type 0} (b : Bool) (lpid k : ℕ) (x y : X) → (if b then Some lpid else None) ≡ Some k → (if b then x else y) ≡ x
-copied_at true lpid k x y is = refl
-copied_at false lpid k x y is = cc
-
 copied_is : (b : Bool) (lpid k : ℕ) → (if b then Some lpid else None) ≡ Some k → lpid ≡ k
 copied_is true lpid k is = cc
 copied_is false lpid k is = cc
@@ -126,15 +121,6 @@ in_range plan guests normal n l vid c cmd k count selects works is = by_context 
   by_context (ctx.Uv (Inward move)) works at one = subst (λ (x : ℕ). (1 ≤ x) × (x - 1 < length guests)) (moves_in move l k cmd one) (works.least, move_below guests normal (record { cpu = n; way = way.Inward }) move works)
   by_context (ctx.Uv (Outward move)) works at one = subst (λ (x : ℕ). (1 ≤ x) × (x - 1 < length guests)) (moves_out move l k cmd one) (works.least, move_below guests normal (record { cpu = n; way = way.Outward }) move works)
   by_context (ctx.Guest run) works at one = of_vcpu run.lpid run.vid (runs_at run l k cmd one) works.0
-
--- such a step writes no normal frame
-writes_none : (c : Ctx) (l : ℕ) (cmd : Cmd) (k : ℕ) (hand : List ℕ) (normal : NormalState) → guest_aimed c l cmd ≡ Some k → normal_after c hand cmd normal ≡ normal
-writes_none ctx.Hv l (HSt ra value) k hand normal is = cc
-writes_none ctx.Hv l cmd k hand normal is = refl
-writes_none (ctx.Uv (Inward move)) l cmd k hand normal is = refl
-writes_none (ctx.Uv (Outward move)) l Go k hand normal is = copied_at move.copied move.lpid k normal (record normal { frames = slice_set normal.frames move.frame hand }) is
-writes_none (ctx.Uv (Outward move)) l cmd k hand normal is = refl
-writes_none (ctx.Guest run) l cmd k hand normal is = refl
 
 gone_or : (plan : Plan) (run : Run) (g : GuestWhole) (found : ℕ → ℕ → ℕ) (any : Bool) (ask : Ask) (cmd : Cmd) (b : Bool) → (if b then deed_running plan run g found any ask cmd else deed_gone ask).frame ≡ None
 gone_or plan run g found any ask cmd true = running_unframed plan run g found any ask cmd
@@ -322,7 +308,7 @@ module _ {S : Type 0} (takes : S → ℕ → ℕ → Type 0) (old : State S) (n 
       step = continues below here;
       frames_once = once_stays old i guest new_guest pool s.here does.frames whole.frames_once (slice_set old.cpus n new_cpu);
       refused = λ own there. subst (λ (x : Cpu). LeavesRest n x.ctx cmd old New a) (let same : cpu ≡ own = (let two = sym s.there ∙ there in cc) in same) (leaves cpu.ctx aims a does.refused does.life);
-      alone = alone_guest old n cpu s.there cpu.ctx refl cmd i guest new_guest s.here new_cpu pool aims (writes_none cpu.ctx cpu.lpid cmd (i + 1) cpu.hand old.normal aims) does.pool_stays does.keeps does.life movers;
+      alone = alone_guest old n cpu s.there cmd a i guest new_guest s.here new_cpu pool aims targets does.pool_stays does.keeps does.life movers;
       count = refl;
       cpus = length-set old.cpus n new_cpu;
       guests = length-set old.guests i new_guest;

@@ -1,13 +1,12 @@
 -- A machine looks at the step that it is to do.
-use Rattle.std.proofs.Common.{◌≡◌, ℕ, ◌+◌, ◌-◌, ◌^◌, ◌<◌, ◌≤◌, nat_lt, Bool, true, false, if◌then◌else◌, List, ◌∷◌, length, Option, Some, None, is_some, get_or, refl, ap, sym, subst, ◌∙◌, arith}
+use Rattle.std.proofs.Common.{◌≡◌, ℕ, ◌+◌, ◌-◌, ◌^◌, ◌<◌, ◌≤◌, nat_lt, Bool, false, if◌then◌else◌, List, length, Some, None, is_some, get_or, refl, ap, sym, subst, ◌∙◌, arith}
 use Rattle.std.specs.Prelude.{slice_get}
-use Rattle.pef_model.specs.declared.state.Ctx.{Ctx}
 use Rattle.pef_model.specs.declared.state.Tag.{Tag}
 use Rattle.pef_model.specs.declared.command.Cmd.{Cmd}
 use Rattle.pef_model.specs.declared.entry.Answer.{Answer}
 use Rattle.pef_model.specs.Plan.{Plan}
 use Rattle.pef_model.specs.Event.{Event, Mark}
-use Rattle.pef_model.specs.Target.{Ask, Target, Alone, AtGuest, AtFrame, target_in, touches_pool}
+use Rattle.pef_model.specs.Target.{Ask, Target, Alone, AtGuest, AtFrame, target_in}
 use Rattle.pef_model.specs.Cpu.{CpuPart, next_cpu}
 use Rattle.pef_model.specs.Guest.{Guest as GuestWhole}
 use Rattle.pef_model.specs.Clash.{clashes}
@@ -17,7 +16,7 @@ use Rattle.pef_guest.specs.declared.cpu.Cpu.{Cpu}
 use Rattle.pef_guest.specs.declared.guest.Guest.{Guest}
 use Rattle.pef_guest.specs.Ready.{IsReadyFor}
 use Rattle.pef_guest.specs.Does.{entry_at_guest}
-use Rattle.pef_core.specs.State.{State, IsCpuOf, IsWholeMachine}
+use Rattle.pef_core.specs.State.{State, IsWholeMachine}
 use Rattle.pef_core.specs.Steps.{Fits, Makes}
 use Rattle.pef_core.specs.Does.{Targets}
 use Rattle.pef_core.specs.Did.{pool_seen, TouchesPool, IsLook, Tells, LooksAt}
@@ -31,7 +30,7 @@ use Rattle.pef_core.proofs.Places.{read_at, sized}
 use Rattle.pef_core.proofs.WholeAfter.{one_step_more}
 use Rattle.pef_core.proofs.Moving.{Site}
 use Rattle.pef_core.proofs.AtGuest.{named, in_range, unframed, ready_for}
-use Rattle.pef_core.proofs.OtherAims.{frame_named, unpooled, framed}
+use Rattle.pef_core.proofs.OtherAims.{unpooled, framed}
 use Rattle.pef_core.proofs.Looking.{IsShare, share_guest, told_by_numbers, looks_at}
 
 module _ {S : Type 0} (takes : S → ℕ → ℕ → Type 0) (stands : S → Tag → List ℕ → List ℕ → Type 0) (image : S → Tag → List ℕ → List ℕ) (m : State S) (n : ℕ) (whole : IsWholeMachine takes m) (below : n < length m.cpus) (cpu : Cpu) (read : cpu ≡ get_or m.cpus n cpu) (cmd : Cmd) where
@@ -48,7 +47,7 @@ module _ {S : Type 0} (takes : S → ℕ → ℕ → Type 0) (stands : S → Tag
       let c : CpuPart = cpu_after plan n past in
       let bytes = frame_after plan frame past in (
         sym (ap is_some (unpooled plan frame bytes (ask_of c cmd) c.ctx cmd)),
-        sym (framed m.normal plan frame bytes (ask_of c cmd) c.ctx cmd (frame_named m.normal plan c.ctx c.lpid cmd frame (sym fits.normal_is.shift) (sym fits.normal_is.count) at)),
+        sym (framed plan frame c.lpid bytes (ask_of c cmd) c.ctx cmd at),
       ))
 
   module _ (lpid : ℕ) (targets : Targets (length m.guests) m.normal cpu cmd (AtGuest lpid)) where

@@ -1,34 +1,44 @@
 -- What a step leaves as it was, whatever history the machine has behind it.
-use Rattle.std.specs.Prelude.{◌≡◌, ◌≢◌, ℕ, ◌+◌, Bool, false, if◌then◌else◌, List, length, Option, Some, ◌⊎◌, slice_get, slice_set}
-use Rattle.pef_model.specs.declared.state.Work.TheVariants.{Outward}
-use Rattle.pef_model.specs.declared.state.Ctx.{Ctx}
-use Rattle.pef_model.specs.declared.state.Ctx.TheVariants as ctx
+use Rattle.std.specs.Prelude.{◌≡◌, ◌≢◌, ℕ, ◌+◌, ◌<◌, false, List, length, Option, Some, None, ◌⊎◌, slice_get}
 use Rattle.pef_model.specs.declared.command.Cmd.{Cmd}
-use Rattle.pef_model.specs.declared.command.Cmd.TheVariants.{HSt, Go}
+use Rattle.pef_model.specs.declared.entry.Answer.{Answer}
+use Rattle.pef_model.specs.Plan.{Plan}
+use Rattle.pef_model.specs.Target.{Ask, Target, AtFrame, target_in}
+use Rattle.pef_model.specs.Memory.{Write, writes_in, after_writes}
+use Rattle.pef_model.specs.Deed.{deed_frame}
 use Rattle.pef_guest.specs.declared.cpu.Cpu.{Cpu}
 use Rattle.pef_guest.specs.declared.guest.Guest.{Guest}
 use Rattle.pef_guest.specs.Keeps.{KeepsGuest, KeepsLife, KeepsMovers}
-use Rattle.pef_access.specs.Access.{has_place, place_at}
-use Rattle.pef_core.specs.Normal.{NormalState, with_value}
-use Rattle.pef_core.specs.State.{State}
 use Rattle.pef_guest.specs.Aims.{guest_aimed, uses_pool, changes_life}
+use Rattle.pef_core.specs.Normal.{NormalState, frame_at}
+use Rattle.pef_core.specs.State.{State}
 
--- the normal frames after a step: a store of the hypervisor and the copy of a page-out write there, and nothing else does
-abbrev pub normal_after : Ctx → List ℕ → Cmd → NormalState → NormalState
-normal_after ctx.Hv hand (HSt ra value) normal = if has_place normal.shift (length normal.frames) ra then with_value normal (place_at normal.shift ra).page (place_at normal.shift ra).off value else normal
-normal_after (ctx.Uv (Outward move)) hand Go normal = if move.copied then normal else record normal { frames = slice_set normal.frames move.frame hand }
-normal_after before hand cmd normal = normal
+-- the normal frame of a target, by its number
+abbrev pub frame_in : Target → Option ℕ
+frame_in (AtFrame n) = Some n
+frame_in other = None
+
+-- the normal frames hold what these writes make of their bytes, and are no others
+pub record AreWritten (writes : List Write) (old new : NormalState) : Type 0 where
+  pub shift : new.shift ≡ old.shift
+  pub count : length new.frames ≡ length old.frames
+  pub bytes : (n : ℕ) → n < length old.frames → frame_at new.frames n ≡ after_writes n (frame_at old.frames n) writes
+
+-- what a step with this answer does to the normal frames, in a plan of their sizes: it writes into the one at which it aims what the definitions say of such an entry with the hand's bytes, and answers there by the frame's bytes
+pub record LeavesNormal (plan : Plan) (own : Cpu) (cmd : Cmd) (a : Answer) (old new : NormalState) : Type 0 where
+  pub written : AreWritten (writes_in plan.shift own.ctx cmd a own.hand (frame_in (target_in plan own.ctx own.lpid cmd))) old new
+  pub answers : (n : ℕ) (ask : Ask) → target_in plan own.ctx own.lpid cmd ≡ AtFrame n → ask.before ≡ own.ctx → a ≡ (deed_frame plan n (frame_at old.frames n) ask cmd).answer
 
 -- of a machine a step changes its CPU, the guest at which it aims, the free frames that it takes or gives and what it writes into normal frames, and nothing else but the count of steps; of each guest it keeps what no step changes, the pages that other CPUs move, and its phase and generation where the command may not change them
-pub record LeavesBut {S : Type 0} (n : ℕ) (own : Cpu) (cmd : Cmd) (old new : State S) : Type 0 where
+pub record LeavesBut {S : Type 0} (n : ℕ) (own : Cpu) (cmd : Cmd) (old new : State S) (a : Answer) : Type 0 where
   pub cpus : (k : ℕ) → k ≢ n → slice_get new.cpus k ≡ slice_get old.cpus k
   pub guests : (k : ℕ) → guest_aimed own.ctx own.lpid cmd ≢ Some (k + 1) → slice_get new.guests k ≡ slice_get old.guests k
   pub keeps : (k : ℕ) (g h : Guest S) → slice_get old.guests k ≡ Some g → slice_get new.guests k ≡ Some h → (h ≡ g) ⊎ KeepsGuest g h
   pub lives : changes_life own.ctx cmd ≡ false → (k : ℕ) (g h : Guest S) → slice_get old.guests k ≡ Some g → slice_get new.guests k ≡ Some h → KeepsLife g h
   pub movers : (k : ℕ) (g h : Guest S) → slice_get old.guests k ≡ Some g → slice_get new.guests k ≡ Some h → KeepsMovers n g h
   pub pool : uses_pool own.ctx cmd ≡ false → new.pool ≡ old.pool
-  pub normal : new.normal ≡ normal_after own.ctx own.hand cmd old.normal
+  pub normal : (plan : Plan) → plan.shift ≡ old.normal.shift → plan.normal ≡ length old.normal.frames → plan.guests ≡ length old.guests → LeavesNormal plan own cmd a old.normal new.normal
 
 -- the same, of a step of the CPU of a number
-abbrev pub LeavesOthers : {S : Type 0} → ℕ → Cmd → State S → State S → Type 0
-LeavesOthers n cmd old new = (own : Cpu) → slice_get old.cpus n ≡ Some own → LeavesBut n own cmd old new
+abbrev pub LeavesOthers : {S : Type 0} → ℕ → Cmd → State S → State S → Answer → Type 0
+LeavesOthers n cmd old new a = (own : Cpu) → slice_get old.cpus n ≡ Some own → LeavesBut n own cmd old new a

@@ -1,27 +1,26 @@
 -- What every step of a CPU does to a machine, and what it needs.
-use Rattle.std.specs.Prelude.{◌≡◌, ℕ, ◌/◌, ◌^◌, ◌<◌, true, false, List, length, Some, slice_get}
+use Rattle.std.specs.Prelude.{◌≡◌, ℕ, ◌<◌, List, length, Some, slice_get}
 use Rattle.pef_model.specs.declared.state.Ctx.{Ctx}
 use Rattle.pef_model.specs.declared.state.Ctx.TheVariants as ctx
-use Rattle.pef_model.specs.declared.state.Work.TheVariants.{Inward, Outward}
 use Rattle.pef_model.specs.declared.state.Tag.{Tag}
+use Rattle.pef_model.specs.declared.aim.Aim.{Aim}
+use Rattle.pef_model.specs.declared.aim.Aim.TheVariants as aim
 use Rattle.pef_model.specs.declared.command.Cmd.{Cmd}
-use Rattle.pef_model.specs.declared.command.Cmd.TheVariants.{HLd, HSt, UReturn, Go}
 use Rattle.pef_model.specs.declared.entry.Answer.{Answer}
 use Rattle.pef_model.specs.declared.entry.Answer.TheVariants as answer
 use Rattle.pef_model.specs.Commands.{IsCommand}
 use Rattle.pef_model.specs.Plan.{Plan}
 use Rattle.pef_model.specs.Event.{Mark}
 use Rattle.pef_model.specs.Cpu.{CpuPart}
-use Rattle.pef_model.specs.Target.{Target, Alone, AtGuest, AtFrame, target_in}
+use Rattle.pef_model.specs.Target.{Target, Alone, AtGuest, AtFrame, aim_in, target_in}
 use Rattle.pef_model.specs.Deed.{deed_alone}
 use Rattle.pef_model.specs.History.{ask_of, entry_of}
 use Rattle.pef_guest.specs.declared.cpu.Cpu.{Cpu}
 use Rattle.pef_guest.specs.Refused.{RefusesCpu}
 use Rattle.pef_guest.specs.Shows.{ShowsCpu}
 use Rattle.pef_move.specs.PageIn.{RowRead}
-use Rattle.pef_core.specs.declared.aim.Aim.{Aim}
-use Rattle.pef_core.specs.declared.aim.Aim.TheVariants.{Own, Guest, Frame}
-use Rattle.pef_access.specs.Access.{has_place}
+use Rattle.pef_core.specs.declared.aim.Target.{Target as Found}
+use Rattle.pef_core.specs.declared.aim.Target.TheVariants as found
 use Rattle.pef_core.specs.Normal.{NormalState}
 use Rattle.pef_core.specs.State.{State, FramesOnce, HasSteps}
 use Rattle.pef_core.specs.Steps.{Continues}
@@ -32,11 +31,11 @@ use Rattle.pef_core.specs.Alone.{LeavesOthers}
 abbrev pub Targets : ℕ → NormalState → Cpu → Cmd → Target → Type 0
 Targets guests normal own cmd t = (plan : Plan) → plan.shift ≡ normal.shift → plan.normal ≡ length normal.frames → plan.guests ≡ guests → target_in plan own.ctx own.lpid cmd ≡ t
 
--- the same of an aim
-abbrev pub target_shown : Aim → Target
-target_shown Own = Alone
-target_shown (Guest lpid) = AtGuest lpid
-target_shown (Frame n) = AtFrame n
+-- a target as the code has it
+abbrev pub target_shown : Found → Target
+target_shown found.Alone = Alone
+target_shown (found.Guest lpid) = AtGuest lpid
+target_shown (found.Frame n) = AtFrame n
 
 -- a command of a CPU aims there, and the step is counted already
 pub record AimsAt {S : Type 0} (n : ℕ) (cmd : Cmd) (t : Target) (m : State S) : Type 0 where
@@ -44,10 +43,16 @@ pub record AimsAt {S : Type 0} (n : ℕ) (cmd : Cmd) (t : Target) (m : State S) 
   pub aims : (own : Cpu) → slice_get m.cpus n ≡ Some own → Targets (length m.guests) m.normal own cmd t
   pub steps : HasSteps m
 
--- a command may aim at nothing: UV_RETURN of the hypervisor always aims at a guest
-abbrev pub MayAimAtNone : Ctx → Cmd → Type 0
-MayAimAtNone ctx.Hv (UReturn r0 r2 outs) = ⊥
-MayAimAtNone before cmd = Unit {0}
+-- an aim may be at nothing: those at a guest that is there and at a page on the move never are
+abbrev pub MayBeAtNone : Aim → Type 0
+MayBeAtNone (aim.Guest lpid) = ⊥
+MayBeAtNone (aim.Move move) = ⊥
+MayBeAtNone other = Unit {0}
+
+-- a command of the hypervisor may aim at nothing; every other command is one of another context where it does
+abbrev pub MayAimAtNone : Ctx → ℕ → Cmd → Type 0
+MayAimAtNone ctx.Hv lpid cmd = MayBeAtNone (aim_in ctx.Hv lpid cmd)
+MayAimAtNone before lpid cmd = Unit {0}
 
 -- what such a step keeps of its CPU: all but its registers and its last answer
 pub record KeepsSelection (old new : Cpu) : Type 0 where
@@ -70,20 +75,12 @@ pub record DoesOwn (cmd : Cmd) (cpu cpu_new : Cpu) (a : Answer) : Type 0 where
   pub refused : RefusesOwn cpu.ctx cpu cpu_new a
   pub row : (plan : Plan) (c : CpuPart) (mark : Mark) → ShowsCpu cpu c → RowRead c (entry_of (ask_of c cmd) mark cmd (deed_alone plan (ask_of c cmd) cmd)) cpu_new a
 
--- the normal frame at which a step aims that aims at one, by its number
-abbrev pub FrameNamed : NormalState → ℕ → Ctx → Cmd → Type 0
-FrameNamed normal n ctx.Hv (HLd ra) = (has_place normal.shift (length normal.frames) ra ≡ true) × (n ≡ ra / 2 ^ normal.shift)
-FrameNamed normal n ctx.Hv (HSt ra value) = (has_place normal.shift (length normal.frames) ra ≡ true) × (n ≡ ra / 2 ^ normal.shift)
-FrameNamed normal n (ctx.Uv (Inward move)) Go = (move.copied ≡ false) × (n ≡ move.frame)
-FrameNamed normal n (ctx.Uv (Outward move)) Go = (move.copied ≡ false) × (n ≡ move.frame)
-FrameNamed normal n before cmd = ⊥
-
 -- what every step of a CPU does to a machine
 pub record DoesStep {S : Type 0} (stands : S → Tag → List ℕ → List ℕ → Type 0) (image : S → Tag → List ℕ → List ℕ) (n : ℕ) (cmd : Cmd) (old new : State S) (a : Answer) : Type 0 where
   pub step : IsCommand cmd → Continues stands image old new n cmd a
   pub frames_once : FramesOnce new
   pub refused : (own : Cpu) → slice_get old.cpus n ≡ Some own → LeavesRest n own.ctx cmd old new a
-  pub alone : LeavesOthers n cmd old new
+  pub alone : LeavesOthers n cmd old new a
   pub count : new.steps ≡ old.steps
   pub cpus : length new.cpus ≡ length old.cpus
   pub guests : length new.guests ≡ length old.guests

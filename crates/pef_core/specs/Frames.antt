@@ -3,15 +3,16 @@ use Rattle.std.specs.Prelude.{◌≡◌, ℕ, ◌%◌, ◌^◌, true, false, Lis
 use Rattle.pef_model.specs.declared.state.Work.TheVariants.{Inward, Outward}
 use Rattle.pef_model.specs.declared.state.Ctx.{Ctx}
 use Rattle.pef_model.specs.declared.state.Ctx.TheVariants as ctx
+use Rattle.pef_model.specs.declared.aim.Aim.{Aim}
+use Rattle.pef_model.specs.declared.aim.Aim.TheVariants as aim
 use Rattle.pef_model.specs.declared.command.Cmd.{Cmd}
-use Rattle.pef_model.specs.declared.command.Cmd.TheVariants.{HLd, HSt, Go}
 use Rattle.pef_model.specs.declared.entry.Answer.{Answer}
 use Rattle.pef_model.specs.declared.entry.Answer.TheVariants as answer
 use Rattle.pef_model.specs.Plan.{Plan, IsWithin}
 use Rattle.pef_model.specs.Event.{Event, Mark}
-use Rattle.pef_model.specs.Doubleword.{with_doubleword}
+use Rattle.pef_model.specs.Target.{Ask, aim_in}
 use Rattle.pef_model.specs.Cpu.{CpuPart, next_cpu}
-use Rattle.pef_model.specs.Memory.{next_frame}
+use Rattle.pef_model.specs.Memory.{write_in, after_writes, next_frame}
 use Rattle.pef_model.specs.Deed.{deed_frame}
 use Rattle.pef_model.specs.History.{ask_of, entry_of}
 use Rattle.pef_guest.specs.declared.cpu.Cpu.{Cpu}
@@ -23,17 +24,19 @@ pub record IsPageSize (size : ℕ) : Type 0 where
   pub range : IsWithin 8 16 shift
   pub is : size ≡ 2 ^ shift
 
--- a step aims at a normal frame: a load or store of the hypervisor at the address of a doubleword, or the copy of a page's move
-abbrev pub AimsAtFrame : Ctx → Cmd → Type 0
-AimsAtFrame ctx.Hv (HLd ra) = ra % 8 ≡ 0
-AimsAtFrame ctx.Hv (HSt ra value) = ra % 8 ≡ 0
-AimsAtFrame (ctx.Uv (Inward move)) Go = move.copied ≡ false
-AimsAtFrame (ctx.Uv (Outward move)) Go = move.copied ≡ false
-AimsAtFrame before cmd = ⊥
+-- an aim is at a normal frame, as far as it tells: at the address of a doubleword, or at a page on the move that isn't copied yet
+abbrev pub IsAtFrame : Aim → Type 0
+IsAtFrame (aim.Address ra) = ra % 8 ≡ 0
+IsAtFrame (aim.Move move) = move.copied ≡ false
+IsAtFrame other = ⊥
+
+-- a step aims at a normal frame, as far as its CPU tells
+abbrev pub AimsAtFrame : Ctx → ℕ → Cmd → Type 0
+AimsAtFrame before lpid cmd = IsAtFrame (aim_in before lpid cmd)
 
 -- what a step at a normal frame needs of it and of its CPU
 pub record IsReadyAt (cmd : Cmd) (cpu : Cpu) (frame : List ℕ) : Type 0 where
-  pub aims : AimsAtFrame cpu.ctx cmd
+  pub aims : AimsAtFrame cpu.ctx cpu.lpid cmd
   pub size : IsPageSize (length frame)
   pub hand : length cpu.hand ≡ length frame
 
@@ -42,12 +45,6 @@ abbrev pub ctx_copied : Ctx → Ctx
 ctx_copied (ctx.Uv (Inward move)) = ctx.Uv (Inward (record move { copied = true }))
 ctx_copied (ctx.Uv (Outward move)) = ctx.Uv (Outward (record move { copied = true }))
 ctx_copied before = before
-
--- what a step leaves in its normal frame: a store of the hypervisor writes its doubleword there, and the copy of a page-out the hand
-abbrev pub written_by : Ctx → List ℕ → Cmd → List ℕ → List ℕ
-written_by ctx.Hv hand (HSt ra value) frame = with_doubleword frame (ra % length frame) value
-written_by (ctx.Uv (Outward move)) hand cmd frame = hand
-written_by before hand cmd frame = frame
 
 -- a step that is not refused
 abbrev pub IsDone : Answer → Type 0
@@ -70,7 +67,8 @@ pub record DoesFrame (cmd : Cmd) (cpu cpu_new : Cpu) (frame frame_new : List ℕ
   pub ctx_is : cpu_new.ctx ≡ ctx_copied cpu.ctx
   pub hand : length cpu_new.hand ≡ length cpu.hand
   pub size : length frame_new ≡ length frame
-  pub written : frame_new ≡ written_by cpu.ctx cpu.hand cmd frame
+  pub written : (shift n : ℕ) → length frame ≡ 2 ^ shift → frame_new ≡ after_writes n frame (write_in shift cpu.ctx cmd a cpu.hand n)
   pub done : IsDone a
+  pub answers : (plan : Plan) (n : ℕ) (ask : Ask) → length frame ≡ 2 ^ plan.shift → ask.before ≡ cpu.ctx → a ≡ (deed_frame plan n frame ask cmd).answer
   pub row : (plan : Plan) (n : ℕ) (c : CpuPart) (mark : Mark) → length frame ≡ 2 ^ plan.shift → ShowsCpu cpu c →
       RowFrame plan n c (entry_of (ask_of c cmd) mark cmd (deed_frame plan n frame (ask_of c cmd) cmd)) cpu_new frame_new frame a

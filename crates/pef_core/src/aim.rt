@@ -2,104 +2,62 @@
 
 ghost use Rattle.std.specs.Prelude.{◌≡◌, length};
 ghost use Rattle.pef_model.specs.Plan.{Plan};
-ghost use Rattle.pef_model.specs.Target.{target_of_address, target_of_number, target_of_hypervisor, target_of_running, target_of_move, target_of_work};
+ghost use Rattle.pef_model.specs.Target.{aim_in, target_of_aim};
 ghost use Rattle.pef_core.specs.Does.{Targets, target_shown};
 
 use crate::normal::Normal;
 use pef_guest::Cpu;
-use pef_model::{Cmd, Ctx, Move, Work};
+use pef_model::{Aim, Cmd, Ctx, Work};
 
 /// The object whose state decides a step's answer, beside the CPU.
 #[derive(Clone, Copy)]
-pub enum Aim {
+pub enum Target {
     /// None: the CPU alone.
-    Own,
+    Alone,
     /// A guest, by its number from 1.
     Guest(u64),
     /// A normal frame, by its number from 0.
     Frame(u32),
 }
 
-/// At what a command of a CPU aims, in a machine with these normal frames and so many guests.
-pub fn target(own: &Cpu, cmd: &Cmd, normal: &Normal, guests: u64) -> Aim
+/// At what a command of a CPU aims.
+pub fn aim_of(own: &Cpu, cmd: &Cmd) -> Aim
+    ensures { result ≡ aim_in own.now.ctx own.now.lpid cmd.now }
+{
+    match (own.ctx, cmd) {
+        (Ctx::Hv, Cmd::HLd { ra }) => Aim::Address(*ra),
+        (Ctx::Hv, Cmd::HSt { ra, .. }) => Aim::Address(*ra),
+        (Ctx::Hv, Cmd::UPagein { lpid, .. }) => Aim::NamedGuest(*lpid),
+        (Ctx::Hv, Cmd::UPageout { lpid, .. }) => Aim::NamedGuest(*lpid),
+        (Ctx::Hv, Cmd::UReturn { .. }) => Aim::Guest(own.lpid),
+        (Ctx::Uv(Work::Inward(page)), Cmd::Go) => Aim::Move(page),
+        (Ctx::Uv(Work::Outward(page)), Cmd::Go) => Aim::Move(page),
+        (Ctx::Guest(_), Cmd::HLd { .. } | Cmd::HSt { .. } | Cmd::Go) => Aim::Nothing,
+        (Ctx::Guest(run), _) => Aim::Guest(run.lpid),
+        _ => Aim::Nothing,
+    }
+}
+
+/// The target of a command of a CPU, in a machine with these normal frames and so many guests.
+pub fn target_of(own: &Cpu, cmd: &Cmd, normal: &Normal, guests: u64) -> Target
     ensures { Targets guests normal.now own.now cmd.now (target_shown result) }
 {
-    match own.ctx {
-        Ctx::Hv => of_hypervisor(own.lpid, cmd, normal, guests),
-        Ctx::Uv(work) => of_work(work, cmd),
-        Ctx::Guest(run) => of_running(run.lpid, cmd),
-    }
+    resolve(aim_of(own, cmd), normal, guests)
 }
 
-/// A real address aims at its frame, if it has one.
-fn of_address(ra: u64, normal: &Normal) -> Aim
-    ensures { (plan : Plan) → plan.shift ≡ normal.now.shift → plan.normal ≡ length normal.now.frames → target_of_address plan ra ≡ target_shown result }
+/// The target of an aim.
+fn resolve(aim: Aim, normal: &Normal, guests: u64) -> Target
+    ensures { (plan : Plan) → plan.shift ≡ normal.now.shift → plan.normal ≡ length normal.now.frames → plan.guests ≡ guests → target_of_aim plan aim ≡ target_shown result }
 {
-    match normal.place_of(ra) {
-        Some(place) => Aim::Frame(place.page),
-        None => Aim::Own,
-    }
-}
-
-/// A call that names a guest aims at it, if there is one of that number.
-fn of_number(lpid: u64, guests: u64) -> Aim
-    ensures { (plan : Plan) → plan.guests ≡ guests → target_of_number plan lpid ≡ target_shown result }
-{
-    if 1 <= lpid && lpid <= guests {
-        Aim::Guest(lpid)
-    } else {
-        Aim::Own
-    }
-}
-
-/// A command of the hypervisor.
-fn of_hypervisor(lpid: u16, cmd: &Cmd, normal: &Normal, guests: u64) -> Aim
-    ensures { (plan : Plan) → plan.shift ≡ normal.now.shift → plan.normal ≡ length normal.now.frames → plan.guests ≡ guests → target_of_hypervisor plan lpid cmd.now ≡ target_shown result }
-{
-    match cmd {
-        Cmd::HLd { ra } => of_address(*ra, normal),
-        Cmd::HSt { ra, .. } => of_address(*ra, normal),
-        Cmd::UPagein { lpid: named, .. } => of_number(*named, guests),
-        Cmd::UPageout { lpid: named, .. } => of_number(*named, guests),
-        Cmd::UReturn { .. } => Aim::Guest(u64::from(lpid)),
-        Cmd::GLi { .. } | Cmd::GLd { .. } | Cmd::GSt { .. } | Cmd::GIrq | Cmd::Go => Aim::Own,
-    }
-}
-
-/// A page on the move aims at its normal frame until it is copied, and then at its guest.
-fn of_move(page: Move) -> Aim
-    ensures { target_of_move page ≡ target_shown result }
-{
-    if page.copied {
-        Aim::Guest(u64::from(page.lpid))
-    } else {
-        Aim::Frame(page.frame)
-    }
-}
-
-/// A command with a call in progress.
-fn of_work(work: Work, cmd: &Cmd) -> Aim
-    ensures { target_of_work work cmd.now ≡ target_shown result }
-{
-    match (work, cmd) {
-        (Work::Inward(page), Cmd::Go) => of_move(page),
-        (Work::Outward(page), Cmd::Go) => of_move(page),
-        _ => Aim::Own,
-    }
-}
-
-/// A command where a vCPU runs.
-fn of_running(lpid: u16, cmd: &Cmd) -> Aim
-    ensures { target_of_running lpid cmd.now ≡ target_shown result }
-{
-    match cmd {
-        Cmd::HLd { .. } | Cmd::HSt { .. } | Cmd::Go => Aim::Own,
-        Cmd::UPagein { .. }
-        | Cmd::UPageout { .. }
-        | Cmd::UReturn { .. }
-        | Cmd::GLi { .. }
-        | Cmd::GLd { .. }
-        | Cmd::GSt { .. }
-        | Cmd::GIrq => Aim::Guest(u64::from(lpid)),
+    match aim {
+        Aim::NamedGuest(lpid) if 1 <= lpid && lpid <= guests => Target::Guest(lpid),
+        Aim::Guest(lpid) => Target::Guest(u64::from(lpid)),
+        Aim::Address(ra) => match normal.place_of(ra) {
+            Some(place) => Target::Frame(place.page),
+            None => Target::Alone,
+        },
+        Aim::Move(page) if page.copied => Target::Guest(u64::from(page.lpid)),
+        Aim::Move(page) => Target::Frame(page.frame),
+        Aim::Nothing | Aim::NamedGuest(_) => Target::Alone,
     }
 }

@@ -11,7 +11,7 @@ mod normal;
 mod own;
 mod readiness;
 
-pub use aim::{Aim, target};
+pub use aim::{Target, target_of};
 pub use at_frame::apply_frame;
 pub use at_guest::apply_guest;
 pub use did::Did;

@@ -17,7 +17,7 @@ ghost use Rattle.pef_core.specs.Did.{LooksAt, TellsStep};
 ghost use Rattle.pef_guest.specs.declared.cpu.Cpu.{Cpu};
 ghost use Rattle.pef_core.specs.Places.{EachPageIsPlaced};
 
-use crate::aim::{self, Aim};
+use crate::aim::{Target, target_of};
 use crate::at_guest::apply_guest;
 use crate::did::{Did, Look, look_of, pool_seen, touches_pool};
 use crate::lent::{Inner, Want, needs};
@@ -113,7 +113,7 @@ impl<S: Seal> Machine<S> {
         ensures step { Continues S.stands S.image self.old self.new cpu cmd.now result }
         ensures frames_once { FramesOnce self.new }
         ensures refused { (own : Cpu) → slice_get self.old.cpus cpu ≡ Some own → LeavesRest cpu own.ctx cmd.now self.old self.new result }
-        ensures alone { LeavesOthers cpu cmd.now self.old self.new }
+        ensures alone { LeavesOthers cpu cmd.now self.old self.new result }
         ensures count { self.new.steps ≡ self.old.steps + 1 }
         ensures cpus { length self.new.cpus ≡ length self.old.cpus }
         ensures guests { length self.new.guests ≡ length self.old.guests }
@@ -131,7 +131,7 @@ impl<S: Seal> Machine<S> {
         ensures step { Continues S.stands S.image self.old self.new cpu cmd.now result.answer }
         ensures frames_once { FramesOnce self.new }
         ensures refused { (own : Cpu) → slice_get self.old.cpus cpu ≡ Some own → LeavesRest cpu own.ctx cmd.now self.old self.new result.answer }
-        ensures alone { LeavesOthers cpu cmd.now self.old self.new }
+        ensures alone { LeavesOthers cpu cmd.now self.old self.new result.answer }
         ensures count { self.new.steps ≡ self.old.steps + 1 }
         ensures cpus { length self.new.cpus ≡ length self.old.cpus }
         ensures guests { length self.new.guests ≡ length self.old.guests }
@@ -159,13 +159,13 @@ impl<S: Seal> Machine<S> {
         ensures { LooksAt S.stands S.image self.now cpu cmd.now result }
     {
         let own = &self.cpus[cpu as usize];
-        match aim::target(own, cmd, &self.normal, self.guests.len() as u64) {
-            Aim::Own => look_of(own, false, None),
-            Aim::Guest(lpid) => {
+        match target_of(own, cmd, &self.normal, self.guests.len() as u64) {
+            Target::Alone => look_of(own, false, None),
+            Target::Guest(lpid) => {
                 let guest = &self.guests[lpid as usize - 1];
                 look_of(own, touches_pool(guest, own, cmd), None)
             }
-            Aim::Frame(frame) => look_of(own, false, Some(frame)),
+            Target::Frame(frame) => look_of(own, false, Some(frame)),
         }
     }
 
@@ -175,15 +175,15 @@ impl<S: Seal> Machine<S> {
         requires steps { HasSteps self.old }
         ensures { DoesStep S.stands S.image cpu cmd.now self.old self.new result }
     {
-        match aim::target(
+        match target_of(
             &self.cpus[cpu as usize],
             cmd,
             &self.normal,
             self.guests.len() as u64,
         ) {
-            Aim::Own => self.at_own(cpu, cmd),
-            Aim::Guest(lpid) => self.at_guest(cpu, lpid, cmd),
-            Aim::Frame(frame) => self.at_frame(cpu, frame, cmd),
+            Target::Alone => self.at_own(cpu, cmd),
+            Target::Guest(lpid) => self.at_guest(cpu, lpid, cmd),
+            Target::Frame(frame) => self.at_frame(cpu, frame, cmd),
         }
     }
 

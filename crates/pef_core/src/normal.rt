@@ -72,7 +72,7 @@ impl Normal {
     /// A command of a CPU at one of the frames, by its number from 0.
     pub fn apply(&mut self, cpu: &mut Cpu, number: u32, cmd: &Cmd) -> Answer
         requires number { number < length self.old.frames }
-        requires aims { AimsAtFrame cpu.old.ctx cmd.now }
+        requires aims { AimsAtFrame cpu.old.ctx cpu.old.lpid cmd.now }
         requires hand { length cpu.old.hand ≡ 2 ^ self.old.shift }
         ensures does { DoesFrame cmd.now cpu.old cpu.new (frame_at self.old.frames number) (frame_at self.new.frames number) result }
         ensures size { length (frame_at self.old.frames number) ≡ 2 ^ self.old.shift }

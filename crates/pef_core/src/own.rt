@@ -10,7 +10,7 @@ use pef_move::PageCall;
 /// A command that aims at nothing: Hole for a load or store of the hypervisor that has no frame, U_PARAMETER for its call
 /// that names no guest, and Context for every other.
 pub fn apply_own(cpu: &mut Cpu, cmd: &Cmd) -> Answer
-    requires { MayAimAtNone cpu.old.ctx cmd.now }
+    requires { MayAimAtNone cpu.old.ctx cpu.old.lpid cmd.now }
     ensures { DoesOwn cmd.now cpu.old cpu.new result }
 {
     match cpu.ctx {
@@ -23,7 +23,7 @@ pub fn apply_own(cpu: &mut Cpu, cmd: &Cmd) -> Answer
 /// Such a command of the hypervisor.
 fn hypervisor(cpu: &mut Cpu, cmd: &Cmd) -> Answer
     requires hypervisor { cpu.old.ctx ≡ Ctx.Hv }
-    requires none { MayAimAtNone cpu.old.ctx cmd.now }
+    requires none { MayAimAtNone cpu.old.ctx cpu.old.lpid cmd.now }
     ensures { DoesOwn cmd.now cpu.old cpu.new result }
 {
     match cmd {

@@ -7,9 +7,10 @@ ghost use Rattle.pef_guest.specs.Aims.{guest_aimed};
 ghost use Rattle.pef_guest.specs.Ready.{MayEnd, ReadyIn, IsReadyFor, IsReadyPool};
 ghost use Rattle.pef_core.specs.Frames.{IsPageSize, AimsAtFrame, IsReadyAt};
 
+use crate::aim::aim_of;
 use pef_frames::{NormalFrame, Pool};
 use pef_guest::{Cpu, Guest};
-use pef_model::{Cmd, Ctx, Move, Mover, Run, Way, Work};
+use pef_model::{Aim, Cmd, Ctx, Move, Mover, Run, Way, Work};
 use pef_seal::Seal;
 
 /// Whether a command of a CPU may be done at a guest, which is whole: the command aims at it; the CPU's hand is of a page's
@@ -64,14 +65,12 @@ pub fn ready_frame(cpu: &Cpu, frame: &NormalFrame, cmd: &Cmd) -> bool
 
 /// Whether a command aims at a normal frame, as far as its CPU tells.
 fn aims_at_frame(cpu: &Cpu, cmd: &Cmd) -> bool
-    ensures { IsTrue result ↔ AimsAtFrame cpu.now.ctx cmd.now }
+    ensures { IsTrue result ↔ AimsAtFrame cpu.now.ctx cpu.now.lpid cmd.now }
 {
-    match (cpu.ctx, cmd) {
-        (Ctx::Hv, Cmd::HLd { ra }) => *ra % 8 == 0,
-        (Ctx::Hv, Cmd::HSt { ra, .. }) => *ra % 8 == 0,
-        (Ctx::Uv(Work::Inward(page)), Cmd::Go) => !page.copied,
-        (Ctx::Uv(Work::Outward(page)), Cmd::Go) => !page.copied,
-        _ => false,
+    match aim_of(cpu, cmd) {
+        Aim::Address(ra) => ra % 8 == 0,
+        Aim::Move(page) => !page.copied,
+        Aim::Nothing | Aim::NamedGuest(_) | Aim::Guest(_) => false,
     }
 }
 
@@ -79,15 +78,11 @@ fn aims_at_frame(cpu: &Cpu, cmd: &Cmd) -> bool
 fn aimed(cpu: &Cpu, cmd: &Cmd) -> Option<u64>
     ensures { result ≡ guest_aimed cpu.now.ctx cpu.now.lpid cmd.now }
 {
-    match (cpu.ctx, cmd) {
-        (Ctx::Hv, Cmd::UPagein { lpid, .. }) => Some(*lpid),
-        (Ctx::Hv, Cmd::UPageout { lpid, .. }) => Some(*lpid),
-        (Ctx::Hv, Cmd::UReturn { .. }) => Some(u64::from(cpu.lpid)),
-        (Ctx::Uv(Work::Inward(page)), Cmd::Go) if page.copied => Some(u64::from(page.lpid)),
-        (Ctx::Uv(Work::Outward(page)), Cmd::Go) if page.copied => Some(u64::from(page.lpid)),
-        (Ctx::Guest(_), Cmd::HLd { .. } | Cmd::HSt { .. } | Cmd::Go) => None,
-        (Ctx::Guest(run), _) => Some(u64::from(run.lpid)),
-        _ => None,
+    match aim_of(cpu, cmd) {
+        Aim::NamedGuest(lpid) => Some(lpid),
+        Aim::Guest(lpid) => Some(u64::from(lpid)),
+        Aim::Move(page) if page.copied => Some(u64::from(page.lpid)),
+        Aim::Nothing | Aim::Address(_) | Aim::Move(_) => None,
     }
 }
 

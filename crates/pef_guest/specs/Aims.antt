@@ -3,23 +3,24 @@ use Rattle.std.specs.Prelude.{ℕ, Bool, true, false, if◌then◌else◌, Optio
 use Rattle.pef_model.specs.declared.state.Work.TheVariants.{Inward, Outward}
 use Rattle.pef_model.specs.declared.state.Ctx.{Ctx}
 use Rattle.pef_model.specs.declared.state.Ctx.TheVariants as ctx
+use Rattle.pef_model.specs.declared.aim.Aim.{Aim}
+use Rattle.pef_model.specs.declared.aim.Aim.TheVariants as aim
 use Rattle.pef_model.specs.declared.command.Code.{Code}
 use Rattle.pef_model.specs.declared.command.Code.TheVariants.{USuccess}
 use Rattle.pef_model.specs.declared.command.Cmd.{Cmd}
-use Rattle.pef_model.specs.declared.command.Cmd.TheVariants.{HLd, HSt, UPagein, UPageout, UReturn, GLd, GSt, Go}
+use Rattle.pef_model.specs.declared.command.Cmd.TheVariants.{UPagein, UPageout, GLd, GSt, Go}
+use Rattle.pef_model.specs.Target.{aim_in}
 
--- the guest that a step may change, by its number: the one that runs, the one whose page a call moves, or the one that the hypervisor names or, for UV_RETURN, selects
+-- the guest of an aim, by its number: the one that is named or is there, or the one whose page moves, once it is copied
+abbrev pub guest_of : Aim → Option ℕ
+guest_of (aim.NamedGuest lpid) = Some lpid
+guest_of (aim.Guest lpid) = Some lpid
+guest_of (aim.Move move) = if move.copied then Some move.lpid else None
+guest_of other = None
+
+-- the guest that a step may change, by its number
 abbrev pub guest_aimed : Ctx → ℕ → Cmd → Option ℕ
-guest_aimed ctx.Hv selected (UPagein lpid src gpa flags order) = Some lpid
-guest_aimed ctx.Hv selected (UPageout lpid dest gpa flags order) = Some lpid
-guest_aimed ctx.Hv selected (UReturn r0 r2 outs) = Some selected
-guest_aimed (ctx.Uv (Inward move)) selected Go = if move.copied then Some move.lpid else None
-guest_aimed (ctx.Uv (Outward move)) selected Go = if move.copied then Some move.lpid else None
-guest_aimed (ctx.Guest run) selected (HLd ra) = None
-guest_aimed (ctx.Guest run) selected (HSt ra value) = None
-guest_aimed (ctx.Guest run) selected Go = None
-guest_aimed (ctx.Guest run) selected cmd = Some run.lpid
-guest_aimed before selected cmd = None
+guest_aimed before selected cmd = guest_of (aim_in before selected cmd)
 
 -- whether a step may take a free secure frame or give one back: a load or store of a guest, UV_PAGE_IN and the end of a move
 abbrev pub uses_pool : Ctx → Cmd → Bool

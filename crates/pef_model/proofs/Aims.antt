@@ -2,14 +2,15 @@
 use Rattle.std.proofs.Common.{◌≡◌, ℕ, Bool, true, false, refl, if◌then◌else◌}
 use Rattle.pef_model.specs.declared.state.Run.{Run}
 use Rattle.pef_model.specs.declared.state.Ctx.TheVariants as ctx
+use Rattle.pef_model.specs.declared.aim.Aim.TheVariants as aim
 use Rattle.pef_model.specs.declared.command.Cmd.{Cmd}
 use Rattle.pef_model.specs.declared.command.Cmd.TheVariants.{HLd, HSt, Go}
 use Rattle.pef_model.specs.Plan.{Plan}
-use Rattle.pef_model.specs.Target.{Alone, AtFrame, frame_of, has_real_place, target_of_address, target_in, is_guest}
+use Rattle.pef_model.specs.Target.{Alone, AtFrame, frame_of, has_real_place, target_of_aim, target_in, is_guest}
 use Rattle.pef_model.proofs.Folds.{test_same}
 
 -- a real address aims at no guest
-pub address_is_no_guest : (plan : Plan) (ra lpid : ℕ) → is_guest lpid (target_of_address plan ra) ≡ false
+pub address_is_no_guest : (plan : Plan) (ra lpid : ℕ) → is_guest lpid (target_of_aim plan (aim.Address ra)) ≡ false
 address_is_no_guest plan ra lpid = by_place (has_real_place plan ra) where
   by_place : (b : Bool) → is_guest lpid (if b then AtFrame (frame_of plan ra) else Alone) ≡ false
   by_place true = refl

@@ -76,7 +76,7 @@ hands_by config past e range fill (Backs x) = fill_again config past e (same_han
 -- a frame keeps its size: a store puts a doubleword, and a copy as many bytes
 step_fills : (plan : Plan) (bytes : List ℕ) (c : Ctx) (cmd : Cmd) (a : Answer) (hand : List ℕ) → 8 ≤ plan.shift → length bytes ≡ 2 ^ plan.shift →
     ((at value : ℕ) → c ≡ ctx.Hv → cmd ≡ HSt at value → a ≡ Done → has_real_place plan at ≡ true) → ((move : Move) → c ≡ ctx.Uv (Outward move) → cmd ≡ Go → a ≡ Step → length hand ≡ 2 ^ plan.shift) →
-    (n : ℕ) → length (after_writes n bytes (write_in plan c cmd a hand n)) ≡ 2 ^ plan.shift
+    (n : ℕ) → length (after_writes n bytes (write_in plan.shift c cmd a hand n)) ≡ 2 ^ plan.shift
 step_fills plan bytes ctx.Hv (HSt at value) Done hand least size stores copies n =
     let fits = room_at plan.shift at least (aligned plan at (stores at value refl refl refl)) in
     let room : offset_of plan at + 8 ≤ length bytes = omega arith in
@@ -96,15 +96,15 @@ frames_by config past e range fill extends n = ap length (frame_written plan e p
   plan : Plan
   plan = plan_of config
 
-  by_frame : (frame : Option ℕ) → length (after_writes n (frame_after plan n past) (writes_in plan e.saw.before e.trace.cmd e.trace.answer e.bytes frame)) ≡ 2 ^ plan.shift
+  by_frame : (frame : Option ℕ) → length (after_writes n (frame_after plan n past) (writes_in plan.shift e.saw.before e.trace.cmd e.trace.answer e.bytes frame)) ≡ 2 ^ plan.shift
   by_frame None = fill.frames n
   by_frame (Some m) = by_test (m == n) refl where
-    by_test : (b : Bool) → (m == n) ≡ b → length (after_writes n (frame_after plan n past) (write_in plan e.saw.before e.trace.cmd e.trace.answer e.bytes m)) ≡ 2 ^ plan.shift
-    by_test true t = subst (λ (k : ℕ). length (after_writes n (frame_after plan n past) (write_in plan e.saw.before e.trace.cmd e.trace.answer e.bytes k)) ≡ 2 ^ plan.shift) (sym (test_same m n t))
+    by_test : (b : Bool) → (m == n) ≡ b → length (after_writes n (frame_after plan n past) (write_in plan.shift e.saw.before e.trace.cmd e.trace.answer e.bytes m)) ≡ 2 ^ plan.shift
+    by_test true t = subst (λ (k : ℕ). length (after_writes n (frame_after plan n past) (write_in plan.shift e.saw.before e.trace.cmd e.trace.answer e.bytes k)) ≡ 2 ^ plan.shift) (sym (test_same m n t))
         (step_fills plan (frame_after plan n past) e.saw.before e.trace.cmd e.trace.answer e.bytes range.shift.0 (fill.frames n)
         (λ at value before cmd done_is. let placed = store_is_placed plan past e at value extends before cmd done_is in placed.place)
         (λ move before cmd step_is. let copied = copy_is_placed plan past e move extends before cmd step_is in ap length copied.bytes ∙ fill.hands e.trace.cpu) n)
-    by_test false t = ap length (untouched plan n (frame_after plan n past) e.saw.before e.trace.cmd e.trace.answer e.bytes (Some m) t) ∙ fill.frames n
+    by_test false t = ap length (untouched plan.shift n (frame_after plan n past) e.saw.before e.trace.cmd e.trace.answer e.bytes (Some m) t) ∙ fill.frames n
 
 -- so it is after a legal history
 pub all_fill : (config : Config) (past : List Event) → IsInRange config → IsLegal (plan_of config) past → AllFill config past

@@ -19,7 +19,7 @@ use Rattle.pef_model.specs.declared.command.Cmd.TheVariants.{HLd, HSt, UPageout,
 use Rattle.pef_model.specs.declared.entry.Answer.TheVariants as answer
 use Rattle.pef_model.specs.Plan.{Plan}
 use Rattle.pef_model.specs.Event.{Event, Mark}
-use Rattle.pef_model.specs.Target.{Ask, Alone, AtGuest, AtFrame, frame_of, target_of_work, target_in, is_guest}
+use Rattle.pef_model.specs.Target.{Ask, Alone, AtGuest, AtFrame, frame_of, aim_of_work, target_of_aim, target_in, is_guest}
 use Rattle.pef_model.specs.Cpu.{CpuPart}
 use Rattle.pef_model.specs.GuestPart.{Page, GuestPart, page_of, with_running_vcpu, with_page_leaving, with_page_out, is_shared}
 use Rattle.pef_model.specs.Guest.{Guest}
@@ -74,9 +74,9 @@ page_begins plan g dest gpa flags order h =
     (secure_kind page.kind goes.1 shared.0, no_mover page.mover rests.1, secure_phase g.phase (not-false (may_page_out_in g.phase) phases.0) rests.0)
 
 -- the next step of a call in progress aims as its move says
-pub work_aims : (work : Work) (b : Bool) → (move_of work).copied ≡ b → target_of_work work Go ≡ (if b then AtGuest (move_of work).lpid else AtFrame (move_of work).frame)
-work_aims (Inward move) b t = ap (λ (c : Bool). if c then AtGuest move.lpid else AtFrame move.frame) t
-work_aims (Outward move) b t = ap (λ (c : Bool). if c then AtGuest move.lpid else AtFrame move.frame) t
+pub work_aims : (plan : Plan) (work : Work) (b : Bool) → (move_of work).copied ≡ b → target_of_aim plan (aim_of_work work Go) ≡ (if b then AtGuest (move_of work).lpid else AtFrame (move_of work).frame)
+work_aims plan (Inward move) b t = ap (λ (c : Bool). if c then AtGuest move.lpid else AtFrame move.frame) t
+work_aims plan (Outward move) b t = ap (λ (c : Bool). if c then AtGuest move.lpid else AtFrame move.frame) t
 
 module _ (plan : Plan) (past : List Event) (cpu : CpuPart) (mark : Mark) where
   -- the hypervisor's loads and stores
@@ -159,7 +159,7 @@ module _ (plan : Plan) (past : List Event) (cpu : CpuPart) (mark : Mark) where
       KeepsParts plan past (entry cpu (ctx.Uv work) mark Go (deed_after plan past (asked cpu (ctx.Uv work) Go) Go (AtFrame (move_of work).frame)))
   copy_keeps work t =
       at_none plan past (entry cpu (ctx.Uv work) mark Go (deed_after plan past (asked cpu (ctx.Uv work) Go) Go (AtFrame (move_of work).frame)))
-      (λ lpid. ap (is_guest lpid) (work_aims work false t))
+      (λ lpid. ap (is_guest lpid) (work_aims plan work false t))
 
   -- a call that comes back leaves its CPU to the hypervisor
   comes_back : (work : Work) → LeavesCpu cpu (entry cpu (ctx.Uv work) mark Go (coming_back (asked cpu (ctx.Uv work) Go) UParameter)) ctx.Hv cpu.hand cpu.lpid
@@ -174,7 +174,7 @@ module _ (plan : Plan) (past : List Event) (cpu : CpuPart) (mark : Mark) where
     before = h;
     generation = grind (arith, nat_tests);
     cpu_is = comes_back work;
-    parts = at_guest_same plan past (entry cpu (ctx.Uv work) mark Go (coming_back (asked cpu (ctx.Uv work) Go) UParameter)) (move_of work).lpid (work_aims work true t)
+    parts = at_guest_same plan past (entry cpu (ctx.Uv work) mark Go (coming_back (asked cpu (ctx.Uv work) Go) UParameter)) (move_of work).lpid (work_aims plan work true t)
         refl;
     pool = refl;
   })
@@ -205,7 +205,7 @@ module _ (plan : Plan) (past : List Event) (cpu : CpuPart) (mark : Mark) where
       before = h;
       generation = test_same move.generation g.generation same;
       cpu_is = record { ctx_is = refl; hand_is = refl; lpid_is = refl };
-      parts = at_guest plan past (entry cpu (ctx.Uv (Outward move)) mark Go (deed true)) move.lpid (with_page_out g move.gfn) (work_aims (Outward move) true t) refl;
+      parts = at_guest plan past (entry cpu (ctx.Uv (Outward move)) mark Go (deed true)) move.lpid (with_page_out g move.gfn) (work_aims plan (Outward move) true t) refl;
       pool = omega arith;
     })
     by_life false other = gone (Outward move) h t other

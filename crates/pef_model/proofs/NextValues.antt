@@ -105,18 +105,18 @@ guest_agrees plan e f g h =
     (λ i. record g { part = part i; content = λ gpa. unwrap_or (stored gpa i) (g.content gpa); registers = registers i; clean = g.clean && not (clash i) })
 
 -- the bytes count for a normal frame where a page is copied
-frame_reads : (plan : Plan) (c : Ctx) (cmd : Cmd) (a : Answer) (x y : List ℕ) (frame : Option ℕ) → (is_copying c cmd a ≡ true → x ≡ y) → writes_in plan c cmd a x frame ≡ writes_in plan c cmd a y frame
-frame_reads plan c cmd a x y None h = refl
-frame_reads plan c cmd a x y (Some n) h = by_ctx c cmd a h where
-  by_ctx : (c : Ctx) (cmd : Cmd) (a : Answer) → (is_copying c cmd a ≡ true → x ≡ y) → write_in plan c cmd a x n ≡ write_in plan c cmd a y n
+frame_reads : (shift : ℕ) (c : Ctx) (cmd : Cmd) (a : Answer) (x y : List ℕ) (frame : Option ℕ) → (is_copying c cmd a ≡ true → x ≡ y) → writes_in shift c cmd a x frame ≡ writes_in shift c cmd a y frame
+frame_reads shift c cmd a x y None h = refl
+frame_reads shift c cmd a x y (Some n) h = by_ctx c cmd a h where
+  by_ctx : (c : Ctx) (cmd : Cmd) (a : Answer) → (is_copying c cmd a ≡ true → x ≡ y) → write_in shift c cmd a x n ≡ write_in shift c cmd a y n
   by_ctx (ctx.Uv (Outward move)) Go Step h = ap (λ (bytes : List ℕ). record { frame = n; offset = 0; bytes = bytes } ∷ []) (h refl)
   by_ctx ctx.Hv (HSt ra value) Done h = refl
   by_ctx c cmd a h = refl
 
 frame_agrees : (plan : Plan) (e f : Event) (n : ℕ) (bytes : List ℕ) → AgreeForFrame e f → next_frame plan n bytes e ≡ next_frame plan n bytes f
 frame_agrees plan e f n bytes h =
-    let z : writes_in plan e.saw.before e.trace.cmd e.trace.answer e.bytes e.saw.frame ≡ writes_in plan e.saw.before e.trace.cmd e.trace.answer f.bytes e.saw.frame =
-    frame_reads plan e.saw.before e.trace.cmd e.trace.answer e.bytes f.bytes e.saw.frame h.bytes in
+    let z : writes_in plan.shift e.saw.before e.trace.cmd e.trace.answer e.bytes e.saw.frame ≡ writes_in plan.shift e.saw.before e.trace.cmd e.trace.answer f.bytes e.saw.frame =
+    frame_reads plan.shift e.saw.before e.trace.cmd e.trace.answer e.bytes f.bytes e.saw.frame h.bytes in
     let a = h.cmd in
     let b = h.answer in
     let c = h.before in

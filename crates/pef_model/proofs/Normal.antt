@@ -125,7 +125,7 @@ module _ (config : Config) (past : List Event) (e : Event) (range : IsInRange co
   abbrev plan : Plan
   plan = plan_of config
 
-  write_whole : (c : Ctx) (cmd : Cmd) (a : Answer) (n : ℕ) → e.saw.before ≡ c → e.trace.cmd ≡ cmd → e.trace.answer ≡ a → AllByRecursion (IsWhole plan) (write_in plan c cmd a e.bytes n)
+  write_whole : (c : Ctx) (cmd : Cmd) (a : Answer) (n : ℕ) → e.saw.before ≡ c → e.trace.cmd ≡ cmd → e.trace.answer ≡ a → AllByRecursion (IsWhole plan) (write_in plan.shift c cmd a e.bytes n)
   write_whole ctx.Hv (HSt at value) Done n before cmd_is answer_is =
       let placed = store_is_placed plan past e at value legal.0 before cmd_is answer_is in
       let eight = aligned plan at placed.place in
@@ -139,7 +139,7 @@ module _ (config : Config) (past : List Event) (e : Event) (range : IsInRange co
 
   pub all_whole : AllByRecursion (IsWhole plan) (writes_of plan e)
   all_whole = by_frame e.saw.frame where
-    by_frame : (frame : Option ℕ) → AllByRecursion (IsWhole plan) (writes_in plan e.saw.before e.trace.cmd e.trace.answer e.bytes frame)
+    by_frame : (frame : Option ℕ) → AllByRecursion (IsWhole plan) (writes_in plan.shift e.saw.before e.trace.cmd e.trace.answer e.bytes frame)
     by_frame None = tt
     by_frame (Some n) = write_whole e.saw.before e.trace.cmd e.trace.answer n refl refl refl
 
@@ -171,7 +171,7 @@ store_is_last_norm config past e ra value range legal before cmd_is answer_is =
     let placed = store_is_placed plan past e ra value legal.0 before cmd_is answer_is in
     let now = frame_holds config past ra range legal.1 placed.place in
     let fits : off + 8 ≤ length old = let room = room_at plan.shift ra range.shift.0 (aligned plan ra placed.place) in let size = now.size in omega arith in
-    let writes : writes_of plan e ≡ write_in plan ctx.Hv (HSt ra value) Done e.bytes n = (λ i. writes_in plan (before i) (cmd_is i) (answer_is i) e.bytes (placed.frame i)) in
+    let writes : writes_of plan e ≡ write_in plan.shift ctx.Hv (HSt ra value) Done e.bytes n = (λ i. writes_in plan.shift (before i) (cmd_is i) (answer_is i) e.bytes (placed.frame i)) in
     let written : frame_after plan n (e ∷ past) ≡ with_doubleword old off value =
     frame_written plan e past n ∙ ap (after_writes n old) writes ∙ ap (λ (b : Bool). if b then overwritten old off (big_bytes 8 value) else old) (same_test n) ∙ doubleword_overwrites old off value in
     sym (frames_hold_last_norm config (e ∷ past) ra range legal placed.place) ∙ ap (λ (bytes : List ℕ). doubleword bytes off) written ∙ doubleword-put old off value fits command.1

@@ -118,7 +118,7 @@ module _ (plan : Plan) (past : List Event) (cpu : CpuPart) (mark : Mark) where
     fresh = is_last_sealed (g.pages move.gfn).sealed ask.hand
 
     target : target_in plan (ctx.Uv (Inward move)) cpu.lpid Go ≡ AtGuest move.lpid
-    target = work_aims (Inward move) true t
+    target = work_aims plan (Inward move) true t
 
     by_test : move.generation ≡ g.generation → (b : Bool) → Change plan past cpu (entry cpu (ctx.Uv (Inward move)) mark Go (deed true b))
     by_test same true = Accepts (record {

@@ -66,7 +66,7 @@ guest_open : (plan : Plan) (g : GuestPart) (e : Event) → next_part plan g e �
 guest_open plan g e = effect_open plan g e.trace.cpu e.bytes e.saw.before e.trace.answer e.trace.cmd e.saw.pool e.saw.vid
 
 frame_open : (plan : Plan) (n : ℕ) (bytes : List ℕ) (e : Event) → next_frame plan n bytes e ≡ next_frame plan n bytes (open_entry e)
-frame_open plan n bytes e = ap (after_writes n bytes) (writes_open plan e.saw.before e.trace.cmd e.trace.answer e.bytes e.saw.frame)
+frame_open plan n bytes e = ap (after_writes n bytes) (writes_open plan.shift e.saw.before e.trace.cmd e.trace.answer e.bytes e.saw.frame)
 
 pub no_secret_in_one_entry : NoSecretInOneEntry
 no_secret_in_one_entry plan e f same = record {

@@ -15,7 +15,7 @@ use Rattle.pef_model.specs.declared.state.Run.{Run}
 use Rattle.pef_model.specs.Memory.{offset_of}
 use Rattle.pef_model.specs.Plan.{Plan}
 use Rattle.pef_model.specs.Event.{Event, mark_of}
-use Rattle.pef_model.specs.Target.{Ask, Target, Alone, AtGuest, AtFrame, target_of_running, target_in, is_guest, is_number, touches_frame, touches_guest, touches_pool}
+use Rattle.pef_model.specs.Target.{Ask, Target, Alone, AtGuest, AtFrame, target_in, is_guest, is_number, touches_frame, touches_guest, touches_pool}
 use Rattle.pef_model.specs.Cpu.{CpuPart}
 use Rattle.pef_model.specs.GuestPart.{GuestPart, Meeting, Unbacked, meets}
 use Rattle.pef_model.specs.Guest.{Guest}
@@ -67,15 +67,15 @@ deed_asks plan g found other any free ask cmd (ctx.Guest run) h = by_test (run.g
 -- a step that aims at a normal frame touches it: none of a guest does
 at_frame : (plan : Plan) (n : ℕ) (bytes : List ℕ) (ask : Ask) (cmd : Cmd) → target_in plan ask.before ask.lpid cmd ≡ AtFrame n → is_number n (deed_frame plan n bytes ask cmd).frame ≡ true
 at_frame plan n bytes ask cmd is = by_ctx ask.before is where
-  running : (l : ℕ) (cmd : Cmd) → target_of_running l cmd ≡ AtFrame n → is_number n None ≡ true
-  running l Go h = cc
-  running l cmd h = cc
+  running : (run : Run) (cmd : Cmd) → target_in plan (ctx.Guest run) ask.lpid cmd ≡ AtFrame n → is_number n None ≡ true
+  running run Go h = cc
+  running run cmd h = cc
 
   by_ctx : (c : Ctx) → target_in plan c ask.lpid cmd ≡ AtFrame n → is_number n (deed_frame_in c plan n bytes ask cmd).frame ≡ true
   by_ctx ctx.Hv h = same_test n
   by_ctx (ctx.Uv (Inward move)) h = same_test n
   by_ctx (ctx.Uv (Outward move)) h = same_test n
-  by_ctx (ctx.Guest run) h = running run.lpid cmd h
+  by_ctx (ctx.Guest run) h = running run cmd h
 
 pub touched_objects_decide : TouchedObjectsDecide
 touched_objects_decide plan past other e agree extends = record { cpu = extends.cpu; command = extends.command; is = extends.is ∙ by_target (target_in plan ask.before ask.lpid e.trace.cmd) refl ∙ asked } where

@@ -13,7 +13,7 @@ use Rattle.pef_model.specs.declared.entry.Answer.TheVariants.{Done, Val}
 use Rattle.pef_model.specs.Plan.{Plan, plan_of, with_entropy}
 use Rattle.pef_model.specs.Seal.{vault_image, stream_image, image as image_by}
 use Rattle.pef_model.specs.Event.{Event, mark_of, first}
-use Rattle.pef_model.specs.Target.{Ask, target_of_running, touches_cpu, touches_guest, touches_pool, touches_frame}
+use Rattle.pef_model.specs.Target.{Ask, target_in, touches_cpu, touches_guest, touches_pool, touches_frame}
 use Rattle.pef_model.specs.Cpu.{CpuPart, start_cpu, next_cpu}
 use Rattle.pef_model.specs.GuestPart.{GuestPart, Meeting, Unbacked, meets, start_part, next_part}
 use Rattle.pef_model.specs.Memory.{writes_of, start_pool, next_pool, start_frame, next_frame, offset_of, either_of}
@@ -32,9 +32,9 @@ use Rattle.pef_model.proofs.AlikeEntries.{IsNext, unstamped, opened, Same, entri
 
 -- a step of a guest after which the hypervisor runs gives no value
 running_gives_none : (plan : Plan) (past : List Event) (run : Run) (l v : ℕ) (last : Answer) (hand : List ℕ) (cmd : Cmd) →
-    (deed_after plan past (record { before = ctx.Guest run; lpid = l; vid = v; last = last; hand = hand }) cmd (target_of_running run.lpid cmd)).after ≡ ctx.Hv →
-    open_answer_of_guest (deed_after plan past (record { before = ctx.Guest run; lpid = l; vid = v; last = last; hand = hand }) cmd (target_of_running run.lpid cmd)).answer
-    ≡ (deed_after plan past (record { before = ctx.Guest run; lpid = l; vid = v; last = last; hand = hand }) cmd (target_of_running run.lpid cmd)).answer
+    (deed_after plan past (record { before = ctx.Guest run; lpid = l; vid = v; last = last; hand = hand }) cmd (target_in plan (ctx.Guest run) l cmd)).after ≡ ctx.Hv →
+    open_answer_of_guest (deed_after plan past (record { before = ctx.Guest run; lpid = l; vid = v; last = last; hand = hand }) cmd (target_in plan (ctx.Guest run) l cmd)).answer
+    ≡ (deed_after plan past (record { before = ctx.Guest run; lpid = l; vid = v; last = last; hand = hand }) cmd (target_in plan (ctx.Guest run) l cmd)).answer
 running_gives_none plan past run l v last hand cmd = by_command cmd where
   ask : Ask
   ask = record { before = ctx.Guest run; lpid = l; vid = v; last = last; hand = hand }
@@ -60,8 +60,8 @@ running_gives_none plan past run l v last hand cmd = by_command cmd where
   by_generation cmd true h = by_running cmd h
   by_generation cmd false h = refl
 
-  by_command : (cmd : Cmd) → (deed_after plan past ask cmd (target_of_running run.lpid cmd)).after ≡ ctx.Hv →
-      open_answer_of_guest (deed_after plan past ask cmd (target_of_running run.lpid cmd)).answer ≡ (deed_after plan past ask cmd (target_of_running run.lpid cmd)).answer
+  by_command : (cmd : Cmd) → (deed_after plan past ask cmd (target_in plan (ctx.Guest run) l cmd)).after ≡ ctx.Hv →
+      open_answer_of_guest (deed_after plan past ask cmd (target_in plan (ctx.Guest run) l cmd)).answer ≡ (deed_after plan past ask cmd (target_in plan (ctx.Guest run) l cmd)).answer
   by_command (HLd ra) h = refl
   by_command (HSt ra value) h = refl
   by_command Go h = refl
@@ -158,9 +158,9 @@ module _ (plan : Plan) (words : ℕ → List ℕ) (past history : List Event) (e
       ap (λ (cpu : CpuPart). if_hypervisor e.saw.after cpu.own) (cpu_more e.trace.cpu ∙ ap (λ (n : ℕ). cpu_after (with_entropy plan words) n (f ∷ history)) alike.cpu)
       ∙ ap (λ (c : Ctx). if_hypervisor c (cpu_after (with_entropy plan words) f.trace.cpu (f ∷ history)).own) after in
       let writes : writes_of plan e ≡ writes_of plan f =
-      writes_open plan e.saw.before e.trace.cmd e.trace.answer e.bytes e.saw.frame
+      writes_open plan.shift e.saw.before e.trace.cmd e.trace.answer e.bytes e.saw.frame
       ∙ ap (λ (x : Event). writes_of plan x) alike_opened
-      ∙ sym (writes_open plan f.saw.before f.trace.cmd f.trace.answer f.bytes f.saw.frame) in
+      ∙ sym (writes_open plan.shift f.saw.before f.trace.cmd f.trace.answer f.bytes f.saw.frame) in
       (λ i. record { step = shown i; registers = registers i; writes = writes i })
 
   pub one_more : Same plan words (e ∷ past) (f ∷ history)

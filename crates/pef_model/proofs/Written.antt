@@ -14,7 +14,7 @@ use Rattle.pef_model.specs.declared.entry.Answer.TheVariants.{Done, Step}
 use Rattle.pef_model.specs.Plan.{Plan}
 use Rattle.pef_model.specs.Event.{Event}
 use Rattle.pef_model.specs.Target.{touches_frame, is_number}
-use Rattle.pef_model.specs.Memory.{offset_of, write_in, writes_in, writes_of, after_writes, overwritten, next_frame, start_frame}
+use Rattle.pef_model.specs.Memory.{offset_by, write_in, writes_in, writes_of, after_writes, overwritten, next_frame, start_frame}
 use Rattle.pef_model.specs.History.{frame_after}
 use Rattle.pef_model.specs.NormalLaw.{WritesMakeFrames}
 use Rattle.pef_model.proofs.Folds.{counts, skips}
@@ -30,14 +30,14 @@ all_overwritten old bytes same =
     ap (λ (rest : List ℕ). bytes ++ rest) (drop_of_length-le old (omega (arith, same))) ∙ append-nil bytes
 
 -- a step writes in no other frame than the one that it tells
-elsewhere : (plan : Plan) (n m : ℕ) (old : List ℕ) (c : Ctx) (cmd : Cmd) (a : Answer) (bytes : List ℕ) → (m == n) ≡ false → after_writes n old (write_in plan c cmd a bytes m) ≡ old
-elsewhere plan n m old ctx.Hv (HSt ra value) Done bytes other = ap (λ (b : Bool). if b then overwritten old (offset_of plan ra) (big_bytes 8 value) else old) other
-elsewhere plan n m old (ctx.Uv (Outward move)) Go Step bytes other = ap (λ (b : Bool). if b then overwritten old 0 bytes else old) other
-elsewhere plan n m old c cmd a bytes other = refl
+elsewhere : (shift : ℕ) (n m : ℕ) (old : List ℕ) (c : Ctx) (cmd : Cmd) (a : Answer) (bytes : List ℕ) → (m == n) ≡ false → after_writes n old (write_in shift c cmd a bytes m) ≡ old
+elsewhere shift n m old ctx.Hv (HSt ra value) Done bytes other = ap (λ (b : Bool). if b then overwritten old (offset_by shift ra) (big_bytes 8 value) else old) other
+elsewhere shift n m old (ctx.Uv (Outward move)) Go Step bytes other = ap (λ (b : Bool). if b then overwritten old 0 bytes else old) other
+elsewhere shift n m old c cmd a bytes other = refl
 
-pub untouched : (plan : Plan) (n : ℕ) (old : List ℕ) (c : Ctx) (cmd : Cmd) (a : Answer) (bytes : List ℕ) (frame : Option ℕ) → is_number n frame ≡ false → after_writes n old (writes_in plan c cmd a bytes frame) ≡ old
-untouched plan n old c cmd a bytes None other = refl
-untouched plan n old c cmd a bytes (Some m) other = elsewhere plan n m old c cmd a bytes other
+pub untouched : (shift : ℕ) (n : ℕ) (old : List ℕ) (c : Ctx) (cmd : Cmd) (a : Answer) (bytes : List ℕ) (frame : Option ℕ) → is_number n frame ≡ false → after_writes n old (writes_in shift c cmd a bytes frame) ≡ old
+untouched shift n old c cmd a bytes None other = refl
+untouched shift n old c cmd a bytes (Some m) other = elsewhere shift n m old c cmd a bytes other
 
 -- so a frame is what the writes make of it, whether an entry touches it or not
 pub frame_written : (plan : Plan) (e : Event) (past : List Event) (n : ℕ) → frame_after plan n (e ∷ past) ≡ after_writes n (frame_after plan n past) (writes_of plan e)
@@ -45,7 +45,7 @@ frame_written plan e past n = by_test (touches_frame n e) refl where
   by_test : (b : Bool) → touches_frame n e ≡ b → frame_after plan n (e ∷ past) ≡ after_writes n (frame_after plan n past) (writes_of plan e)
   by_test true t = counts (touches_frame n) (next_frame plan n) (start_frame plan) e past t
   by_test false t = skips (touches_frame n) (next_frame plan n) (start_frame plan) e past t
-      ∙ sym (untouched plan n (frame_after plan n past) e.saw.before e.trace.cmd e.trace.answer e.bytes e.saw.frame t)
+      ∙ sym (untouched plan.shift n (frame_after plan n past) e.saw.before e.trace.cmd e.trace.answer e.bytes e.saw.frame t)
 
 -- by induction over the history
 pub writes_make_frames : WritesMakeFrames

@@ -31,9 +31,13 @@ tells_free (Some saw) = saw.any
 abbrev pub start_pool : Plan → ℕ
 start_pool plan = plan.secure
 
--- the offset of an address in its page or frame
+-- the offset of an address in its page or frame, by the page shift
+abbrev pub offset_by : ℕ → ℕ → ℕ
+offset_by shift address = address % 2 ^ shift
+
+-- the same, by a plan
 abbrev pub offset_of : Plan → ℕ → ℕ
-offset_of plan address = address % 2 ^ plan.shift
+offset_of plan address = offset_by plan.shift address
 
 -- a write into normal memory
 pub record Write : Type 0 where
@@ -41,19 +45,19 @@ pub record Write : Type 0 where
   pub offset : ℕ
   pub bytes : List ℕ
 
--- what a step at this normal frame writes there: a store its doubleword, a copy the entry's bytes
-abbrev pub write_in : Plan → Ctx → Cmd → Answer → List ℕ → ℕ → List Write
-write_in plan ctx.Hv (HSt ra value) answer.Done bytes n = record { frame = n; offset = offset_of plan ra; bytes = big_bytes 8 value } ∷ []
-write_in plan before cmd a bytes n = if is_copying before cmd a then record { frame = n; offset = 0; bytes = bytes } ∷ [] else []
+-- what a step at this normal frame writes there, by the page shift: a store its doubleword, a copy the entry's bytes
+abbrev pub write_in : ℕ → Ctx → Cmd → Answer → List ℕ → ℕ → List Write
+write_in shift ctx.Hv (HSt ra value) answer.Done bytes n = record { frame = n; offset = offset_by shift ra; bytes = big_bytes 8 value } ∷ []
+write_in shift before cmd a bytes n = if is_copying before cmd a then record { frame = n; offset = 0; bytes = bytes } ∷ [] else []
 
 -- what a step writes into the normal frame that it tells
-abbrev pub writes_in : Plan → Ctx → Cmd → Answer → List ℕ → Option ℕ → List Write
-writes_in plan c cmd a bytes None = []
-writes_in plan c cmd a bytes (Some n) = write_in plan c cmd a bytes n
+abbrev pub writes_in : ℕ → Ctx → Cmd → Answer → List ℕ → Option ℕ → List Write
+writes_in shift c cmd a bytes None = []
+writes_in shift c cmd a bytes (Some n) = write_in shift c cmd a bytes n
 
 -- what an entry writes into normal memory
 abbrev pub writes_of : Plan → Event → List Write
-writes_of plan e = writes_in plan e.saw.before e.trace.cmd e.trace.answer e.bytes e.saw.frame
+writes_of plan e = writes_in plan.shift e.saw.before e.trace.cmd e.trace.answer e.bytes e.saw.frame
 
 -- bytes with others written over them, from an offset on
 abbrev pub overwritten : List ℕ → ℕ → List ℕ → List ℕ

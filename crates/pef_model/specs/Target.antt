@@ -8,6 +8,8 @@ use Rattle.pef_model.specs.declared.state.Work.{Work}
 use Rattle.pef_model.specs.declared.state.Work.TheVariants.{Inward, Outward}
 use Rattle.pef_model.specs.declared.state.Ctx.{Ctx}
 use Rattle.pef_model.specs.declared.state.Ctx.TheVariants as ctx
+use Rattle.pef_model.specs.declared.aim.Aim.{Aim}
+use Rattle.pef_model.specs.declared.aim.Aim.TheVariants as aim
 use Rattle.pef_model.specs.declared.command.Cmd.{Cmd}
 use Rattle.pef_model.specs.declared.command.Cmd.TheVariants.{HLd, HSt, UPagein, UPageout, UReturn, GLi, GLd, GSt, GIrq, Go}
 use Rattle.pef_model.specs.declared.entry.Answer.{Answer}
@@ -117,45 +119,45 @@ frame_of plan ra = ra / 2 ^ plan.shift
 abbrev pub has_real_place : Plan → ℕ → Bool
 has_real_place plan ra = (ra % 8 == 0) && nat_lt (frame_of plan ra) plan.normal
 
--- a real address aims at its frame, if it has one
-abbrev pub target_of_address : Plan → ℕ → Target
-target_of_address plan ra = if has_real_place plan ra then AtFrame (frame_of plan ra) else Alone
+-- in the hypervisor UV_RETURN aims at the selected guest, a page's move at the one that it names, a load or store at its address, and every other command at nothing
+abbrev pub aim_of_hypervisor : ℕ → Cmd → Aim
+aim_of_hypervisor selected (HLd ra) = aim.Address ra
+aim_of_hypervisor selected (HSt ra value) = aim.Address ra
+aim_of_hypervisor selected (UPagein lpid src gpa flags order) = aim.NamedGuest lpid
+aim_of_hypervisor selected (UPageout lpid dest gpa flags order) = aim.NamedGuest lpid
+aim_of_hypervisor selected (UReturn r0 r2 outs) = aim.Guest selected
+aim_of_hypervisor selected cmd = aim.Nothing
 
--- a call that names a guest aims at it, if there is one of that number
-abbrev pub target_of_number : Plan → ℕ → Target
-target_of_number plan lpid = if nat_le 1 lpid && nat_le lpid plan.guests then AtGuest lpid else Alone
-
--- in the hypervisor UV_RETURN aims at the selected guest, a page's move at the one that it names, a load or store at its frame, and every other command at nothing
-abbrev pub target_of_hypervisor : Plan → ℕ → Cmd → Target
-target_of_hypervisor plan lpid (HLd ra) = target_of_address plan ra
-target_of_hypervisor plan lpid (HSt ra value) = target_of_address plan ra
-target_of_hypervisor plan lpid (UPagein named src gpa flags order) = target_of_number plan named
-target_of_hypervisor plan lpid (UPageout named dest gpa flags order) = target_of_number plan named
-target_of_hypervisor plan lpid (UReturn r0 r2 outs) = AtGuest lpid
-target_of_hypervisor plan lpid cmd = Alone
+-- the next step of a call in progress aims at the page that moves, and every other command at nothing
+abbrev pub aim_of_work : Work → Cmd → Aim
+aim_of_work (Inward move) Go = aim.Move move
+aim_of_work (Outward move) Go = aim.Move move
+aim_of_work work cmd = aim.Nothing
 
 -- a guest's own commands aim at the guest, whatever they name, and every other command at nothing
-abbrev pub target_of_running : ℕ → Cmd → Target
-target_of_running lpid (HLd ra) = Alone
-target_of_running lpid (HSt ra value) = Alone
-target_of_running lpid Go = Alone
-target_of_running lpid cmd = AtGuest lpid
+abbrev pub aim_of_running : ℕ → Cmd → Aim
+aim_of_running lpid (HLd ra) = aim.Nothing
+aim_of_running lpid (HSt ra value) = aim.Nothing
+aim_of_running lpid Go = aim.Nothing
+aim_of_running lpid cmd = aim.Guest lpid
 
--- a page on the move aims at its normal frame until it is copied, and then at its guest
-abbrev pub target_of_move : Move → Target
-target_of_move move = if move.copied then AtGuest move.lpid else AtFrame move.frame
+-- at what a command aims, by its CPU's context and the guest that is selected there
+abbrev pub aim_in : Ctx → ℕ → Cmd → Aim
+aim_in ctx.Hv selected cmd = aim_of_hypervisor selected cmd
+aim_in (ctx.Uv work) selected cmd = aim_of_work work cmd
+aim_in (ctx.Guest run) selected cmd = aim_of_running run.lpid cmd
 
--- the next step of a call in progress aims as its work says, and every other command at nothing
-abbrev pub target_of_work : Work → Cmd → Target
-target_of_work (Outward move) Go = target_of_move move
-target_of_work (Inward move) Go = target_of_move move
-target_of_work work cmd = Alone
+-- the object of an aim: none where a call names no guest of the machine or an address has no place, and of a page on the move its normal frame until it is copied, and then its guest
+abbrev pub target_of_aim : Plan → Aim → Target
+target_of_aim plan aim.Nothing = Alone
+target_of_aim plan (aim.NamedGuest lpid) = if nat_le 1 lpid && nat_le lpid plan.guests then AtGuest lpid else Alone
+target_of_aim plan (aim.Guest lpid) = AtGuest lpid
+target_of_aim plan (aim.Address ra) = if has_real_place plan ra then AtFrame (frame_of plan ra) else Alone
+target_of_aim plan (aim.Move move) = if move.copied then AtGuest move.lpid else AtFrame move.frame
 
 -- the target of a step
 abbrev pub target_in : Plan → Ctx → ℕ → Cmd → Target
-target_in plan ctx.Hv lpid cmd = target_of_hypervisor plan lpid cmd
-target_in plan (ctx.Uv work) lpid cmd = target_of_work work cmd
-target_in plan (ctx.Guest run) lpid cmd = target_of_running run.lpid cmd
+target_in plan before lpid cmd = target_of_aim plan (aim_in before lpid cmd)
 
 -- the target of an entry's step
 abbrev pub target_of : Plan → Event → Target

@@ -1,6 +1,7 @@
 //! What a reader of this project has to believe: the types, the definitions and the laws.
 #![tactic(auto)]
 
+pub mod aim;
 pub mod cause_laws;
 pub mod command;
 pub mod config;
@@ -13,6 +14,7 @@ pub mod refusal_laws;
 pub mod state;
 pub mod step_laws;
 
+pub use aim::Aim;
 pub use command::{
     Cmd, Code, Directive, EXTERNAL_INTERRUPT, PAGE_IN_FLAGS, Reg, UV_PAGE_IN, UV_PAGE_OUT,
     UV_RETURN, UV_SNAPSHOT,

@@ -27,5 +27,5 @@ returns-clause-refused g c own there =
 
 pub returns-clause-alone : goal.returns-clause-alone
 returns-clause-alone g c =
-    subst (λ m. LeavesOthers c.args.cpu c.args.cmd.now m c.counted.new.self) c.self.view_is
+    subst (λ m. LeavesOthers c.args.cpu c.args.cmd.now m c.counted.new.self c.counted.result) c.self.view_is
     (λ own there. (let rest = c.counted.ensures.alone own there in record { cpus = rest.cpus; guests = rest.guests; keeps = rest.keeps; lives = rest.lives; movers = rest.movers; pool = rest.pool; normal = rest.normal }))
