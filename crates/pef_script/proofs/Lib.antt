@@ -7,4 +7,5 @@ mod ScriptLines
 mod Results
 mod Ranges
 pub mod ReadScripts
+mod WrittenWords
 mod WrittenLines

@@ -11,8 +11,8 @@ use Rattle.pef_model.specs.declared.command.Cmd.TheVariants.{HLd, HSt, UPagein, 
 use Rattle.pef_model.specs.declared.command.Directive.{Directive}
 use Rattle.pef_model.specs.declared.command.Directive.TheVariants.{Once, GoAll}
 use Rattle.pef_model.specs.Script.{Line}
-use Rattle.pef_model.specs.ScriptText.{number_text, line_words, DirectiveCanBeWritten}
-use Rattle.pef_model.proofs.WrittenWords.{number_reads, register_reads}
+use Rattle.pef_script.specs.Written.{number_text, line_words, DirectiveCanBeWritten}
+use Rattle.pef_script.proofs.WrittenWords.{number_reads, register_reads}
 use Rattle.pef_script.specs.Command.{line_in}
 use Rattle.pef_script.specs.Table.{word_named}
 use Rattle.pef_script.specs.Token.{pair_in}

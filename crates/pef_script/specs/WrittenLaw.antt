@@ -5,7 +5,7 @@ use Rattle.pef_model.specs.declared.command.Cmd.TheVariants.{GLi}
 use Rattle.pef_model.specs.declared.command.Directive.{Directive}
 use Rattle.pef_model.specs.declared.command.Directive.TheVariants.{Once, GoAll}
 use Rattle.pef_model.specs.Script.{Line}
-use Rattle.pef_model.specs.ScriptText.{line_words, DirectiveCanBeWritten}
+use Rattle.pef_script.specs.Written.{line_words, DirectiveCanBeWritten}
 use Rattle.pef_script.specs.Command.{line_in}
 
 -- the right number of a command's pair where one number is written, and 0 where no pair may stand

@@ -18,10 +18,6 @@ number_text hex n = if hex then codes "0x" ++ digits 16 false n else decimal n
 abbrev pub register_text : ℕ → List ℕ
 register_text r = codes "r" ++ decimal r
 
--- a seal by its name
-abbrev pub seal_text : Bool → List ℕ
-seal_text vault = if vault then codes "vault" else codes "stream"
-
 -- a command's name and operands, with numbers in hexadecimal or in decimal
 abbrev pub command_text : Bool → Cmd → List (List ℕ)
 command_text hex (HLd ra) = codes "h.ld" ∷ number_text hex ra ∷ []
@@ -46,28 +42,6 @@ directive_text hex GoAll = codes "go*" ∷ []
 abbrev pub line_words : Bool → Line → List (List ℕ)
 line_words hex line = number_text hex line.cpu ∷ directive_text hex line.directive
 
--- the words of the lines before the commands: the script's first line, each size and the seal, `born 1` and `begin`
-abbrev pub header_words : Bool → Config → List (List (List ℕ))
-header_words hex config =
-    (codes "pef" ∷ codes "1" ∷ [])
-    ∷ (codes "shift" ∷ number_text hex config.shift ∷ [])
-    ∷ (codes "normal" ∷ number_text hex config.normal ∷ [])
-    ∷ (codes "secure" ∷ number_text hex config.secure ∷ [])
-    ∷ (codes "cpus" ∷ number_text hex config.cpus ∷ [])
-    ∷ (codes "pages" ∷ number_text hex config.pages ∷ [])
-    ∷ (codes "seal" ∷ seal_text config.vault ∷ [])
-    ∷ (codes "born" ∷ codes "1" ∷ [])
-    ∷ (codes "begin" ∷ [])
-    ∷ []
-
--- the text of a line's words
-abbrev pub words_text : List (List ℕ) → List ℕ
-words_text words = join_with_byte 32 words ++ codes "\n"
-
--- the text of a script
-abbrev pub script_text : Bool → Script → List ℕ
-script_text hex script = flat_map words_text (header_words hex script.config ++ map (line_words hex) script.lines)
-
 -- a command whose register is below 32, whose numbers are below 2^64, and which returns nothing in R4 to R12
 abbrev pub CanBeWritten : Cmd → Type 0
 CanBeWritten (HLd ra) = ra < 2 ^ 64
@@ -85,24 +59,3 @@ CanBeWritten Go = Unit {0}
 abbrev pub DirectiveCanBeWritten : Directive → Type 0
 DirectiveCanBeWritten (Once cmd) = CanBeWritten cmd
 DirectiveCanBeWritten GoAll = Unit {0}
-
--- the lines' numbers count up from this one
-abbrev pub CountsFrom : ℕ → List Line → Type 0
-CountsFrom number [] = Unit {0}
-CountsFrom number (line ∷ more) = (line.number ≡ number) × CountsFrom (number + 1) more
-
--- what no line of a script sets: one guest with one vCPU, which is born secure, the key and the entropy words
-pub record HasDefaults (config : Config) : Type 0 where
-  pub guests : config.guests ≡ 1
-  pub vcpus : config.vcpus ≡ 1
-  pub key : config.key ≡ replicate 32 0
-  pub born : config.born ≡ 1 ∷ []
-  pub entropy : config.entropy ≡ []
-
--- a script that a text can say, whose first command has this line: its sizes are in their ranges, and each line is one of a machine's CPUs with a directive that can be written
-pub record IsWritable (first : ℕ) (script : Script) : Type 0 where
-  pub range : IsInRange script.config
-  pub defaults : HasDefaults script.config
-  pub counts : CountsFrom first script.lines
-  pub cpus : AllByRecursion (λ (line : Line). line.cpu < script.config.cpus) script.lines
-  pub directives : AllByRecursion (λ (line : Line). DirectiveCanBeWritten line.directive) script.lines
