@@ -1,14 +1,18 @@
 -- How a script is written: each line is its words, parted by one space, and ends in LF.
-use Rattle.std.specs.Prelude.{◌≡◌, ℕ, ◌+◌, ◌^◌, ◌<◌, Bool, false, if◌then◌else◌, List, [], ◌∷◌, ◌++◌, map, replicate, codes}
+use Rattle.std.specs.Prelude.{◌≡◌, ℕ, ◌^◌, ◌<◌, ◌==◌, Bool, false, if◌then◌else◌, List, [], ◌∷◌, ◌++◌, length, map, codes}
 use Rattle.std.specs.List.{AllByRecursion, flat_map, join_with_byte}
 use Rattle.std.specs.Fmt.{digits, decimal}
+use Rattle.hex.specs.Hex.{IsBytes, encode_lower}
 use Rattle.pef_model.specs.declared.config.Config.{Config}
+use Rattle.pef_model.specs.declared.config.EntropyWord.{EntropyWord}
 use Rattle.pef_model.specs.declared.command.Directive.{Directive}
 use Rattle.pef_model.specs.declared.command.Directive.TheVariants.{Once, GoAll}
 use Rattle.pef_model.specs.declared.command.Cmd.{Cmd}
-use Rattle.pef_model.specs.declared.command.Cmd.TheVariants.{HLd, HSt, UPagein, UPageout, UReturn, GLi, GLd, GSt, GIrq, Go}
+use Rattle.pef_model.specs.declared.command.Cmd.TheVariants.{HLd, HSt, UPagein, UPageout, UReturn, GLi, GLd, GSt}
 use Rattle.pef_model.specs.Plan.{IsInRange}
-use Rattle.pef_model.specs.Script.{Line, Script}
+use Rattle.pef_model.specs.Report.{command_name}
+use Rattle.pef_script.specs.Line.{ReadLine}
+use Rattle.pef_script.specs.Script.{ReadScript}
 
 -- a number in hexadecimal or in decimal
 abbrev pub number_text : Bool → ℕ → List ℕ
@@ -18,44 +22,66 @@ number_text hex n = if hex then codes "0x" ++ digits 16 false n else decimal n
 abbrev pub register_text : ℕ → List ℕ
 register_text r = codes "r" ++ decimal r
 
--- a command's name and operands, with numbers in hexadecimal or in decimal
-abbrev pub command_text : Bool → Cmd → List (List ℕ)
-command_text hex (HLd ra) = codes "h.ld" ∷ number_text hex ra ∷ []
-command_text hex (HSt ra value) = codes "h.st" ∷ number_text hex ra ∷ number_text hex value ∷ []
-command_text hex (UPagein lpid src gpa flags order) =
-    codes "u.pagein" ∷ number_text hex lpid ∷ number_text hex src ∷ number_text hex gpa ∷ number_text hex flags ∷ number_text hex order ∷ []
-command_text hex (UPageout lpid dest gpa flags order) =
-    codes "u.pageout" ∷ number_text hex lpid ∷ number_text hex dest ∷ number_text hex gpa ∷ number_text hex flags ∷ number_text hex order ∷ []
-command_text hex (UReturn r0 r2 outs) = codes "u.return" ∷ number_text hex r0 ∷ number_text hex r2 ∷ []
-command_text hex (GLi rd value) = codes "g.li" ∷ register_text rd ∷ number_text hex value ∷ []
-command_text hex (GLd rd gpa) = codes "g.ld" ∷ register_text rd ∷ number_text hex gpa ∷ []
-command_text hex (GSt rs gpa) = codes "g.st" ∷ register_text rs ∷ number_text hex gpa ∷ []
-command_text hex GIrq = codes "g.irq" ∷ []
-command_text hex Go = codes "go" ∷ []
+-- a pair, whose number is written once where both are the same
+abbrev pub pair_text : Bool → ℕ → ℕ → List ℕ
+pair_text hex left right = if left == right then number_text hex left else number_text hex left ++ codes "|" ++ number_text hex right
 
--- a directive's name and operands
-abbrev pub directive_text : Bool → Directive → List (List ℕ)
-directive_text hex (Once cmd) = command_text hex cmd
-directive_text hex GoAll = codes "go*" ∷ []
+-- an operand of a command
+pub data Operand : Type 0 where
+  Number : ℕ → Operand
+  Register : ℕ → Operand
+  Pair : ℕ → ℕ → Operand
+
+-- an operand's text
+abbrev pub operand_text : Bool → Operand → List ℕ
+operand_text hex (Number n) = number_text hex n
+operand_text hex (Register r) = register_text r
+operand_text hex (Pair left right) = pair_text hex left right
+
+-- an operand that can be written: its register is below 32, its numbers are below 2^64
+abbrev pub Fits : Operand → Type 0
+Fits (Number n) = n < 2 ^ 64
+Fits (Register r) = r < 32
+Fits (Pair left right) = (left < 2 ^ 64) × (right < 2 ^ 64)
+
+-- a command's operands, with the right number of its pair
+abbrev pub command_operands : ℕ → Cmd → List Operand
+command_operands right (HLd ra) = Number ra ∷ []
+command_operands right (HSt ra value) = Number ra ∷ Number value ∷ []
+command_operands right (UPagein lpid src gpa flags order) = Number lpid ∷ Number src ∷ Number gpa ∷ Number flags ∷ Number order ∷ []
+command_operands right (UPageout lpid dest gpa flags order) = Number lpid ∷ Number dest ∷ Number gpa ∷ Number flags ∷ Number order ∷ []
+command_operands right (UReturn r0 r2 outs) = Number r0 ∷ Number r2 ∷ map (λ out. Number out) outs
+command_operands right (GLi rd value) = Register rd ∷ Pair value right ∷ []
+command_operands right (GLd rd gpa) = Register rd ∷ Number gpa ∷ []
+command_operands right (GSt rs gpa) = Register rs ∷ Number gpa ∷ []
+command_operands right cmd = []
+
+-- the name of what a line tells its CPU to do
+abbrev pub name_of : Directive → List ℕ
+name_of (Once cmd) = command_name cmd
+name_of GoAll = codes "go*"
+
+-- its operands
+abbrev pub operands_of : ℕ → Directive → List Operand
+operands_of right (Once cmd) = command_operands right cmd
+operands_of right GoAll = []
+
+-- UV_RETURN has nine outputs
+abbrev pub HasOutputs : Directive → Type 0
+HasOutputs (Once (UReturn r0 r2 outs)) = length outs ≡ 9
+HasOutputs d = Unit {0}
+
+-- where no pair stands, there is 0 for its right number
+abbrev pub HasRight : ℕ → Directive → Type 0
+HasRight right (Once (GLi rd value)) = Unit {0}
+HasRight right d = right ≡ 0
+
+-- a directive that can be written, with the right number of its pair
+pub record CanBeWritten (right : ℕ) (d : Directive) : Type 0 where
+  pub operands : AllByRecursion Fits (operands_of right d)
+  pub outputs : HasOutputs d
+  pub pair : HasRight right d
 
 -- a command line's words: its CPU, the directive's name, its operands
-abbrev pub line_words : Bool → Line → List (List ℕ)
-line_words hex line = number_text hex line.cpu ∷ directive_text hex line.directive
-
--- a command whose register is below 32, whose numbers are below 2^64, and which returns nothing in R4 to R12
-abbrev pub CanBeWritten : Cmd → Type 0
-CanBeWritten (HLd ra) = ra < 2 ^ 64
-CanBeWritten (HSt ra value) = (ra < 2 ^ 64) × (value < 2 ^ 64)
-CanBeWritten (UPagein lpid src gpa flags order) = (lpid < 2 ^ 64) × (src < 2 ^ 64) × (gpa < 2 ^ 64) × (flags < 2 ^ 64) × (order < 2 ^ 64)
-CanBeWritten (UPageout lpid dest gpa flags order) = (lpid < 2 ^ 64) × (dest < 2 ^ 64) × (gpa < 2 ^ 64) × (flags < 2 ^ 64) × (order < 2 ^ 64)
-CanBeWritten (UReturn r0 r2 outs) = (r0 < 2 ^ 64) × (r2 < 2 ^ 64) × (outs ≡ replicate 9 0)
-CanBeWritten (GLi rd value) = (rd < 32) × (value < 2 ^ 64)
-CanBeWritten (GLd rd gpa) = (rd < 32) × (gpa < 2 ^ 64)
-CanBeWritten (GSt rs gpa) = (rs < 32) × (gpa < 2 ^ 64)
-CanBeWritten GIrq = Unit {0}
-CanBeWritten Go = Unit {0}
-
--- a directive whose command can be written
-abbrev pub DirectiveCanBeWritten : Directive → Type 0
-DirectiveCanBeWritten (Once cmd) = CanBeWritten cmd
-DirectiveCanBeWritten GoAll = Unit {0}
+abbrev pub line_words : Bool → ReadLine → List (List ℕ)
+line_words hex l = number_text hex l.line.cpu ∷ name_of l.line.directive ∷ map (operand_text hex) (operands_of l.right l.line.directive)
