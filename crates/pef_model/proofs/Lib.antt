@@ -41,12 +41,6 @@ pub mod Frames
 pub mod KeptStores
 pub mod Fresh
 pub mod RefusedClashes
-pub mod ScriptLines
-pub mod WrittenWords
-pub mod WrittenLines
-pub mod WrittenScript
-pub mod ReadCommands
-pub mod Grammar
 pub mod Doublewords
 pub mod Places
 pub mod PageBytes

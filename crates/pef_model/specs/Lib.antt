@@ -14,13 +14,11 @@ pub mod PageIn
 pub mod Deed
 pub mod History
 pub mod Words
-pub mod Header
 pub mod Script
 pub mod Run
 pub mod Report
 pub mod RunLaw
 pub mod RefusalLaw
-pub mod WordLaw
 pub mod ReadLaw
 pub mod SecretLaw
 pub mod SearchLaw
@@ -32,8 +30,6 @@ pub mod Sound
 pub mod FreshLaw
 pub mod TransitionLaw
 pub mod CountLaw
-pub mod ScriptText
-pub mod GrammarLaw
 pub mod NormalLaw
 pub mod View
 pub mod SeenLaw

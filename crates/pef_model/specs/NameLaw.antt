@@ -1,25 +1,21 @@
--- Names and numbers, computed: those of a report, those in registers, those of a script.
-use Rattle.std.specs.Prelude.{◌≡◌, ℕ, List, [], ◌∷◌, ◌++◌, map, replicate, codes, Some}
+-- Names and numbers, computed: those of a report, those in registers.
+use Rattle.std.specs.Prelude.{◌≡◌, ℕ, List, [], ◌∷◌, ◌++◌, map, replicate, codes}
 use Rattle.hex.specs.Hex.{encode_lower}
 use Rattle.sha2.specs.Sha256.{sha256}
 use Rattle.pef_model.specs.declared.command.TheConstants.{UV_PAGE_IN, UV_PAGE_OUT, UV_RETURN, EXTERNAL_INTERRUPT}
 use Rattle.pef_model.specs.declared.command.Code.TheVariants.{USuccess, UParameter, UP2, UP3, UP4, UP5, UFunction, UBusy, UPermission, UInvalid}
-use Rattle.pef_model.specs.declared.command.Cmd.{Cmd}
-use Rattle.pef_model.specs.declared.command.Cmd.TheVariants.{HLd, HSt, UPagein, UPageout, UReturn, GLi, GLd, GSt, GIrq}
-use Rattle.pef_model.specs.declared.command.Directive.TheVariants.{Once}
+use Rattle.pef_model.specs.declared.command.Cmd.TheVariants.{HLd, HSt, UPagein, UPageout, GLi, GLd, GSt, GIrq}
 use Rattle.pef_model.specs.declared.config.Config.{Config}
 use Rattle.pef_model.specs.declared.entry.Answer.TheVariants.{Gone, Nothing}
 use Rattle.pef_model.specs.Plan.{plan_of}
 use Rattle.pef_model.specs.Registers.{number_of}
-use Rattle.pef_model.specs.Header.{born_one}
-use Rattle.pef_model.specs.Script.{Line, Script, script_of}
+use Rattle.pef_model.specs.Script.{Line, Script}
 use Rattle.pef_model.specs.Run.{run_of}
 use Rattle.pef_model.specs.Report.{answer_text, report}
 use Rattle.pef_model.specs.View.{view}
 use Rattle.pef_model.specs.SeenLaw.{registers_seen}
 use Rattle.pef_model.specs.RunLaw.{small_config, line_at, go_all_at, return_with, store_lines}
 use Rattle.pef_model.specs.RefusalLaw.{page_out_to}
-use Rattle.pef_model.specs.WordLaw.{idle}
 use Rattle.pef_model.specs.PairLaw.{vault_config}
 
 -- a run with each command's name, each code and each answer that a run gives; what is sealed is overwritten by zeros
@@ -76,18 +72,3 @@ pub record AreNumbers : Type 0 where
   pub loaded : seen_after (line_at 1 0 (HSt 0x8 6) ∷ line_at 2 0 (HLd 0x8) ∷ []) ≡ 0 ∷ 0 ∷ 0 ∷ 6 ∷ replicate 28 0
   pub numbers : map number_of (USuccess ∷ UParameter ∷ UP2 ∷ UP3 ∷ UP4 ∷ UP5 ∷ UFunction ∷ UBusy ∷ UPermission ∷ UInvalid ∷ []) ≡ 0 ∷ 1 ∷ 2 ∷ 3 ∷ 4 ∷ 5 ∷ 6 ∷ 7 ∷ 8 ∷ 9 ∷ []
   pub calls : UV_PAGE_IN ∷ UV_PAGE_OUT ∷ UV_RETURN ∷ EXTERNAL_INTERRUPT ∷ [] ≡ 4 ∷ 5 ∷ 8 ∷ 0x500 ∷ []
-
--- a script of one line
-abbrev pub of_one_line : Cmd → Script
-of_one_line cmd = record { config = born_one; lines = record { number = 4; cpu = 0; directive = Once cmd } ∷ [] }
-
--- a script that says each size as it is where none is said, and commands with operands that differ
-pub record AreRead : Type 0 where
-  pub sizes : script_of (codes "pef 1\nshift 16\nnormal 16\nsecure 16\ncpus 1\npages 16\nseal stream\nborn 1\nbegin\n") ≡ idle born_one
-  pub load : script_of (codes "pef 1\nborn 1\nbegin\n0 h.ld 8\n") ≡ Some (of_one_line (HLd 8))
-  pub store : script_of (codes "pef 1\nborn 1\nbegin\n0 h.st 8 5\n") ≡ Some (of_one_line (HSt 8 5))
-  pub page_in : script_of (codes "pef 1\nborn 1\nbegin\n0 u.pagein 1 2 3 4 5\n") ≡ Some (of_one_line (UPagein 1 2 3 4 5))
-  pub page_out : script_of (codes "pef 1\nborn 1\nbegin\n0 u.pageout 1 2 3 4 5\n") ≡ Some (of_one_line (UPageout 1 2 3 4 5))
-  pub returns : script_of (codes "pef 1\nborn 1\nbegin\n0 u.return 1 2\n") ≡ Some (of_one_line (UReturn 1 2 (replicate 9 0)))
-  pub guest_load : script_of (codes "pef 1\nborn 1\nbegin\n0 g.ld r2 8\n") ≡ Some (of_one_line (GLd 2 8))
-  pub guest_store : script_of (codes "pef 1\nborn 1\nbegin\n0 g.st r2 8\n") ≡ Some (of_one_line (GSt 2 8))

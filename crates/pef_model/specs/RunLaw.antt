@@ -11,7 +11,7 @@ use Rattle.pef_model.specs.declared.entry.Answer.{Answer}
 use Rattle.pef_model.specs.declared.entry.Answer.TheVariants.{Done, Val, Ret, Step, Enter, Exit}
 use Rattle.pef_model.specs.Plan.{Plan, plan_of, default_config}
 use Rattle.pef_model.specs.Event.{Event}
-use Rattle.pef_model.specs.Script.{Line, Script, IsScript, script_of}
+use Rattle.pef_model.specs.Script.{Line, Script, IsScript}
 use Rattle.pef_model.specs.History.{IsLegal}
 use Rattle.pef_model.specs.Run.{NextStep, next_of, IsPart, IsRun, ends_go, GoesOn, entry_after, with_gos, most_gos, run_after, run_of}
 use Rattle.pef_model.specs.Report.{report}
@@ -25,17 +25,6 @@ pub record IsOnly {A : Type 0} (P : A → Type 0) (x : A) : Type 0 where
 abbrev pub OneRun : Type 0
 OneRun = (script : Script) → IsScript script → IsOnly (IsRun script) (run_of script)
 
--- the report of the script that a text is
-abbrev pub report_of : Option Script → Option (List ℕ)
-report_of None = None
-report_of (Some script) = Some (report (plan_of script.config) (run_of script))
-
--- a secure guest stores 7 and loads 7
-abbrev pub StoreAndLoad : Type 0
-StoreAndLoad =
-    report_of (script_of (codes "pef 1\nborn 1\nbegin\n0 u.return 0 0\n0 g.li r20 7\n0 g.st r20 0x0\n0 g.ld r6 0x0\n"))
-    ≡ Some (codes "4 0 u.return enter\n5 0 g.li done\n6 0 g.st done\n7 0 g.ld val 0x7\nfree 15\nend\n")
-
 -- sizes that all differ: two CPUs, four pages, one secure frame
 abbrev pub small_config : Config
 small_config = record default_config { shift = 8; normal = 5; secure = 1; cpus = 2; guests = 3; vcpus = 2; pages = 4; born = 1 ∷ [] }
@@ -48,6 +37,19 @@ go_all_at number cpu = record { number = number; cpu = cpu; directive = GoAll }
 
 abbrev pub return_with : ℕ → Cmd
 return_with r0 = UReturn r0 0 (replicate 9 0)
+
+-- a secure guest stores 7 and loads 7
+abbrev pub store_script : Script
+store_script = record {
+  config = record default_config { born = 1 ∷ [] };
+  lines = line_at 4 0 (return_with 0) ∷ line_at 5 0 (GLi 20 7) ∷ line_at 6 0 (GSt 20 0x0) ∷ line_at 7 0 (GLd 6 0x0) ∷ [];
+}
+
+-- what it does is reported
+abbrev pub StoreAndLoad : Type 0
+StoreAndLoad =
+    report (plan_of store_script.config) (run_of store_script)
+    ≡ codes "4 0 u.return enter\n5 0 g.li done\n6 0 g.st done\n7 0 g.ld val 0x7\nfree 15\nend\n"
 
 -- CPU 0 takes the one vCPU, CPU 1 finds it running; accesses unaligned, past the last page, to the one page with a frame, and to one for which none is free
 abbrev pub small_script : Script

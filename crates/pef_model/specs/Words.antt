@@ -1,26 +1,8 @@
--- The lines of a text, and its words: numbers and registers.
-use Rattle.std.specs.Prelude.{ℕ, ◌^◌, ◌==◌, nat_eq, nat_lt, nat_le, Bool, not, ◌&&◌, if◌then◌else◌, List, [], ◌∷◌, length, drop, codes, Option, Some, None, option_and_then}
-use Rattle.std.specs.List.{slice_split, starts_with, list_all}
+-- The words of a script: numbers and registers.
+use Rattle.std.specs.Prelude.{ℕ, ◌^◌, nat_eq, nat_lt, nat_le, Bool, not, ◌&&◌, if◌then◌else◌, List, length, drop, codes, Option, Some, None, option_and_then}
+use Rattle.std.specs.List.{starts_with, list_all}
 use Rattle.std.specs.Char.{is_digit}
-use Rattle.std.specs.Str.{bytes_eq}
 use Rattle.std.specs.Str.Parse.{digits_value}
-
--- the lines of a text, of which each ends in LF, from the parts between LFs: the last part is empty
-abbrev pub ended_lines : List (List ℕ) → Option (List (List ℕ))
-ended_lines [] = None
-ended_lines (last ∷ []) = if bytes_eq last [] then Some [] else None
-ended_lines (line ∷ next ∷ more) = with_line (ended_lines (next ∷ more)) where
-  with_line : Option (List (List ℕ)) → Option (List (List ℕ))
-  with_line None = None
-  with_line (Some lines) = Some (line ∷ lines)
-
--- the lines of a text
-abbrev pub lines_of : List ℕ → Option (List (List ℕ))
-lines_of text = ended_lines (slice_split (λ b. b == 10) text)
-
--- the words of a line
-abbrev pub words_of : List ℕ → List (List ℕ)
-words_of line = slice_split (λ b. b == 32) line
 
 -- digits of a radix, at least one and at most so many, that write a number below 2^64
 abbrev pub numeral_in : ℕ → ℕ → List ℕ → Option ℕ

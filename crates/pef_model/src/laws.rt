@@ -1,7 +1,6 @@
 //! The laws of the definitions: each is the contract of a function that does nothing.
 
 ghost use Rattle.pef_model.specs.RunLaw.{OneRun, StoreAndLoad, OneFrame, MarksOfOneFrame, StampsOfOneFrame, NoneIsBorn, GoesOut, EachGoAllEnds, NextsOfTwoCpus};
-ghost use Rattle.pef_model.specs.WordLaw.{WordsAtTheEdge};
 ghost use Rattle.pef_model.specs.ReadLaw.{EachOwnEntriesDecide, TheseFieldsDecide, TouchedObjectsDecide, AskedIsTold, UnaskedMakesNoDifference};
 ghost use Rattle.pef_model.specs.SecretLaw.{NoSecretInPublicState, NoSecretInOneEntry, NoSecretInDeeds};
 ghost use Rattle.pef_model.specs.SearchLaw.{LastStoreIsNewest, RegIsNewest, LoadGivesLastStore, SecurePageIsReached, LastStoreIsStored, LastStoreIsZero};
@@ -87,11 +86,6 @@ pub fn marks_of_one_frame()
 /// A machine in which no guest is born secure has no vCPU to return to.
 pub fn none_is_born()
     ensures { NoneIsBorn }
-{}
-
-/// Numbers, registers and lines at the edge of the grammar.
-pub fn words_at_the_edge()
-    ensures { WordsAtTheEdge }
 {}
 
 /// What a step does at a guest is decided by the guest's public part, but for the value of a load and the page that a

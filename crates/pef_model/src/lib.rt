@@ -7,7 +7,6 @@ pub mod command;
 pub mod config;
 pub mod entry;
 pub mod fresh_laws;
-pub mod grammar_laws;
 pub mod laws;
 pub mod move_laws;
 pub mod refusal_laws;

@@ -2,7 +2,7 @@
 
 ghost use Rattle.pef_model.specs.RefusalLaw.{PageOutRefusals, PageInRefusals, NoFrameIsFree, TheLastGuest, AGuestMeanwhile, AGuestMeanwhileIn, NormalAtTheEdge, PagesOf512Bytes};
 ghost use Rattle.pef_model.specs.PhaseLaw.{TablesByPhase};
-ghost use Rattle.pef_model.specs.NameLaw.{EachNameIsWritten, FrameHasItsLine, AreNumbers, AreRead};
+ghost use Rattle.pef_model.specs.NameLaw.{EachNameIsWritten, FrameHasItsLine, AreNumbers};
 
 /// The codes of UV_PAGE_OUT, each where what would be refused later is wrong too.
 pub fn page_out_refusals()
@@ -64,9 +64,4 @@ pub fn frame_has_its_line()
 /// The numbers that registers show.
 pub fn registers_have_numbers()
     ensures { AreNumbers }
-{}
-
-/// Commands as a script has them, with operands that differ, and sizes as they are where none is said.
-pub fn each_name_is_read()
-    ensures { AreRead }
 {}

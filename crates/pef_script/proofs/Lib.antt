@@ -8,4 +8,5 @@ mod Results
 mod Ranges
 mod ReadOperands
 pub mod ReadScripts
+mod WrittenWords
 mod WrittenLines

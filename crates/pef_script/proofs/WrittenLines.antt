@@ -1,60 +1,142 @@
 -- The words of each line are read as it.
-use Rattle.std.proofs.Common.{◌≡◌, ℕ, ◌<◌, ◌≤◌, ◌^◌, ◌==◌, Bool, true, false, List, [], ◌∷◌, refl, ap, subst, sym, Some, Ok, arith, decimal}
+use Rattle.std.proofs.Common.{◌≡◌, ℕ, ◌+◌, ◌<◌, ◌≤◌, ◌^◌, ◌==◌, ◌++◌, Bool, true, false, cond, List, [], ◌∷◌, length, map, drop, slice_set, option_and_then, refl, ap, subst, sym, ◌∙◌, zero, suc, Some, Ok, arith, decimal}
+use Rattle.std.specs.Prelude.{codes}
 use Rattle.std.specs.Char.{digit_value}
 use Rattle.std.specs.Fmt.{digits}
-use Rattle.std.specs.List.{slice_split}
+use Rattle.std.specs.List.{slice_split, onto_first, AllByRecursion}
 use Rattle.std.specs.Str.Parse.{AllDigits}
 use Rattle.std.proofs.lemmas.Bool.{lt-ltb, ne_eqb}
+use Rattle.std.proofs.lemmas.Bool.Decides.{nat_tests}
 use Rattle.std.proofs.lemmas.Fmt.{digits_is_IsNumeral, decimal_is_IsNumeral}
 use Rattle.pef_model.specs.declared.command.Cmd.{Cmd}
 use Rattle.pef_model.specs.declared.command.Cmd.TheVariants.{HLd, HSt, UPagein, UPageout, UReturn, GLi, GLd, GSt, GIrq, Go}
 use Rattle.pef_model.specs.declared.command.Directive.{Directive}
 use Rattle.pef_model.specs.declared.command.Directive.TheVariants.{Once, GoAll}
-use Rattle.pef_model.specs.Script.{Line}
-use Rattle.pef_model.specs.ScriptText.{number_text, line_words, DirectiveCanBeWritten}
-use Rattle.pef_model.proofs.WrittenWords.{number_reads, register_reads}
-use Rattle.pef_script.specs.Command.{line_in}
-use Rattle.pef_script.specs.Table.{word_named}
-use Rattle.pef_script.specs.Token.{pair_in}
-use Rattle.pef_script.specs.WrittenLaw.{right_in, EachLineIsRead}
+use Rattle.pef_script.specs.declared.table.Kind.{Kind}
+use Rattle.pef_script.specs.declared.table.Kind.TheVariants as kind
+use Rattle.pef_script.specs.declared.table.Operands.{Operands}
+use Rattle.pef_script.specs.declared.table.Word.{Word}
+use Rattle.pef_script.specs.declared.table.Word.TheVariants as w
+use Rattle.pef_script.specs.Command.{line_in, counted, kind_of, operands_in, with_operand}
+use Rattle.pef_script.specs.Line.{ReadLine}
+use Rattle.pef_script.specs.Table.{shape, word_named, no_operands}
+use Rattle.pef_script.specs.Token.{pair_in, pair_of}
+use Rattle.pef_script.specs.Written.{Operand, Number, Register, Pair, number_text, pair_text, operand_text, Fits, name_of, operands_of, line_words, CanBeWritten}
+use Rattle.pef_script.specs.WrittenLaw.{EachLineIsRead}
+use Rattle.pef_script.proofs.WrittenWords.{number_reads, register_reads}
 
 -- digits have no |
-no_bar : (radix : ℕ) (ds : List ℕ) → radix ≤ 16 → AllDigits radix ds → slice_split (λ b. b == 124) ds ≡ ds ∷ []
-no_bar radix [] few all = refl
+no_bar : (radix : ℕ) (ds : List ℕ) → radix ≤ 16 → AllDigits radix ds → AllByRecursion (λ d. (d == 124) ≡ false) ds
+no_bar radix [] few all = tt
 no_bar radix (d ∷ ds) few all =
-    let other : (d == 124) ≡ false = ne_eqb d 124 (λ e. let large : digit_value 124 < radix = subst (λ z. digit_value z < radix) e all.0 in absurd (omega (arith, large, few))) in
-    rw (other, no_bar radix ds few all.1) refl
+    (ne_eqb d 124 (λ e. let large : digit_value 124 < radix = subst (λ z. digit_value z < radix) e all.0 in absurd (omega (arith, large, few))), no_bar radix ds few all.1)
 
 -- nor does a number
-number_whole : (hex : Bool) (n : ℕ) → n < 2 ^ 64 → slice_split (λ b. b == 124) (number_text hex n) ≡ number_text hex n ∷ []
-number_whole true n fits = rw (no_bar 16 (digits 16 false n) (omega arith) (digits_is_IsNumeral 16 false (omega arith) (omega arith) n (omega arith)).0.1) refl
-number_whole false n fits = no_bar 10 (decimal n) (omega arith) (decimal_is_IsNumeral n fits).0.1
+number_bare : (hex : Bool) (n : ℕ) → n < 2 ^ 64 → AllByRecursion (λ d. (d == 124) ≡ false) (number_text hex n)
+number_bare true n fits = (refl, (refl, no_bar 16 (digits 16 false n) (omega arith) (digits_is_IsNumeral 16 false (omega arith) (omega arith) n (omega arith)).0.1))
+number_bare false n fits = no_bar 10 (decimal n) (omega arith) (decimal_is_IsNumeral n fits).0.1
 
--- a number is a pair whose right number is its left one
-pair_reads : (hex : Bool) (n : ℕ) → n < 2 ^ 64 → pair_in (number_text hex n) ≡ Some (record { left = n; right = n })
-pair_reads hex n fits = rw (number_whole hex n fits, number_reads hex n fits) refl
+whole : (xs : List ℕ) → AllByRecursion (λ d. (d == 124) ≡ false) xs → slice_split (λ b. b == 124) xs ≡ xs ∷ []
+whole [] bare = refl
+whole (x ∷ xs) bare = rw (bare.0, whole xs bare.1) refl
 
--- a line of a number, a CPU and a directive
-abbrev IsRead : Bool → ℕ → ℕ → ℕ → Directive → Type 0
-IsRead hex cpus number cpu d =
-    line_in cpus number (line_words hex (record { number = number; cpu = cpu; directive = d })) ≡ Ok (record { line = record { number = number; cpu = cpu; directive = d }; right = right_in d })
+parted : (xs rest : List ℕ) → AllByRecursion (λ d. (d == 124) ≡ false) xs → slice_split (λ b. b == 124) (xs ++ codes "|" ++ rest) ≡ xs ∷ slice_split (λ b. b == 124) rest
+parted [] rest bare = refl
+parted (x ∷ xs) rest bare = rw (bare.0, parted xs rest bare.1) refl
 
-line_read : (hex : Bool) (cpus number cpu : ℕ) (d : Directive) → cpu < cpus → cpu < 2 ^ 64 → DirectiveCanBeWritten d → IsRead hex cpus number cpu d
-unfolding line_in word_named
-line_read hex cpus number cpu (Once (HLd ra)) below fits can = rw (number_reads hex cpu fits, number_reads hex ra can, lt-ltb cpu cpus below) refl
-line_read hex cpus number cpu (Once (HSt ra value)) below fits can = rw (number_reads hex cpu fits, number_reads hex ra can.0, number_reads hex value can.1, lt-ltb cpu cpus below) refl
-line_read hex cpus number cpu (Once (GLi rd value)) below fits can = rw (number_reads hex cpu fits, register_reads rd can.0, pair_reads hex value can.1, lt-ltb cpu cpus below) refl
-line_read hex cpus number cpu (Once (GLd rd gpa)) below fits can = rw (number_reads hex cpu fits, register_reads rd can.0, number_reads hex gpa can.1, lt-ltb cpu cpus below) refl
-line_read hex cpus number cpu (Once (GSt rs gpa)) below fits can = rw (number_reads hex cpu fits, register_reads rs can.0, number_reads hex gpa can.1, lt-ltb cpu cpus below) refl
-line_read hex cpus number cpu (Once GIrq) below fits can = rw (number_reads hex cpu fits, lt-ltb cpu cpus below) refl
-line_read hex cpus number cpu (Once Go) below fits can = rw (number_reads hex cpu fits, lt-ltb cpu cpus below) refl
-line_read hex cpus number cpu GoAll below fits can = rw (number_reads hex cpu fits, lt-ltb cpu cpus below) refl
-line_read hex cpus number cpu (Once (UPagein lpid src gpa flags order)) below fits can =
-    rw (number_reads hex cpu fits, number_reads hex lpid can.0, number_reads hex src can.1, number_reads hex gpa can.2, number_reads hex flags can.3, number_reads hex order can.4, lt-ltb cpu cpus below) refl
-line_read hex cpus number cpu (Once (UPageout lpid dest gpa flags order)) below fits can =
-    rw (number_reads hex cpu fits, number_reads hex lpid can.0, number_reads hex dest can.1, number_reads hex gpa can.2, number_reads hex flags can.3, number_reads hex order can.4, lt-ltb cpu cpus below) refl
-line_read hex cpus number cpu (Once (UReturn r0 r2 outs)) below fits can =
-    rw (number_reads hex cpu fits, number_reads hex r0 can.0, number_reads hex r2 can.1, lt-ltb cpu cpus below) (ap (λ (os : List ℕ). Ok (record { line = record { number = number; cpu = cpu; directive = Once (UReturn r0 r2 os) }; right = 0 })) (sym can.2))
+-- a pair is read again, also where one number is written
+pub pair_reads : (hex : Bool) (left right : ℕ) → left < 2 ^ 64 → right < 2 ^ 64 → pair_in (pair_text hex left right) ≡ Some (record { left = left; right = right })
+pair_reads hex left right one two = by_test (left == right) refl where
+  by_test : (same : Bool) → (left == right) ≡ same → pair_in (cond same (number_text hex left) (number_text hex left ++ codes "|" ++ number_text hex right)) ≡ Some (record { left = left; right = right })
+  by_test true e =
+      let is : left ≡ right = grind (arith, nat_tests, e) in
+      rw (whole (number_text hex left) (number_bare hex left one), number_reads hex left one) (ap (λ (n : ℕ). Some (record { left = left; right = n })) is)
+  by_test false e =
+      rw (parted (number_text hex left) (number_text hex right) (number_bare hex left one), whole (number_text hex right) (number_bare hex right two), number_reads hex left one, number_reads hex right two) refl
+
+-- the kind of an operand
+abbrev kind_is : Operand → Kind
+kind_is (Number n) = kind.Number
+kind_is (Register r) = kind.Register
+kind_is (Pair left right) = kind.Pair
+
+-- operands of these kinds
+abbrev AreOf : List Kind → List Operand → Type 0
+AreOf kinds [] = Unit {0}
+AreOf kinds (operand ∷ more) = (kind_of kinds ≡ kind_is operand) × AreOf (drop 1 kinds) more
+
+-- what a line has with one more operand at a place
+abbrev with_one : ℕ → Operand → Operands → Operands
+with_one place (Number n) o = record o { numbers = slice_set o.numbers place n }
+with_one place (Register r) o = record o { registers = slice_set o.registers place r }
+with_one place (Pair left right) o = record o { numbers = slice_set o.numbers place left; right = right }
+
+-- and with operands from a place on
+abbrev with_all : ℕ → List Operand → Operands → Operands
+with_all place [] o = o
+with_all place (operand ∷ more) o = with_all (place + 1) more (with_one place operand o)
+
+one_reads : (hex : Bool) (place : ℕ) (operand : Operand) (o : Operands) → Fits operand → with_operand (kind_is operand) place (operand_text hex operand) o ≡ Some (with_one place operand o)
+one_reads hex place (Number n) o fits = rw (number_reads hex n fits) refl
+one_reads hex place (Register r) o fits = rw (register_reads r fits) refl
+one_reads hex place (Pair left right) o fits = rw (pair_reads hex left right fits.0 fits.1) refl
+
+-- operands are read again
+operands_read : (hex : Bool) (place : ℕ) (kinds : List Kind) (operands : List Operand) (o : Operands) → AreOf kinds operands → AllByRecursion Fits operands →
+    operands_in place kinds o (map (operand_text hex) operands) ≡ Some (with_all place operands o)
+operands_read hex place kinds [] o are fit = refl
+operands_read hex place kinds (operand ∷ more) o are fit =
+    let rest : List (List ℕ) = map (operand_text hex) more in
+    ap (λ (k : Kind). option_and_then (λ (o : Operands). operands_in (place + 1) (drop 1 kinds) o rest) (with_operand k place (operand_text hex operand) o)) are.0
+    ∙ ap (option_and_then (λ (o : Operands). operands_in (place + 1) (drop 1 kinds) o rest)) (one_reads hex place operand o fit.0)
+    ∙ operands_read hex (place + 1) (drop 1 kinds) more (with_one place operand o) are.1 fit.1
+
+-- a line of a number, a CPU, a directive and the right number of its pair
+abbrev IsRead : Bool → ℕ → ℕ → ℕ → ℕ → Directive → Type 0
+IsRead hex cpus number cpu right d =
+    let l : ReadLine = record { line = record { number = number; cpu = cpu; directive = d }; right = right } in
+    line_in cpus number (line_words hex l) ≡ Ok l
+
+-- a directive by its name is read again
+by_word : (hex : Bool) (cpus number cpu right : ℕ) (d : Directive) (word : Word) → cpu < cpus → cpu < 2 ^ 64 → AllByRecursion Fits (operands_of right d) →
+    word_named (name_of d) ≡ Some word → AreOf (shape word).kinds (operands_of right d) →
+    (counted (shape word) (length (map (operand_text hex) (operands_of right d))) ≡ Some (length (map (operand_text hex) (operands_of right d)))) →
+    (shape word).make (with_all 0 (operands_of right d) no_operands) ≡ d → (with_all 0 (operands_of right d) no_operands).right ≡ right → IsRead hex cpus number cpu right d
+unfolding line_in
+by_word hex cpus number cpu right d word below fits fit named are count makes is =
+    rw (number_reads hex cpu fits, named, count, operands_read hex 0 (shape word).kinds (operands_of right d) no_operands are fit, lt-ltb cpu cpus below, makes, is) refl
+
+-- a fact of each list of so many numbers
+abbrev Each : ℕ → (List ℕ → Type 0) → Type 0
+Each zero P = P []
+Each (suc n) P = (x : ℕ) → Each n (λ (xs : List ℕ). P (x ∷ xs))
+
+-- holds of a list that has so many
+each_of : (n : ℕ) (P : List ℕ → Type 0) → Each n P → (xs : List ℕ) → length xs ≡ n → P xs
+each_of zero P all [] size = all
+each_of zero P all (x ∷ xs) size = absurd (omega (arith, size))
+each_of (suc n) P all [] size = absurd (omega (arith, size))
+each_of (suc n) P all (x ∷ xs) size = each_of n (λ (xs : List ℕ). P (x ∷ xs)) (all x) xs (omega (arith, size))
+
+line_read : (hex : Bool) (cpus number cpu right : ℕ) (d : Directive) → cpu < cpus → cpu < 2 ^ 64 → CanBeWritten right d → IsRead hex cpus number cpu right d
+unfolding word_named
+line_read hex cpus number cpu right (Once (HLd ra)) below fits can = by_word hex cpus number cpu right (Once (HLd ra)) w.HLd below fits can.operands refl (refl, tt) refl refl (sym can.pair)
+line_read hex cpus number cpu right (Once (HSt ra value)) below fits can = by_word hex cpus number cpu right (Once (HSt ra value)) w.HSt below fits can.operands refl (refl, (refl, tt)) refl refl (sym can.pair)
+line_read hex cpus number cpu right (Once (UPagein lpid src gpa flags order)) below fits can =
+    by_word hex cpus number cpu right (Once (UPagein lpid src gpa flags order)) w.UPagein below fits can.operands refl (refl, (refl, (refl, (refl, (refl, tt))))) refl refl (sym can.pair)
+line_read hex cpus number cpu right (Once (UPageout lpid dest gpa flags order)) below fits can =
+    by_word hex cpus number cpu right (Once (UPageout lpid dest gpa flags order)) w.UPageout below fits can.operands refl (refl, (refl, (refl, (refl, (refl, tt))))) refl refl (sym can.pair)
+line_read hex cpus number cpu right (Once (UReturn r0 r2 outs)) below fits can =
+    each_of 9 (λ (outs : List ℕ). AllByRecursion Fits (operands_of right (Once (UReturn r0 r2 outs))) → IsRead hex cpus number cpu right (Once (UReturn r0 r2 outs)))
+    (λ a b c d e f g h i fit. by_word hex cpus number cpu right (Once (UReturn r0 r2 (a ∷ b ∷ c ∷ d ∷ e ∷ f ∷ g ∷ h ∷ i ∷ []))) w.UReturn below fits fit
+    refl (refl, (refl, (refl, (refl, (refl, (refl, (refl, (refl, (refl, (refl, (refl, tt))))))))))) refl refl (sym can.pair))
+    outs can.outputs can.operands
+line_read hex cpus number cpu right (Once (GLi rd value)) below fits can = by_word hex cpus number cpu right (Once (GLi rd value)) w.GLi below fits can.operands refl (refl, (refl, tt)) refl refl refl
+line_read hex cpus number cpu right (Once (GLd rd gpa)) below fits can = by_word hex cpus number cpu right (Once (GLd rd gpa)) w.GLd below fits can.operands refl (refl, (refl, tt)) refl refl (sym can.pair)
+line_read hex cpus number cpu right (Once (GSt rs gpa)) below fits can = by_word hex cpus number cpu right (Once (GSt rs gpa)) w.GSt below fits can.operands refl (refl, (refl, tt)) refl refl (sym can.pair)
+line_read hex cpus number cpu right (Once GIrq) below fits can = by_word hex cpus number cpu right (Once GIrq) w.GIrq below fits can.operands refl tt refl refl (sym can.pair)
+line_read hex cpus number cpu right (Once Go) below fits can = by_word hex cpus number cpu right (Once Go) w.Go below fits can.operands refl tt refl refl (sym can.pair)
+line_read hex cpus number cpu right GoAll below fits can = by_word hex cpus number cpu right GoAll w.GoAll below fits can.operands refl tt refl refl (sym can.pair)
 
 pub each_line_is_read : EachLineIsRead
-each_line_is_read hex cpus line below fits can = line_read hex cpus line.number line.cpu line.directive below fits can
+each_line_is_read hex cpus l below fits can = line_read hex cpus l.line.number l.line.cpu l.right l.line.directive below fits can

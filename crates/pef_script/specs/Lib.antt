@@ -7,4 +7,5 @@ pub mod Setting
 pub mod Script
 pub mod Checked
 pub mod FaultLaw
+pub mod Written
 pub mod WrittenLaw

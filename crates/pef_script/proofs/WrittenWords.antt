@@ -11,7 +11,7 @@ use Rattle.std.proofs.lemmas.Bool.Decides.{nat_tests}
 use Rattle.std.proofs.lemmas.Nat.{div_below}
 use Rattle.std.proofs.lemmas.Fmt.{digits_is_IsNumeral, decimal_is_IsNumeral, length-decimal-le, decimal_digit, first_decimal}
 use Rattle.pef_model.specs.Words.{numeral_in, number_in, number_within, number_below, has_leading_zero, register_in}
-use Rattle.pef_model.specs.ScriptText.{number_text, register_text}
+use Rattle.pef_script.specs.Written.{number_text, register_text}
 
 -- numbers of m + 1 hexadecimal digits are below this
 abbrev hex_room : ℕ → ℕ

@@ -1,5 +1,0 @@
-use Rattle.pef_model.proofs.laws.words_at_the_edge.Goals as goal
-
--- computed from the definitions
-pub returns : goal.returns
-returns c = assumption

@@ -1,0 +1,87 @@
+-- How a script is written: each line is its words, parted by one space, and ends in LF.
+use Rattle.std.specs.Prelude.{◌≡◌, ℕ, ◌^◌, ◌<◌, ◌==◌, Bool, false, if◌then◌else◌, List, [], ◌∷◌, ◌++◌, length, map, codes}
+use Rattle.std.specs.List.{AllByRecursion, flat_map, join_with_byte}
+use Rattle.std.specs.Fmt.{digits, decimal}
+use Rattle.hex.specs.Hex.{IsBytes, encode_lower}
+use Rattle.pef_model.specs.declared.config.Config.{Config}
+use Rattle.pef_model.specs.declared.config.EntropyWord.{EntropyWord}
+use Rattle.pef_model.specs.declared.command.Directive.{Directive}
+use Rattle.pef_model.specs.declared.command.Directive.TheVariants.{Once, GoAll}
+use Rattle.pef_model.specs.declared.command.Cmd.{Cmd}
+use Rattle.pef_model.specs.declared.command.Cmd.TheVariants.{HLd, HSt, UPagein, UPageout, UReturn, GLi, GLd, GSt}
+use Rattle.pef_model.specs.Plan.{IsInRange}
+use Rattle.pef_model.specs.Report.{command_name}
+use Rattle.pef_script.specs.Line.{ReadLine}
+use Rattle.pef_script.specs.Script.{ReadScript}
+
+-- a number in hexadecimal or in decimal
+abbrev pub number_text : Bool → ℕ → List ℕ
+number_text hex n = if hex then codes "0x" ++ digits 16 false n else decimal n
+
+-- a register by its name
+abbrev pub register_text : ℕ → List ℕ
+register_text r = codes "r" ++ decimal r
+
+-- a pair, whose number is written once where both are the same
+abbrev pub pair_text : Bool → ℕ → ℕ → List ℕ
+pair_text hex left right = if left == right then number_text hex left else number_text hex left ++ codes "|" ++ number_text hex right
+
+-- an operand of a command
+pub data Operand : Type 0 where
+  Number : ℕ → Operand
+  Register : ℕ → Operand
+  Pair : ℕ → ℕ → Operand
+
+-- an operand's text
+abbrev pub operand_text : Bool → Operand → List ℕ
+operand_text hex (Number n) = number_text hex n
+operand_text hex (Register r) = register_text r
+operand_text hex (Pair left right) = pair_text hex left right
+
+-- an operand that can be written: its register is below 32, its numbers are below 2^64
+abbrev pub Fits : Operand → Type 0
+Fits (Number n) = n < 2 ^ 64
+Fits (Register r) = r < 32
+Fits (Pair left right) = (left < 2 ^ 64) × (right < 2 ^ 64)
+
+-- a command's operands, with the right number of its pair
+abbrev pub command_operands : ℕ → Cmd → List Operand
+command_operands right (HLd ra) = Number ra ∷ []
+command_operands right (HSt ra value) = Number ra ∷ Number value ∷ []
+command_operands right (UPagein lpid src gpa flags order) = Number lpid ∷ Number src ∷ Number gpa ∷ Number flags ∷ Number order ∷ []
+command_operands right (UPageout lpid dest gpa flags order) = Number lpid ∷ Number dest ∷ Number gpa ∷ Number flags ∷ Number order ∷ []
+command_operands right (UReturn r0 r2 outs) = Number r0 ∷ Number r2 ∷ map (λ out. Number out) outs
+command_operands right (GLi rd value) = Register rd ∷ Pair value right ∷ []
+command_operands right (GLd rd gpa) = Register rd ∷ Number gpa ∷ []
+command_operands right (GSt rs gpa) = Register rs ∷ Number gpa ∷ []
+command_operands right cmd = []
+
+-- the name of what a line tells its CPU to do
+abbrev pub name_of : Directive → List ℕ
+name_of (Once cmd) = command_name cmd
+name_of GoAll = codes "go*"
+
+-- its operands
+abbrev pub operands_of : ℕ → Directive → List Operand
+operands_of right (Once cmd) = command_operands right cmd
+operands_of right GoAll = []
+
+-- UV_RETURN has nine outputs
+abbrev pub HasOutputs : Directive → Type 0
+HasOutputs (Once (UReturn r0 r2 outs)) = length outs ≡ 9
+HasOutputs d = Unit {0}
+
+-- where no pair stands, there is 0 for its right number
+abbrev pub HasRight : ℕ → Directive → Type 0
+HasRight right (Once (GLi rd value)) = Unit {0}
+HasRight right d = right ≡ 0
+
+-- a directive that can be written, with the right number of its pair
+pub record CanBeWritten (right : ℕ) (d : Directive) : Type 0 where
+  pub operands : AllByRecursion Fits (operands_of right d)
+  pub outputs : HasOutputs d
+  pub pair : HasRight right d
+
+-- a command line's words: its CPU, the directive's name, its operands
+abbrev pub line_words : Bool → ReadLine → List (List ℕ)
+line_words hex l = number_text hex l.line.cpu ∷ name_of l.line.directive ∷ map (operand_text hex) (operands_of l.right l.line.directive)
