@@ -1,6 +1,6 @@
 -- A vCPU's register holds what was last assigned.
-use Rattle.std.proofs.Common.{◌≡◌, ◌≢◌, ℕ, ◌+◌, ◌-◌, ◌<◌, ◌≤◌, List, [], ◌∷◌, ◌++◌, length, take, drop, Bool, true, false, refl, ap, sym, subst, ◌∙◌, ◌==◌, ◌&&◌, nat_lt, nat_le, if◌then◌else◌, Option, Some, None, arith, length-append, length-take, length-drop, get_or}
-use Rattle.std.proofs.lemmas.List.{get_or-replicate, get_or-drop}
+use Rattle.std.proofs.Common.{◌≡◌, ◌≢◌, ℕ, ◌<◌, List, [], ◌∷◌, length, Bool, true, false, refl, ap, sym, subst, ◌∙◌, ◌==◌, if◌then◌else◌, Option, Some, None, arith, get_or}
+use Rattle.std.proofs.lemmas.List.{get_or-replicate}
 use Rattle.std.specs.Prelude.{unwrap_or, slice_set}
 use Rattle.std.proofs.Math.ListN.{length-set}
 use Rattle.std.proofs.lemmas.Grind.{common_steps}
@@ -9,109 +9,30 @@ use Rattle.pef_model.specs.declared.state.Regs.{Regs}
 use Rattle.pef_model.specs.declared.state.Work.TheVariants.{Inward, Outward}
 use Rattle.pef_model.specs.declared.state.Ctx.{Ctx}
 use Rattle.pef_model.specs.declared.state.Ctx.TheVariants as ctx
-use Rattle.pef_model.specs.declared.command.TheConstants.{UV_PAGE_IN, UV_PAGE_OUT, UV_RETURN}
 use Rattle.pef_model.specs.declared.command.Cmd.{Cmd}
-use Rattle.pef_model.specs.declared.command.Cmd.TheVariants.{UPagein, UPageout, UReturn, GLi, GLd, GSt}
+use Rattle.pef_model.specs.declared.command.Cmd.TheVariants.{UReturn, GLi, GLd, GSt}
 use Rattle.pef_model.specs.declared.entry.Answer.{Answer}
 use Rattle.pef_model.specs.declared.entry.Answer.TheVariants.{Done, Val, Ret, Enter}
 use Rattle.pef_model.specs.Commands.{IsCommand}
 use Rattle.pef_model.specs.Plan.{Plan}
 use Rattle.pef_model.specs.Event.{Event, newest}
-use Rattle.pef_model.specs.Registers.{number_of, load_return, loaded_value}
+use Rattle.pef_model.specs.Registers.{Call, number_of, call_of, loaded}
 use Rattle.pef_model.specs.Target.{touches_guest}
-use Rattle.pef_model.specs.Guest.{Guest, start_guest, entered_at, registers_after_command, registers_of_hypervisor, registers_in, next_guest}
+use Rattle.pef_model.specs.Guest.{Guest, start_guest, entered_at, registers_after_call, registers_after_command, registers_of_hypervisor, registers_in, next_guest}
 use Rattle.pef_model.specs.History.{guest_after, reg, IsLegal}
-use Rattle.pef_model.specs.SearchLaw.{decides_register, assigned_by_command, assigned_in, RegIsNewest}
+use Rattle.pef_model.specs.SearchLaw.{decides_register, assigned_by_call, assigned_by_command, assigned_in, RegIsNewest}
 use Rattle.pef_model.proofs.Folds.{test_same, counts, skips}
-use Rattle.pef_model.proofs.Called.{length-called, called_value}
-
--- the registers that a refused UV_RETURN of a guest leaves
-abbrev returned : List ℕ → ℕ → ℕ → List ℕ → ℕ → List ℕ
-returned gpr r0 r2 outs code = slice_set (take 4 gpr ++ (outs ++ drop 13 gpr)) 3 code
-
-length-returned : (gpr outs : List ℕ) (r0 r2 code : ℕ) → length gpr ≡ 32 → length outs ≡ 9 → length (returned gpr r0 r2 outs code) ≡ 32
-length-returned gpr outs r0 r2 code h k = simp (length-set, length-append, length-take, length-drop) (omega arith)
-
--- register by register, before the code
-at_three : (gpr outs : List ℕ) (r0 r2 code : ℕ) → length gpr ≡ 32 → length outs ≡ 9 → get_or (returned gpr r0 r2 outs code) 3 0 ≡ code
-at_three gpr outs r0 r2 code h k = grind (arith, common_steps)
-
-below_three : (gpr outs : List ℕ) (r0 r2 code r : ℕ) → length gpr ≡ 32 → length outs ≡ 9 → r < 3 → get_or (returned gpr r0 r2 outs code) r 0 ≡ get_or gpr r 0
-below_three gpr outs r0 r2 code r h k l = grind (arith, common_steps)
-
-outputs : (gpr outs : List ℕ) (r0 r2 code r : ℕ) → length gpr ≡ 32 → length outs ≡ 9 → 4 ≤ r → r < 13 → get_or (returned gpr r0 r2 outs code) r 0 ≡ get_or outs (r - 4) 0
-outputs gpr outs r0 r2 code r h k l m = grind (arith, common_steps)
-
-past_outputs : (front outs rest : List ℕ) (code r : ℕ) → length front ≡ 4 → length outs ≡ 9 → 13 ≤ r →
-    get_or (slice_set (front ++ (outs ++ rest)) 3 code) r 0 ≡ get_or rest (r - 13) 0
-past_outputs front outs rest code r h k l = grind (arith, common_steps)
-
-above : (gpr outs : List ℕ) (r0 r2 code r : ℕ) → length gpr ≡ 32 → length outs ≡ 9 → 13 ≤ r → get_or (returned gpr r0 r2 outs code) r 0 ≡ get_or gpr r 0
-above gpr outs r0 r2 code r h k l =
-    let front : length (take 4 gpr) ≡ 4 = omega (arith, length-take 4 gpr) in
-    let at : 13 + (r - 13) ≡ r = omega arith in
-    past_outputs (take 4 gpr) outs (drop 13 gpr) code r front k l ∙ get_or-drop 13 gpr (r - 13) 0 ∙ ap (λ (x : ℕ). get_or gpr x 0) at
-
--- the registers with R0, R2 and R3 loaded
-abbrev loaded : List ℕ → ℕ → ℕ → List ℕ
-loaded gpr r0 r2 = slice_set (slice_set (slice_set gpr 0 r0) 2 r2) 3 UV_RETURN
-
-length-loaded : (gpr : List ℕ) (r0 r2 : ℕ) → length gpr ≡ 32 → length (loaded gpr r0 r2) ≡ 32
-length-loaded gpr r0 r2 h = simp length-set h
-
--- each register after a refused UV_RETURN of a guest
-pub returned_value : (gpr outs : List ℕ) (r0 r2 code r : ℕ) → length gpr ≡ 32 → length outs ≡ 9 → r < 32 →
-    get_or (slice_set (load_return gpr r0 r2 outs) 3 code) r 0 ≡ unwrap_or (loaded_value r0 r2 outs code r) (get_or gpr r 0)
-returned_value gpr outs r0 r2 code r h k small = by_zero (r == 0) refl where
-  value : Bool → Bool → Bool → Bool → ℕ
-  value a b c d = unwrap_or (if a then Some r0 else (if b then Some r2 else (if c then Some code else (if d then Some (get_or outs (r - 4) 0) else None)))) (get_or gpr r 0)
-
-  full : length (loaded gpr r0 r2) ≡ 32
-  full = length-loaded gpr r0 r2 h
-
-  now : ℕ
-  now = get_or (slice_set (load_return gpr r0 r2 outs) 3 code) r 0
-
-  by_output : (r == 0) ≡ false → (r == 2) ≡ false → (r == 3) ≡ false → (d : Bool) → nat_le 4 r && nat_lt r 13 ≡ d → now ≡ value false false false d
-  by_output a b c true t =
-      let low : 4 ≤ r = grind (arith, nat_tests) in
-      let high : r < 13 = grind (arith, nat_tests) in
-      outputs (loaded gpr r0 r2) outs r0 r2 code r full k low high
-  by_output a b c false t = by_one (nat_lt r 3) refl where
-    by_one : (x : Bool) → nat_lt r 3 ≡ x → now ≡ get_or gpr r 0
-    by_one true x =
-        let one : r ≡ 1 = grind (arith, nat_tests) in
-        below_three (loaded gpr r0 r2) outs r0 r2 code r full k (omega arith) ∙ grind (arith, common_steps)
-    by_one false x =
-        let high : 13 ≤ r = grind (arith, nat_tests) in
-        above (loaded gpr r0 r2) outs r0 r2 code r full k high ∙ grind (arith, common_steps)
-
-  by_three : (r == 0) ≡ false → (r == 2) ≡ false → (c : Bool) → (r == 3) ≡ c → now ≡ value false false c (nat_le 4 r && nat_lt r 13)
-  by_three a b true t =
-      ap (λ (x : ℕ). get_or (slice_set (load_return gpr r0 r2 outs) 3 code) x 0) (test_same r 3 t) ∙ at_three (loaded gpr r0 r2) outs r0 r2 code full k
-  by_three a b false t = by_output a b t (nat_le 4 r && nat_lt r 13) refl
-
-  by_two : (r == 0) ≡ false → (b : Bool) → (r == 2) ≡ b → now ≡ value false b (r == 3) (nat_le 4 r && nat_lt r 13)
-  by_two a true t =
-      let two : r ≡ 2 = test_same r 2 t in
-      below_three (loaded gpr r0 r2) outs r0 r2 code r full k (omega arith) ∙ grind (arith, common_steps)
-  by_two a false t = by_three a t (r == 3) refl
-
-  by_zero : (a : Bool) → (r == 0) ≡ a → now ≡ value a (r == 2) (r == 3) (nat_le 4 r && nat_lt r 13)
-  by_zero true t =
-      let zero_is : r ≡ 0 = test_same r 0 t in
-      below_three (loaded gpr r0 r2) outs r0 r2 code r full k (omega arith) ∙ grind (arith, common_steps)
-  by_zero false t = by_two t (r == 2) refl
+use Rattle.pef_model.proofs.Called.{length_loaded, returns_value}
 
 -- a command keeps that there are 32 registers
 length_command : (g : Guest) (regs : Regs) (cmd : Cmd) (a : Answer) → IsCommand cmd → length regs.gpr ≡ 32 → length (registers_after_command g regs cmd a).gpr ≡ 32
-length_command g regs (UPagein lpid src gpa flags order) (Ret code) k h = length-called regs.gpr UV_PAGE_IN lpid src gpa flags order (number_of code) h
-length_command g regs (UPageout lpid dest gpa flags order) (Ret code) k h = length-called regs.gpr UV_PAGE_OUT lpid dest gpa flags order (number_of code) h
-length_command g regs (UReturn r0 r2 outs) (Ret code) k h = length-returned (loaded regs.gpr r0 r2) outs r0 r2 (number_of code) (length-loaded regs.gpr r0 r2 h) k.2
 length_command g regs (GLi rd value) Done k h = simp length-set h
 length_command g regs (GLd rd gpa) (Val value) k h = simp length-set h
 length_command g regs (GSt rs gpa) Done k h = h
-length_command g regs cmd a k h = h
+length_command g regs cmd a k h = by_call (call_of cmd) a where
+  by_call : (call : Option Call) (a : Answer) → length (registers_after_call call regs cmd a).gpr ≡ 32
+  by_call (Some call) (Ret code) = length-set (loaded regs.gpr cmd) 3 (number_of code) ∙ length_loaded regs.gpr cmd k h
+  by_call call a = h
 
 pub set_value : (gpr : List ℕ) (rd value r : ℕ) → length gpr ≡ 32 → rd < 32 → get_or (slice_set gpr rd value) r 0 ≡ unwrap_or (if r == rd then Some value else None) (get_or gpr r 0)
 set_value gpr rd value r h k = by_test (r == rd) refl where
@@ -122,13 +43,13 @@ set_value gpr rd value r h k = by_test (r == rd) refl where
 -- each register after a command of its vCPU
 command_value : (g : Guest) (regs : Regs) (cmd : Cmd) (a : Answer) (r : ℕ) → IsCommand cmd → length regs.gpr ≡ 32 → r < 32 →
     get_or (registers_after_command g regs cmd a).gpr r 0 ≡ unwrap_or (assigned_by_command g cmd a r) (get_or regs.gpr r 0)
-command_value g regs (UPagein lpid src gpa flags order) (Ret code) r k h small = called_value regs.gpr UV_PAGE_IN lpid src gpa flags order (number_of code) r h
-command_value g regs (UPageout lpid dest gpa flags order) (Ret code) r k h small = called_value regs.gpr UV_PAGE_OUT lpid dest gpa flags order (number_of code) r h
-command_value g regs (UReturn r0 r2 outs) (Ret code) r k h small = returned_value regs.gpr outs r0 r2 (number_of code) r h k.2 small
 command_value g regs (GLi rd value) Done r k h small = set_value regs.gpr rd value r h k.0
 command_value g regs (GLd rd gpa) (Val value) r k h small = set_value regs.gpr rd value r h k.0
 command_value g regs (GSt rs gpa) Done r k h small = refl
-command_value g regs cmd a r k h small = refl
+command_value g regs cmd a r k h small = by_call (call_of cmd) a where
+  by_call : (call : Option Call) (a : Answer) → get_or (registers_after_call call regs cmd a).gpr r 0 ≡ unwrap_or (assigned_by_call call cmd a r) (get_or regs.gpr r 0)
+  by_call (Some call) (Ret code) = returns_value regs.gpr cmd code r k h
+  by_call call a = refl
 
 -- UV_RETURN of the hypervisor moves no register of R0 to R31
 entered_gpr : (regs : Regs) (r2 : ℕ) → (entered_at regs r2).gpr ≡ regs.gpr

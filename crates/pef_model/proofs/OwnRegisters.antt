@@ -1,30 +1,25 @@
 -- The hypervisor has 32 registers on each CPU.
-use Rattle.std.proofs.Common.{◌≡◌, ℕ, List, [], ◌∷◌, length, Bool, true, false, arith, refl, ap, ◌∙◌, length-append, length-take, length-drop, Option, Some, None}
+use Rattle.std.proofs.Common.{◌≡◌, ℕ, List, [], ◌∷◌, length, Bool, true, false, refl, ap, ◌∙◌, Option, Some, None}
 use Rattle.std.proofs.Math.ListN.{length-set}
 use Rattle.pef_model.specs.declared.state.Ctx.{Ctx}
 use Rattle.pef_model.specs.declared.state.Ctx.TheVariants as ctx
-use Rattle.pef_model.specs.declared.command.TheConstants.{UV_PAGE_IN, UV_PAGE_OUT}
 use Rattle.pef_model.specs.declared.state.Run.{Run}
 use Rattle.pef_model.specs.declared.command.Cmd.{Cmd}
-use Rattle.pef_model.specs.declared.command.Cmd.TheVariants.{HLd, UPagein, UPageout, UReturn}
+use Rattle.pef_model.specs.declared.command.Cmd.TheVariants.{HLd}
 use Rattle.pef_model.specs.declared.entry.Exit.TheVariants as exit
 use Rattle.pef_model.specs.declared.entry.Answer.{Answer}
 use Rattle.pef_model.specs.declared.entry.Answer.TheVariants.{Val, Ret, Exit, Gone}
 use Rattle.pef_model.specs.Plan.{Plan}
 use Rattle.pef_model.specs.Event.{Event}
-use Rattle.pef_model.specs.Registers.{load_return, load_page_in, load_page_out}
+use Rattle.pef_model.specs.Registers.{Call, call_of, loaded}
 use Rattle.pef_model.specs.Target.{touches_cpu, caller}
-use Rattle.pef_model.specs.Cpu.{CpuPart, start_cpu, next_cpu, own_after, own_after_call, own_after_load, cpu_in, cpu_of_guest, cpu_of_call}
+use Rattle.pef_model.specs.Cpu.{CpuPart, start_cpu, next_cpu, own_after, own_after_call, own_after_ultracall, own_after_load, cpu_in, cpu_of_guest, cpu_of_call}
 use Rattle.pef_model.specs.History.{cpu_after, IsLegal}
 use Rattle.pef_model.specs.Commands.{IsCommand}
 use Rattle.pef_model.proofs.Folds.{counts, skips}
-use Rattle.pef_model.proofs.Called.{length-loaded}
+use Rattle.pef_model.proofs.Called.{length_loaded}
 
--- what a call loads takes the room of what was there
-length-load_return : (own outs : List ℕ) (r0 r2 : ℕ) → length own ≡ 32 → length outs ≡ 9 → length (load_return own r0 r2 outs) ≡ 32
-length-load_return own outs r0 r2 h k = simp (length-set, length-append, length-take, length-drop) (omega arith)
-
--- and so does the code that comes back
+-- a code that comes back takes the room of what was there
 after_call : (loaded : List ℕ) (a : Answer) → length loaded ≡ 32 → length (own_after_call loaded a) ≡ 32
 after_call loaded (Ret code) h = simp length-set h
 after_call loaded a h = h
@@ -37,10 +32,10 @@ after_load own a h = h
 -- a command of the hypervisor keeps that there are 32
 after_command : (own : List ℕ) (cmd : Cmd) (a : Answer) → IsCommand cmd → length own ≡ 32 → length (own_after own cmd a) ≡ 32
 after_command own (HLd ra) a k h = after_load own a h
-after_command own (UPagein lpid src gpa flags order) a k h = after_call (load_page_in own lpid src gpa flags order) a (length-loaded own UV_PAGE_IN lpid src gpa flags order h)
-after_command own (UPageout lpid dest gpa flags order) a k h = after_call (load_page_out own lpid dest gpa flags order) a (length-loaded own UV_PAGE_OUT lpid dest gpa flags order h)
-after_command own (UReturn r0 r2 outs) a k h = after_call (load_return own r0 r2 outs) a (length-load_return own outs r0 r2 h k.2)
-after_command own cmd a k h = h
+after_command own cmd a k h = by_call (call_of cmd) where
+  by_call : (call : Option Call) → length (own_after_ultracall call own cmd a) ≡ 32
+  by_call None = h
+  by_call (Some call) = after_call (loaded own cmd) a (length_loaded own cmd k h)
 
 -- and so does a step of a vCPU
 after_guest : (cpu : CpuPart) (run : Run) (a : Answer) (shown : List ℕ) → length cpu.own ≡ 32 → length (cpu_of_guest cpu run a shown).own ≡ 32

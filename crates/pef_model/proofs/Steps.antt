@@ -1,8 +1,7 @@
 -- What an entry makes of its CPU and lets out.
-use Rattle.std.proofs.Common.{◌≡◌, ℕ, ◌<◌, List, [], ◌∷◌, ◌++◌, length, take, drop, replicate, get_or, refl, ap, sym, subst, ◌∙◌, if◌then◌else◌, arith, Bool, true, false, ◌==◌, ◌≢◌, Option}
-use Rattle.std.specs.Prelude.{unwrap_or, slice_set}
-use Rattle.std.proofs.lemmas.List.{get_or-replicate, set-get_or}
-use Rattle.std.proofs.Math.ListN.{length-set}
+use Rattle.std.proofs.Common.{Option, Some, None, ◌≡◌, ℕ, ◌<◌, List, [], ◌∷◌, length, replicate, get_or, refl, ap, sym, subst, ◌∙◌, if◌then◌else◌, arith, Bool, true, false, ◌==◌, ◌≢◌, Option}
+use Rattle.std.specs.Prelude.{unwrap_or}
+use Rattle.std.proofs.lemmas.List.{get_or-replicate}
 use Rattle.std.proofs.lemmas.Grind.{common_steps}
 use Rattle.std.proofs.lemmas.Bool.Decides.{nat_tests}
 use Rattle.pef_model.specs.declared.state.Run.{Run}
@@ -10,7 +9,7 @@ use Rattle.pef_model.specs.declared.state.Work.{Work}
 use Rattle.pef_model.specs.declared.state.Work.TheVariants.{Inward, Outward}
 use Rattle.pef_model.specs.declared.state.Ctx.{Ctx}
 use Rattle.pef_model.specs.declared.state.Ctx.TheVariants as ctx
-use Rattle.pef_model.specs.declared.command.TheConstants.{UV_PAGE_IN, UV_PAGE_OUT, UV_RETURN, EXTERNAL_INTERRUPT}
+use Rattle.pef_model.specs.declared.command.TheConstants.{EXTERNAL_INTERRUPT}
 use Rattle.pef_model.specs.declared.command.Cmd.{Cmd}
 use Rattle.pef_model.specs.declared.command.Cmd.TheVariants.{HLd, HSt, UPagein, UPageout, UReturn, GLi, GLd, GSt, GIrq, Go}
 use Rattle.pef_model.specs.declared.entry.Exit.TheVariants as exit
@@ -18,15 +17,15 @@ use Rattle.pef_model.specs.declared.entry.Answer.{Answer}
 use Rattle.pef_model.specs.declared.entry.Answer.TheVariants.{Done, Val, Ret, Step, Enter, Exit, Again, Gone, Hole, Context}
 use Rattle.pef_model.specs.Plan.{Plan}
 use Rattle.pef_model.specs.Event.{Event}
-use Rattle.pef_model.specs.Registers.{number_of, interrupt_registers, load_return, loaded_value}
-use Rattle.pef_model.specs.Cpu.{CpuPart, start_cpu, next_cpu, cpu_in, cpu_by, cpu_of_guest, own_after, own_after_call, own_after_load, last_after}
+use Rattle.pef_model.specs.Registers.{Call, number_of, call_of, interrupt_registers}
+use Rattle.pef_model.specs.Cpu.{CpuPart, start_cpu, next_cpu, cpu_in, cpu_by, cpu_of_guest, own_after, own_after_ultracall, own_after_load, last_after}
 use Rattle.pef_model.specs.Target.{touches_cpu, caller}
 use Rattle.pef_model.specs.History.{cpu_after, guest_after}
 use Rattle.pef_model.specs.Commands.{IsCommand}
-use Rattle.pef_model.specs.StepLaw.{given_by_return, given_by_page_call, given_by_load, own_given_in, selected_lpid, selected_vid, let_out, EachEntryLeavesCpu, is_kept, given_by_work}
+use Rattle.pef_model.specs.StepLaw.{given_by_load, given_by_ultracall, given_by_command, own_given_in, selected_lpid, selected_vid, let_out, EachEntryLeavesCpu, is_kept, given_by_work}
 use Rattle.pef_model.proofs.Folds.{same_test, test_same, counts}
-use Rattle.pef_model.proofs.Assigned.{returned_value, set_value}
-use Rattle.pef_model.proofs.Called.{load_page_call, called_value, number_stays}
+use Rattle.pef_model.proofs.Assigned.{set_value}
+use Rattle.pef_model.proofs.Called.{loads_value, returns_value}
 use Rattle.pef_model.proofs.OwnRegisters.{own_registers}
 use Rattle.pef_model.proofs.Outcomes.{Outcome, outcome, Moving, moving}
 use Rattle.pef_model.specs.Guest.{Guest}
@@ -102,35 +101,6 @@ last_left cpu (ctx.Uv work) after cmd a shown h = last_by_work cpu work after a 
 last_left cpu (ctx.Guest run) after cmd a shown h =
     last_by_guest cpu run a shown ∙ ap (λ (x : Ctx). if is_kept (ctx.Guest run) a x then a else cpu.last) (sym (after_guest run cmd a after shown h))
 
-at_three : (gpr rest : List ℕ) (v : ℕ) → 3 < length gpr → get_or (take 4 (slice_set gpr 3 v) ++ rest) 3 0 ≡ v
-at_three [] rest v h = absurd (omega arith)
-at_three (a ∷ []) rest v h = absurd (omega arith)
-at_three (a ∷ b ∷ []) rest v h = absurd (omega arith)
-at_three (a ∷ b ∷ c ∷ []) rest v h = absurd (omega arith)
-at_three (a ∷ b ∷ c ∷ d ∷ gpr) rest v h = refl
-
--- each of the hypervisor's registers after it loaded UV_RETURN
-loaded_for_return : (own outs : List ℕ) (r0 r2 r : ℕ) → length own ≡ 32 → length outs ≡ 9 → r < 32 →
-    get_or (load_return own r0 r2 outs) r 0 ≡ unwrap_or (loaded_value r0 r2 outs UV_RETURN r) (get_or own r 0)
-loaded_for_return own outs r0 r2 r h k small =
-    let loaded : List ℕ = load_return own r0 r2 outs in
-    let long : 3 < length (slice_set (slice_set own 0 r0) 2 r2) = simp length-set (omega arith) in
-    let value : get_or loaded 3 0 ≡ UV_RETURN = at_three (slice_set (slice_set own 0 r0) 2 r2) (outs ++ drop 13 (slice_set (slice_set (slice_set own 0 r0) 2 r2) 3 UV_RETURN)) UV_RETURN long in
-    let same : slice_set loaded 3 UV_RETURN ≡ loaded = ap (slice_set loaded 3) (sym value) ∙ set-get_or loaded 3 0 in
-    ap (λ (xs : List ℕ). get_or xs r 0) (sym same) ∙ returned_value own outs r0 r2 UV_RETURN r h k small
-
-own_by_return : (own : List ℕ) (r0 r2 : ℕ) (outs : List ℕ) (a : Answer) (r : ℕ) → length outs ≡ 9 → length own ≡ 32 → r < 32 →
-    get_or (own_after own (UReturn r0 r2 outs) a) r 0 ≡ unwrap_or (given_by_return r0 r2 outs a r) (get_or own r 0)
-own_by_return own r0 r2 outs (Ret code) r k full small = returned_value own outs r0 r2 (number_of code) r full k small
-own_by_return own r0 r2 outs a r k full small = loaded_for_return own outs r0 r2 r full k small
-
--- each of the hypervisor's registers after a call that moves a page, by whether it came back at once
-own_by_page_call : (own : List ℕ) (number lpid ra gpa flags order : ℕ) (a : Answer) (r : ℕ) → length own ≡ 32 →
-    get_or (own_after_call (load_page_call own number lpid ra gpa flags order) a) r 0 ≡ unwrap_or (given_by_page_call number lpid ra gpa flags order a r) (get_or own r 0)
-own_by_page_call own number lpid ra gpa flags order (Ret code) r full = called_value own number lpid ra gpa flags order (number_of code) r full
-own_by_page_call own number lpid ra gpa flags order a r full =
-    ap (λ (xs : List ℕ). get_or xs r 0) (sym (number_stays own number lpid ra gpa flags order full)) ∙ called_value own number lpid ra gpa flags order number r full
-
 -- R3 has the code of a call that comes back
 own_by_work : (cpu : CpuPart) (work : Work) (cmd : Cmd) (a : Answer) (shown : List ℕ) (r : ℕ) → length cpu.own ≡ 32 →
     get_or (cpu_in (ctx.Uv work) cpu cmd a shown).own r 0 ≡ unwrap_or (given_by_work (caller work) a shown r) (get_or cpu.own r 0)
@@ -143,6 +113,19 @@ own_by_load : (own : List ℕ) (a : Answer) (r : ℕ) → length own ≡ 32 → 
 own_by_load own (Val value) r full = set_value own 3 value r full (omega arith)
 own_by_load own a r full = refl
 
+-- each of the hypervisor's registers after a call, by whether it came back
+by_call : (own : List ℕ) (cmd : Cmd) (a : Answer) (r : ℕ) → IsCommand cmd → length own ≡ 32 → (call : Option Call) →
+    get_or (own_after_ultracall call own cmd a) r 0 ≡ unwrap_or (given_by_ultracall call cmd a r) (get_or own r 0)
+by_call own cmd a r k full None = refl
+by_call own cmd (Ret code) r k full (Some call) = returns_value own cmd code r k full
+by_call own cmd a r k full (Some call) = loads_value own cmd r k full
+
+-- each of the hypervisor's registers after a command of its own
+own_by_command : (own : List ℕ) (cmd : Cmd) (a : Answer) (r : ℕ) → IsCommand cmd → length own ≡ 32 →
+    get_or (own_after own cmd a) r 0 ≡ unwrap_or (given_by_command cmd a r) (get_or own r 0)
+own_by_command own (HLd ra) a r k full = own_by_load own a r full
+own_by_command own cmd a r k full = by_call own cmd a r k full (call_of cmd)
+
 -- R3 shows the interrupt, and every other register 0
 interrupt_shows : (r : ℕ) → r < 32 → get_or interrupt_registers r 0 ≡ (if r == 3 then EXTERNAL_INTERRUPT else 0)
 interrupt_shows r small = by_test (r == 3) refl where
@@ -153,11 +136,7 @@ interrupt_shows r small = by_test (r == 3) refl where
 -- each of the hypervisor's registers after a step
 own_left : (cpu : CpuPart) (c : Ctx) (cmd : Cmd) (a : Answer) (shown : List ℕ) (r : ℕ) → IsCommand cmd → length cpu.own ≡ 32 → r < 32 →
     get_or (cpu_in c cpu cmd a shown).own r 0 ≡ unwrap_or (own_given_in c cmd a shown r) (get_or cpu.own r 0)
-own_left cpu ctx.Hv (HLd ra) a shown r k full small = own_by_load cpu.own a r full
-own_left cpu ctx.Hv (UPagein lpid src gpa flags order) a shown r k full small = own_by_page_call cpu.own UV_PAGE_IN lpid src gpa flags order a r full
-own_left cpu ctx.Hv (UPageout lpid dest gpa flags order) a shown r k full small = own_by_page_call cpu.own UV_PAGE_OUT lpid dest gpa flags order a r full
-own_left cpu ctx.Hv (UReturn r0 r2 outs) a shown r k full small = own_by_return cpu.own r0 r2 outs a r k.2 full small
-own_left cpu ctx.Hv cmd a shown r k full small = refl
+own_left cpu ctx.Hv cmd a shown r k full small = own_by_command cpu.own cmd a r k full
 own_left cpu (ctx.Uv work) cmd a shown r k full small = own_by_work cpu work cmd a shown r full
 own_left cpu (ctx.Guest run) cmd (Exit exit.Irq) shown r k full small = interrupt_shows r small
 own_left cpu (ctx.Guest run) cmd Gone shown r k full small = get_or-replicate 32 r 0 0 small

@@ -4,7 +4,7 @@ use Rattle.pef_model.specs.declared.state.Run.{Run}
 use Rattle.pef_model.specs.declared.state.Ctx.{Ctx}
 use Rattle.pef_model.specs.declared.state.Ctx.TheVariants as ctx
 use Rattle.pef_model.specs.declared.command.Cmd.{Cmd}
-use Rattle.pef_model.specs.declared.command.Cmd.TheVariants.{HLd, UPagein, UPageout, UReturn}
+use Rattle.pef_model.specs.declared.command.Cmd.TheVariants.{HLd}
 use Rattle.pef_model.specs.declared.entry.Exit.{Exit}
 use Rattle.pef_model.specs.declared.entry.Exit.TheVariants as exit
 use Rattle.pef_model.specs.declared.entry.Answer.{Answer}
@@ -12,7 +12,7 @@ use Rattle.pef_model.specs.declared.entry.Answer.TheVariants as answer
 use Rattle.pef_model.specs.Plan.{Plan}
 use Rattle.pef_model.specs.Event.{Event}
 use Rattle.pef_model.specs.Target.{caller, takes_bytes}
-use Rattle.pef_model.specs.Registers.{zero_registers, interrupt_registers, load_return, load_page_in, load_page_out, with_code}
+use Rattle.pef_model.specs.Registers.{Call, zero_registers, interrupt_registers, call_of, loaded, with_code}
 
 -- the context, the hypervisor's 32 registers, the selected guest and vCPU, the last answer, the hand of one page
 pub record CpuPart : Type 0 where
@@ -37,13 +37,15 @@ abbrev pub own_after_load : List ℕ → Answer → List ℕ
 own_after_load own (answer.Val value) = slice_set own 3 value
 own_after_load own other = own
 
+-- after a command of the hypervisor that may be a call: its caller has loaded it
+abbrev pub own_after_ultracall : Option Call → List ℕ → Cmd → Answer → List ℕ
+own_after_ultracall None own cmd a = own
+own_after_ultracall (Some call) own cmd a = own_after_call (loaded own cmd) a
+
 -- the hypervisor's registers after a command of its own
 abbrev pub own_after : List ℕ → Cmd → Answer → List ℕ
 own_after own (HLd ra) a = own_after_load own a
-own_after own (UPagein lpid src gpa flags order) a = own_after_call (load_page_in own lpid src gpa flags order) a
-own_after own (UPageout lpid dest gpa flags order) a = own_after_call (load_page_out own lpid dest gpa flags order) a
-own_after own (UReturn r0 r2 outs) a = own_after_call (load_return own r0 r2 outs) a
-own_after own cmd a = own
+own_after own cmd a = own_after_ultracall (call_of cmd) own cmd a
 
 -- what the CPU's registers show the hypervisor where a guest leaves, which lets out these values
 abbrev pub left_registers : Exit → List ℕ → List ℕ

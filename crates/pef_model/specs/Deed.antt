@@ -22,6 +22,7 @@ use Rattle.pef_model.specs.Plan.{Plan}
 use Rattle.pef_model.specs.Target.{Ask, frame_of}
 use Rattle.pef_model.specs.GuestPart.{GuestPart, Meeting, Moves, Private, Unbacked, meets, page_of}
 use Rattle.pef_model.specs.Guest.{Guest}
+use Rattle.pef_model.specs.Registers.{Call, call_of, arguments}
 use Rattle.pef_model.specs.Memory.{offset_of}
 use Rattle.pef_model.specs.PageOut.{page_out_code, bytes_out}
 use Rattle.pef_model.specs.PageIn.{page_in_operands, is_last_sealed}
@@ -189,16 +190,23 @@ deed_access ask success through shown any met = answering ask answer.Hole
 abbrev pub deed_interrupt : Ask → Deed
 deed_interrupt ask = record (answering ask (answer.Exit exit.Irq)) { after = ctx.Hv }
 
+-- the code with which a call of a guest is refused that is the hypervisor's: UV_RETURN takes up no vCPU there, and a guest has no right to the others
+abbrev pub refused_with : Cmd → Code
+refused_with (UReturn r0 r2 outs) = UInvalid
+refused_with cmd = UPermission
+
+-- a call of a guest that is the hypervisor's is refused, and lets its arguments out; every other command is one of another context
+abbrev pub deed_refused : Ask → Cmd → Option Call → Deed
+deed_refused ask cmd None = answering ask answer.Context
+deed_refused ask cmd (Some call) = record (answering ask (answer.Ret (refused_with cmd))) { shown = arguments cmd }
+
 -- a command of the vCPU that runs; found: the doubleword at an offset of a normal frame; any: a secure frame is free
 abbrev pub deed_running : Plan → Run → Guest → (ℕ → ℕ → ℕ) → Bool → Ask → Cmd → Deed
-deed_running plan run g found any ask (UPagein lpid src gpa flags order) = record (answering ask (answer.Ret UPermission)) { shown = lpid ∷ src ∷ gpa ∷ flags ∷ order ∷ [] }
-deed_running plan run g found any ask (UPageout lpid dest gpa flags order) = record (answering ask (answer.Ret UPermission)) { shown = lpid ∷ dest ∷ gpa ∷ flags ∷ order ∷ [] }
-deed_running plan run g found any ask (UReturn r0 r2 outs) = record (answering ask (answer.Ret UInvalid)) { shown = r0 ∷ r2 ∷ outs }
 deed_running plan run g found any ask (GLi rd value) = answering ask answer.Done
 deed_running plan run g found any ask (GLd rd gpa) = deed_access ask (answer.Val (g.content gpa)) (λ n. answer.Val (found n (offset_of plan gpa))) [] any (meets plan g.part gpa)
 deed_running plan run g found any ask (GSt rs gpa) = deed_access ask answer.Done (λ n. answer.Done) (slice_index (g.registers run.vid).gpr rs ∷ []) any (meets plan g.part gpa)
 deed_running plan run g found any ask GIrq = deed_interrupt ask
-deed_running plan run g found any ask cmd = answering ask answer.Context
+deed_running plan run g found any ask cmd = deed_refused ask cmd (call_of cmd)
 
 -- a command of the hypervisor at a guest
 abbrev pub deed_hypervisor : Plan → Guest → Bool → Ask → Cmd → Deed

@@ -5,13 +5,13 @@ use Rattle.pef_model.specs.declared.state.Ctx.{Ctx}
 use Rattle.pef_model.specs.declared.state.Ctx.TheVariants as ctx
 use Rattle.pef_model.specs.declared.state.Regs.{Regs}
 use Rattle.pef_model.specs.declared.command.Cmd.{Cmd}
-use Rattle.pef_model.specs.declared.command.Cmd.TheVariants.{UPagein, UPageout, UReturn, GLi, GLd, GSt}
+use Rattle.pef_model.specs.declared.command.Cmd.TheVariants.{UReturn, GLi, GLd, GSt}
 use Rattle.pef_model.specs.declared.entry.Answer.{Answer}
 use Rattle.pef_model.specs.declared.entry.Answer.TheVariants as answer
 use Rattle.pef_model.specs.Plan.{Plan}
 use Rattle.pef_model.specs.Event.{Event}
 use Rattle.pef_model.specs.Target.{caller}
-use Rattle.pef_model.specs.Registers.{fresh_registers, load_return, load_page_in, load_page_out, with_code}
+use Rattle.pef_model.specs.Registers.{Call, fresh_registers, call_of, loaded, with_code}
 use Rattle.pef_model.specs.GuestPart.{GuestPart, start_part, put, next_part}
 use Rattle.pef_model.specs.Clash.{clashes}
 
@@ -40,15 +40,17 @@ stored_by plan g e gpa = stored_in e.saw.before plan g e.trace.cmd e.trace.answe
 abbrev pub at_next_instruction : Regs → List ℕ → Regs
 at_next_instruction regs gpr = record regs { gpr = gpr; nip = (regs.nip + 4) % 2 ^ 64 }
 
+-- after a call that came back: it is loaded, and its code is in R3
+abbrev pub registers_after_call : Option Call → Regs → Cmd → Answer → Regs
+registers_after_call (Some call) regs cmd (answer.Ret code) = at_next_instruction regs (with_code (loaded regs.gpr cmd) code)
+registers_after_call call regs cmd a = regs
+
 -- the registers of a guest's vCPU after a command of its own, by its answer: one that met a hole, a page on the move or an interrupt, or whose guest has ended, keeps them
 abbrev pub registers_after_command : Guest → Regs → Cmd → Answer → Regs
-registers_after_command g regs (UPagein lpid src gpa flags order) (answer.Ret code) = at_next_instruction regs (with_code (load_page_in regs.gpr lpid src gpa flags order) code)
-registers_after_command g regs (UPageout lpid dest gpa flags order) (answer.Ret code) = at_next_instruction regs (with_code (load_page_out regs.gpr lpid dest gpa flags order) code)
-registers_after_command g regs (UReturn r0 r2 outs) (answer.Ret code) = at_next_instruction regs (with_code (load_return regs.gpr r0 r2 outs) code)
 registers_after_command g regs (GLi rd value) answer.Done = at_next_instruction regs (slice_set regs.gpr rd value)
 registers_after_command g regs (GLd rd gpa) (answer.Val value) = at_next_instruction regs (slice_set regs.gpr rd value)
 registers_after_command g regs (GSt rs gpa) answer.Done = at_next_instruction regs regs.gpr
-registers_after_command g regs cmd a = regs
+registers_after_command g regs cmd a = registers_after_call (call_of cmd) regs cmd a
 
 -- UV_RETURN goes on at the address in R2, where it isn't 0, and keeps where the vCPU was in SRR0
 abbrev pub entered_at : Regs → ℕ → Regs

@@ -1,8 +1,10 @@
 -- Registers as lists of 32, and what a call loads into them.
-use Rattle.std.specs.Prelude.{ℕ, ◌+◌, ◌-◌, ◌==◌, nat_lt, nat_le, ◌&&◌, if◌then◌else◌, List, [], ◌∷◌, ◌++◌, length, take, drop, slice_index, slice_set, replicate, Option, Some, None}
+use Rattle.std.specs.Prelude.{ℕ, ◌+◌, ◌-◌, ◌==◌, nat_le, if◌then◌else◌, List, [], ◌∷◌, ◌++◌, length, take, drop, slice_get, slice_set, replicate, Option, Some, None}
 use Rattle.pef_model.specs.declared.command.TheConstants.{UV_PAGE_IN, UV_PAGE_OUT, UV_RETURN, EXTERNAL_INTERRUPT}
 use Rattle.pef_model.specs.declared.command.Code.{Code}
 use Rattle.pef_model.specs.declared.command.Code.TheVariants.{USuccess, UParameter, UP2, UP3, UP4, UP5, UFunction, UBusy, UPermission, UInvalid}
+use Rattle.pef_model.specs.declared.command.Cmd.{Cmd}
+use Rattle.pef_model.specs.declared.command.Cmd.TheVariants.{UPagein, UPageout, UReturn}
 use Rattle.pef_model.specs.declared.state.Regs.{Regs}
 
 -- the number of a code
@@ -30,46 +32,59 @@ interrupt_registers = slice_set zero_registers 3 EXTERNAL_INTERRUPT
 abbrev pub fresh_registers : Regs
 fresh_registers = record { gpr = zero_registers; nip = 0; srr0 = 0 }
 
--- UV_RETURN loads its number into R3, its first two values into R0 and R2, and the other nine into R4 to R12
-abbrev pub load_return : List ℕ → ℕ → ℕ → List ℕ → List ℕ
-load_return gpr r0 r2 outs = with_outputs (slice_set (slice_set (slice_set gpr 0 r0) 2 r2) 3 UV_RETURN) where
-  with_outputs : List ℕ → List ℕ
-  with_outputs loaded = take 4 loaded ++ (outs ++ drop 13 loaded)
+-- an ultracall: its number, which its caller puts into R3, and its operands, which it puts into R4 and the registers after it
+pub record Call : Type 0 where
+  pub number : ℕ
+  pub operands : List ℕ
 
--- a call loads its number into R3, and its operands into R4 and the registers after it
-abbrev pub load_call : List ℕ → ℕ → List ℕ → List ℕ
-load_call gpr number operands = with_operands (slice_set gpr 3 number) where
+-- the ultracall that a command is
+abbrev pub call_of : Cmd → Option Call
+call_of (UPagein lpid src gpa flags order) = Some (record { number = UV_PAGE_IN; operands = lpid ∷ src ∷ gpa ∷ flags ∷ order ∷ [] })
+call_of (UPageout lpid dest gpa flags order) = Some (record { number = UV_PAGE_OUT; operands = lpid ∷ dest ∷ gpa ∷ flags ∷ order ∷ [] })
+call_of (UReturn r0 r2 outs) = Some (record { number = UV_RETURN; operands = outs })
+call_of cmd = None
+
+-- a call's number is in R3, and its operands are in R4 and the registers after it
+abbrev pub with_call : List ℕ → Option Call → List ℕ
+with_call gpr None = gpr
+with_call gpr (Some call) = with_operands (slice_set gpr 3 call.number) where
   with_operands : List ℕ → List ℕ
-  with_operands loaded = take 4 loaded ++ (operands ++ drop (4 + length operands) loaded)
+  with_operands numbered = take 4 numbered ++ (call.operands ++ drop (4 + length call.operands) numbered)
 
--- UV_PAGE_IN loads its number, and five operands
-abbrev pub load_page_in : List ℕ → ℕ → ℕ → ℕ → ℕ → ℕ → List ℕ
-load_page_in gpr lpid src gpa flags order = load_call gpr UV_PAGE_IN (lpid ∷ src ∷ gpa ∷ flags ∷ order ∷ [])
+-- UV_RETURN alone has two values more: they are in R0 and R2
+abbrev pub with_return : List ℕ → Cmd → List ℕ
+with_return gpr (UReturn r0 r2 outs) = slice_set (slice_set gpr 0 r0) 2 r2
+with_return gpr cmd = gpr
 
--- UV_PAGE_OUT loads its number, and five operands
-abbrev pub load_page_out : List ℕ → ℕ → ℕ → ℕ → ℕ → ℕ → List ℕ
-load_page_out gpr lpid dest gpa flags order = load_call gpr UV_PAGE_OUT (lpid ∷ dest ∷ gpa ∷ flags ∷ order ∷ [])
+-- the registers of a caller that has loaded its call
+abbrev pub loaded : List ℕ → Cmd → List ℕ
+loaded gpr cmd = with_call (with_return gpr cmd) (call_of cmd)
+
+-- the values that a guest lets out by a call: the operands, and those of UV_RETURN
+abbrev pub arguments : Cmd → List ℕ
+arguments (UReturn r0 r2 outs) = r0 ∷ r2 ∷ outs
+arguments cmd = operands_of (call_of cmd) where
+  operands_of : Option Call → List ℕ
+  operands_of None = []
+  operands_of (Some call) = call.operands
 
 -- a code comes back in R3
 abbrev pub with_code : List ℕ → Code → List ℕ
 with_code gpr code = slice_set gpr 3 (number_of code)
 
--- the value that UV_RETURN gives a register: R3 has this, R0, R2 and R4 to R12 the operands
-abbrev pub loaded_value : ℕ → ℕ → List ℕ → ℕ → ℕ → Option ℕ
-loaded_value r0 r2 outs code r =
+-- the value that a call gives a register: R3 has its number, R4 and the registers after it its operands
+abbrev pub value_of_call : Option Call → ℕ → Option ℕ
+value_of_call None r = None
+value_of_call (Some call) r = if r == 3 then Some call.number else if nat_le 4 r then slice_get call.operands (r - 4) else None
+
+-- the value that a command gives a register that its caller loads: UV_RETURN alone gives R0 and R2 too
+abbrev pub value_loaded : Cmd → ℕ → Option ℕ
+value_loaded (UReturn r0 r2 outs) r =
     if r == 0 then Some r0
     else if r == 2 then Some r2
-    else if r == 3 then Some code
-    else if nat_le 4 r && nat_lt r 13 then Some (slice_index outs (r - 4))
-    else None
+    else value_of_call (call_of (UReturn r0 r2 outs)) r
+value_loaded cmd r = value_of_call (call_of cmd) r
 
--- the value that a call which moves a page gives a register: R3 has this, R4 to R8 the operands
-abbrev pub value_of_page_call : ℕ → ℕ → ℕ → ℕ → ℕ → ℕ → ℕ → Option ℕ
-value_of_page_call lpid ra gpa flags order code r =
-    if r == 3 then Some code
-    else if r == 4 then Some lpid
-    else if r == 5 then Some ra
-    else if r == 6 then Some gpa
-    else if r == 7 then Some flags
-    else if r == 8 then Some order
-    else None
+-- the value that a command which comes back with a code gives a register: R3 has the code
+abbrev pub value_returned : Cmd → Code → ℕ → Option ℕ
+value_returned cmd code r = if r == 3 then Some (number_of code) else value_loaded cmd r

@@ -6,12 +6,12 @@ use Rattle.pef_model.specs.declared.state.Run.{Run}
 use Rattle.pef_model.specs.declared.state.Ctx.{Ctx}
 use Rattle.pef_model.specs.declared.state.Ctx.TheVariants as ctx
 use Rattle.pef_model.specs.declared.command.Cmd.{Cmd}
-use Rattle.pef_model.specs.declared.command.Cmd.TheVariants.{UPagein, UPageout, UReturn, GLi, GLd, GSt}
+use Rattle.pef_model.specs.declared.command.Cmd.TheVariants.{GLi, GLd, GSt}
 use Rattle.pef_model.specs.declared.entry.Answer.{Answer}
 use Rattle.pef_model.specs.declared.entry.Answer.TheVariants as answer
 use Rattle.pef_model.specs.Plan.{Plan}
 use Rattle.pef_model.specs.Event.{Event, newest}
-use Rattle.pef_model.specs.Registers.{number_of, loaded_value, value_of_page_call}
+use Rattle.pef_model.specs.Registers.{Call, number_of, call_of, value_returned}
 use Rattle.pef_model.specs.Target.{caller, touches_guest}
 use Rattle.pef_model.specs.GuestPart.{page_of, is_private}
 use Rattle.pef_model.specs.Guest.{Guest}
@@ -32,14 +32,16 @@ LastStoreIsNewest =
     (plan : Plan) (past : List Event) (lpid gpa : ℕ) →
     last_store plan past lpid gpa ≡ newest (decides_doubleword plan lpid gpa) 0 past
 
+-- the value that a call of a vCPU which came back gives one of its registers
+abbrev pub assigned_by_call : Option Call → Cmd → Answer → ℕ → Option ℕ
+assigned_by_call (Some call) cmd (answer.Ret code) r = value_returned cmd code r
+assigned_by_call call cmd a r = None
+
 -- the value that a command of a vCPU gives one of its registers, by the guest that it finds
 abbrev pub assigned_by_command : Guest → Cmd → Answer → ℕ → Option ℕ
-assigned_by_command g (UPagein lpid src gpa flags order) (answer.Ret code) r = value_of_page_call lpid src gpa flags order (number_of code) r
-assigned_by_command g (UPageout lpid dest gpa flags order) (answer.Ret code) r = value_of_page_call lpid dest gpa flags order (number_of code) r
-assigned_by_command g (UReturn r0 r2 outs) (answer.Ret code) r = loaded_value r0 r2 outs (number_of code) r
 assigned_by_command g (GLi rd value) answer.Done r = if r == rd then Some value else None
 assigned_by_command g (GLd rd gpa) (answer.Val value) r = if r == rd then Some value else None
-assigned_by_command g cmd a r = None
+assigned_by_command g cmd a r = assigned_by_call (call_of cmd) cmd a r
 
 -- a call that comes back to a vCPU gives R3 its code
 abbrev pub assigned_by_work : Option Run → ℕ → Answer → ℕ → Option ℕ

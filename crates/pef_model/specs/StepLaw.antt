@@ -9,15 +9,15 @@ use Rattle.pef_model.specs.declared.state.Run.{Run}
 use Rattle.pef_model.specs.declared.state.Regs.{Regs}
 use Rattle.pef_model.specs.declared.state.Ctx.{Ctx}
 use Rattle.pef_model.specs.declared.state.Ctx.TheVariants as ctx
-use Rattle.pef_model.specs.declared.command.TheConstants.{UV_PAGE_IN, UV_PAGE_OUT, UV_RETURN, EXTERNAL_INTERRUPT}
+use Rattle.pef_model.specs.declared.command.TheConstants.{EXTERNAL_INTERRUPT}
 use Rattle.pef_model.specs.declared.command.Cmd.{Cmd}
-use Rattle.pef_model.specs.declared.command.Cmd.TheVariants.{HLd, UPagein, UPageout, UReturn}
+use Rattle.pef_model.specs.declared.command.Cmd.TheVariants.{HLd, UReturn}
 use Rattle.pef_model.specs.declared.entry.Exit.TheVariants as exit
 use Rattle.pef_model.specs.declared.entry.Answer.{Answer}
 use Rattle.pef_model.specs.declared.entry.Answer.TheVariants as answer
 use Rattle.pef_model.specs.Plan.{Plan}
 use Rattle.pef_model.specs.Event.{Event}
-use Rattle.pef_model.specs.Registers.{number_of, loaded_value, value_of_page_call}
+use Rattle.pef_model.specs.Registers.{Call, number_of, call_of, arguments, value_loaded, value_returned}
 use Rattle.pef_model.specs.Target.{told, caller, vcpu_in, takes_bytes, is_hypervisor}
 use Rattle.pef_model.specs.Cpu.{CpuPart}
 use Rattle.pef_model.specs.Guest.{Guest}
@@ -28,28 +28,21 @@ abbrev pub is_kept : Ctx → Answer → Ctx → Bool
 is_kept before answer.Context after = false
 is_kept before a after = is_hypervisor before || is_hypervisor after
 
--- the value that UV_RETURN of the hypervisor gives one of its registers: R3 has the call's number, or the code where the call came back
-abbrev pub given_by_return : ℕ → ℕ → List ℕ → Answer → ℕ → Option ℕ
-given_by_return r0 r2 outs (answer.Ret code) r = loaded_value r0 r2 outs (number_of code) r
-given_by_return r0 r2 outs a r = loaded_value r0 r2 outs UV_RETURN r
-
--- the value that a call which moves a page gives one of the hypervisor's registers: R3 has the code where the call came back at once, and else its number
-abbrev pub given_by_page_call : ℕ → ℕ → ℕ → ℕ → ℕ → ℕ → Answer → ℕ → Option ℕ
-given_by_page_call number lpid ra gpa flags order (answer.Ret code) r = value_of_page_call lpid ra gpa flags order (number_of code) r
-given_by_page_call number lpid ra gpa flags order a r = value_of_page_call lpid ra gpa flags order number r
-
 -- the value that a load of the hypervisor gives one of its registers: R3 has what was loaded
 abbrev pub given_by_load : Answer → ℕ → Option ℕ
 given_by_load (answer.Val value) r = if r == 3 then Some value else None
 given_by_load a r = None
 
+-- the value that a call of the hypervisor gives one of its registers: what its caller loads, and the code with which it came back
+abbrev pub given_by_ultracall : Option Call → Cmd → Answer → ℕ → Option ℕ
+given_by_ultracall None cmd a r = None
+given_by_ultracall (Some call) cmd (answer.Ret code) r = value_returned cmd code r
+given_by_ultracall (Some call) cmd a r = value_loaded cmd r
+
 -- the value that a command of the hypervisor gives one of its registers: a load that was refused and a store give none
 abbrev pub given_by_command : Cmd → Answer → ℕ → Option ℕ
 given_by_command (HLd ra) a r = given_by_load a r
-given_by_command (UPagein lpid src gpa flags order) a r = given_by_page_call UV_PAGE_IN lpid src gpa flags order a r
-given_by_command (UPageout lpid dest gpa flags order) a r = given_by_page_call UV_PAGE_OUT lpid dest gpa flags order a r
-given_by_command (UReturn r0 r2 outs) a r = given_by_return r0 r2 outs a r
-given_by_command cmd a r = None
+given_by_command cmd a r = given_by_ultracall (call_of cmd) cmd a r
 
 -- a guest that leaves gives the hypervisor what its exit shows, and the end of one that ran gives zeros
 abbrev pub given_by_leaving : Answer → List ℕ → ℕ → Option ℕ
@@ -87,11 +80,9 @@ abbrev pub selected_vid : Ctx → Cmd → Answer → ℕ → ℕ
 selected_vid (ctx.Guest run) cmd (answer.Exit exit) old = run.vid
 selected_vid before cmd a old = old
 
--- what a step of a vCPU with these registers lets out, by the normal frame that it tells: a call that came back its operands, and every other step nothing
+-- what a step of a vCPU with these registers lets out, by the normal frame that it tells: a call that came back its arguments, and every other step nothing
 abbrev pub let_out_running : List ℕ → Cmd → Answer → Option ℕ → List ℕ
-let_out_running gpr (UPagein lpid src gpa flags order) (answer.Ret code) frame = lpid ∷ src ∷ gpa ∷ flags ∷ order ∷ []
-let_out_running gpr (UPageout lpid dest gpa flags order) (answer.Ret code) frame = lpid ∷ dest ∷ gpa ∷ flags ∷ order ∷ []
-let_out_running gpr (UReturn r0 r2 outs) (answer.Ret code) frame = r0 ∷ r2 ∷ outs
+let_out_running gpr cmd (answer.Ret code) frame = arguments cmd
 let_out_running gpr cmd a frame = []
 
 -- what a step lets out, by the guests that it finds: nothing where no vCPU runs
