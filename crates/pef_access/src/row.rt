@@ -152,13 +152,7 @@ fn store_at(pages: &mut Pages<SecFrame>, vcpu: &mut Vcpu, place: Place, value: u
 }
 
 /// A store in these pages, by a vCPU, into a page that is not Invalid.
-fn store_from(
-    pages: &mut Pages<SecFrame>,
-    vcpu: &mut Vcpu,
-    shift: u8,
-    rs: Reg,
-    gpa: u64,
-) -> Answer
+fn store_from(pages: &mut Pages<SecFrame>, vcpu: &mut Vcpu, shift: u8, rs: Reg, gpa: u64) -> Answer
     requires shift { IsWithin 8 16 shift }
     requires frames { HaveFrames (2 ^ shift) pages.old }
     requires met { is_unbacked (meets_at shift pages.old gpa) ≡ false }
