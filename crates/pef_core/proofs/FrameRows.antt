@@ -1,5 +1,5 @@
 -- A load, a store and the two copies each do what the contract of a step at a normal frame says.
-use Rattle.std.proofs.Common.{◌≡◌, ℕ, ◌%◌, ◌^◌, ◌==◌, Bool, true, false, if◌then◌else◌, List, [], length, slice_set, refl, ap, sym, subst, ◌∙◌}
+use Rattle.std.proofs.Common.{◌≡◌, ℕ, ◌%◌, ◌==◌, Bool, true, false, if◌then◌else◌, List, [], length, slice_set, refl, ap, sym, subst, ◌∙◌}
 use Rattle.pef_model.specs.declared.state.Move.{Move}
 use Rattle.pef_model.specs.declared.state.Work.TheVariants.{Inward, Outward}
 use Rattle.pef_model.specs.declared.state.Ctx.{Ctx}
@@ -8,19 +8,16 @@ use Rattle.pef_model.specs.declared.command.Cmd.{Cmd}
 use Rattle.pef_model.specs.declared.command.Cmd.TheVariants.{HLd, HSt, Go}
 use Rattle.pef_model.specs.declared.entry.Answer.{Answer}
 use Rattle.pef_model.specs.declared.entry.Answer.TheVariants.{Val, Done, Step}
-use Rattle.pef_model.specs.Plan.{Plan}
-use Rattle.pef_model.specs.Event.{Event, Mark}
 use Rattle.pef_model.specs.Doubleword.{doubleword, with_doubleword}
 use Rattle.pef_model.specs.Target.{Ask, uses_hand}
 use Rattle.pef_model.specs.Cpu.{CpuPart}
-use Rattle.pef_model.specs.Memory.{Write, offset_of, overwritten, writes_of}
+use Rattle.pef_model.specs.Memory.{offset_of}
 use Rattle.pef_model.specs.Deed.{deed_frame}
 use Rattle.pef_model.specs.History.{ask_of, entry_of}
 use Rattle.pef_model.proofs.Folds.{same_test}
 use Rattle.pef_model.proofs.Written.{doubleword_overwrites}
 use Rattle.pef_guest.specs.declared.cpu.Cpu.{Cpu}
-use Rattle.pef_guest.specs.Shows.{ShowsCpu}
-use Rattle.pef_guest.specs.Rows.{ask_hypervisor, ask_reading, ask_outward}
+use Rattle.pef_guest.specs.Rows.{ask_hypervisor, ask_reading}
 use Rattle.pef_guest.proofs.Asked.{ask_in_hypervisor}
 use Rattle.pef_move.proofs.Bundle.{ask_in_outward}
 use Rattle.pef_move.specs.PageIn.{CopiesPageIn}
