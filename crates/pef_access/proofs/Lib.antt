@@ -8,3 +8,4 @@ pub mod AccessRows
 mod GuestAfter
 mod Accesses
 mod Refusals
+mod AccessDoes

@@ -10,6 +10,7 @@ use Rattle.pef_frames.specs.Pool.{PoolState, first_free, without_first}
 use Rattle.pef_pages.specs.declared.cell.Cell.TheVariants as cell
 use Rattle.pef_model.specs.declared.state.Regs.{Regs}
 use Rattle.pef_guest.specs.declared.vcpu.Vcpu.{Vcpu}
+use Rattle.pef_guest.specs.declared.guest.Guest.{Guest}
 use Rattle.pef_guest.specs.Rows.{with_registers}
 use Rattle.pef_pages.specs.Pages.{PagesState, kind_at, mover_at, frame_at, with_cell, with_frame_at, joins_order}
 
@@ -103,3 +104,7 @@ vcpu_after vcpu regs any met = vcpu
 abbrev pub is_unbacked : Meeting → Bool
 is_unbacked Unbacked = true
 is_unbacked met = false
+
+-- whether an access of a guest that goes through no partition entry does, by the pages as they are
+abbrev pub asks_at : {S : Type 0} → Guest S → ℕ → Bool
+asks_at guest gpa = is_unbacked (meets_at guest.shift guest.pages gpa)

@@ -6,7 +6,7 @@ ghost use Rattle.pef_model.specs.Guest.{Guest as GuestWhole};
 ghost use Rattle.pef_model.specs.GuestPart.{meets};
 ghost use Rattle.pef_model.specs.Deed.{may_return_in};
 ghost use Rattle.pef_guest.specs.Shows.{Shows};
-ghost use Rattle.pef_access.specs.Access.{meets_at, is_unbacked};
+ghost use Rattle.pef_access.specs.Access.{meets_at, asks_at, is_unbacked};
 
 use crate::place::place_below;
 use pef_frames::SecFrame;
@@ -19,7 +19,8 @@ use pef_seal::Seal;
 pub fn asks_for_frame<S: Seal>(guest: &Guest<S>, gpa: u64) -> bool
     requires shift { IsWithin 8 16 guest.now.shift }
     requires phase { may_return_in guest.now.phase ≡ true }
-    ensures { (plan : Plan) (g : GuestWhole) → Shows S.stands S.image plan guest.now g → is_unbacked (meets plan g.part gpa) ≡ result }
+    ensures here { asks_at guest.now gpa ≡ result }
+    ensures model { (plan : Plan) (g : GuestWhole) → Shows S.stands S.image plan guest.now g → is_unbacked (meets plan g.part gpa) ≡ result }
 {
     is_unbacked_at(&guest.pages, guest.shift, gpa)
 }

@@ -8,4 +8,4 @@ mod row;
 
 pub use asks::asks_for_frame;
 pub use place::place_below;
-pub use row::{load, store};
+pub use row::{load, load_backing, store, store_backing};

@@ -2,9 +2,9 @@
 
 ghost use Rattle.std.specs.Prelude.{◌≡◌, ◌^◌, true, false, length, IfOk, IsFalse};
 ghost use Rattle.pef_model.specs.Plan.{IsInRange, IsWithin};
-ghost use Rattle.pef_guest.specs.Aims.{uses_pool};
 ghost use Rattle.pef_guest.specs.Ready.{IsReadyFor, IsReadyPool};
 ghost use Rattle.pef_guest.specs.Whole.{IsWhole};
+ghost use Rattle.pef_core.specs.Lent.{WantsPool};
 
 use crate::machine::{immediate, load, store, u_return};
 use pef_core::{Inner, Want, apply_frame, apply_guest, needs, ready, ready_frame, ready_pool};
@@ -53,7 +53,7 @@ fn at_guest(
 {
     assert!(rt; ready(guest, cpu, cmd));
     assert!(rt; ready_pool(guest, cpu, pool));
-    match needs(cpu, cmd) {
+    match needs(guest, cpu, cmd) {
         Want::Nothing => assert_eq!(rt; without_pool(guest, cpu, cmd), answer),
         Want::Pool => assert_eq!(rt; with_pool(guest, cpu, pool, cmd), answer),
     }
@@ -62,7 +62,7 @@ fn at_guest(
 /// A step at a guest that is lent nothing.
 fn without_pool<S: Seal>(guest: &mut Guest<S>, cpu: &mut Cpu, cmd: &Cmd) -> Answer
     requires ready { IsReadyFor S.takes cmd.now guest.old cpu.old }
-    requires unwanted { uses_pool cpu.old.ctx cmd.now ≡ false }
+    requires unwanted { WantsPool guest.old cpu.old cpu.old.ctx cmd.now → ⊥ }
     ensures { IsWhole S.takes guest.new }
 {
     apply_guest(guest, cpu, Inner::Nothing, cmd)
@@ -72,7 +72,7 @@ fn without_pool<S: Seal>(guest: &mut Guest<S>, cpu: &mut Cpu, cmd: &Cmd) -> Answ
 fn with_pool<S: Seal>(guest: &mut Guest<S>, cpu: &mut Cpu, pool: &mut Pool, cmd: &Cmd) -> Answer
     requires ready { IsReadyFor S.takes cmd.now guest.old cpu.old }
     requires pool { IsReadyPool guest.old cpu.old pool.old }
-    requires wanted { uses_pool cpu.old.ctx cmd.now ≡ true }
+    requires wanted { WantsPool guest.old cpu.old cpu.old.ctx cmd.now }
     ensures { IsWhole S.takes guest.new }
 {
     apply_guest(guest, cpu, Inner::Pool(pool), cmd)

@@ -1,5 +1,5 @@
 -- A step at a guest that does what the row contract says does what every step of the machine does.
-use Rattle.std.proofs.Common.{◌≡◌, ℕ, ◌+◌, ◌-◌, ◌^◌, ◌<◌, ◌≤◌, ◌==◌, nat_lt, nat_le, ◌&&◌, Bool, true, false, if◌then◌else◌, List, length, Option, Some, None, refl, ap, sym, subst, ◌∙◌, ◌⊎◌, inl, inr, arith}
+use Rattle.std.proofs.Common.{◌≡◌, ℕ, ◌+◌, ◌-◌, ◌^◌, ◌<◌, ◌≤◌, nat_lt, nat_le, ◌&&◌, Bool, true, false, if◌then◌else◌, List, length, Option, Some, None, refl, ap, sym, subst, ◌∙◌, ◌⊎◌, inl, inr, arith}
 use Rattle.std.specs.Prelude.{slice_get, slice_set}
 use Rattle.std.proofs.lemmas.Bool.Decides.{nat_tests}
 use Rattle.std.proofs.Math.ListN.{length-set}
@@ -19,10 +19,10 @@ use Rattle.pef_model.specs.declared.entry.Answer.TheVariants as answer
 use Rattle.pef_model.specs.Commands.{IsCommand}
 use Rattle.pef_model.specs.Plan.{Plan}
 use Rattle.pef_model.specs.Event.{Event, Mark}
-use Rattle.pef_model.specs.Target.{Ask, Alone, AtGuest, AtFrame, frame_of, has_real_place, is_guest, target_in}
+use Rattle.pef_model.specs.Target.{Alone, AtGuest, AtFrame, frame_of, has_real_place, is_guest, target_in}
 use Rattle.pef_model.specs.Cpu.{CpuPart}
 use Rattle.pef_model.specs.Guest.{Guest as GuestWhole}
-use Rattle.pef_model.specs.Deed.{deed_guest, deed_guest_in, deed_running, deed_gone}
+use Rattle.pef_model.specs.Deed.{deed_guest}
 use Rattle.pef_model.specs.Clash.{clashes}
 use Rattle.pef_model.specs.History.{ask_of, cpu_after, guest_after, found_after, entry_of, next_entry}
 use Rattle.pef_model.specs.Sound.{clashes_at, is_clash}
@@ -39,7 +39,8 @@ use Rattle.pef_core.specs.State.{State, IsVcpu, HasVcpu, MayRun, IsMoveOf, IsWho
 use Rattle.pef_core.specs.Steps.{Continues}
 use Rattle.pef_core.specs.Refused.{OnCpu, ChangesGuest, RefusesPage, LeavesRest}
 use Rattle.pef_core.specs.Does.{Targets, DoesStep}
-use Rattle.pef_core.proofs.Entries.{entry_at, return_unframed, running_unframed, page_out_unframed, page_in_unframed, out_unframed, in_unframed}
+use Rattle.pef_core.proofs.Entries.{entry_at}
+use Rattle.pef_core.proofs.Touching.{share_guest}
 use Rattle.pef_core.proofs.Continuing.{mark_at, makes_at_guest}
 use Rattle.pef_core.proofs.Places.{get_set, guest_below, vcpu_below, phase_lets, sized}
 use Rattle.pef_core.proofs.WholeAfter.{whole_guest, once_stays, vcpu_stays}
@@ -122,18 +123,6 @@ in_range plan guests normal n l vid c cmd k count selects works is = by_context 
   by_context (ctx.Uv (Outward move)) works at one = subst (λ (x : ℕ). (1 ≤ x) × (x - 1 < length guests)) (moves_out move l k cmd one) (works.least, move_below guests normal (record { cpu = n; way = way.Outward }) move works)
   by_context (ctx.Guest run) works at one = of_vcpu run.lpid run.vid (runs_at run l k cmd one) works.0
 
-gone_or : (plan : Plan) (run : Run) (g : GuestWhole) (found : ℕ → ℕ → ℕ) (any : Bool) (ask : Ask) (cmd : Cmd) (b : Bool) → (if b then deed_running plan run g found any ask cmd else deed_gone ask).frame ≡ None
-gone_or plan run g found any ask cmd true = running_unframed plan run g found any ask cmd
-gone_or plan run g found any ask cmd false = refl
-
-pub unframed : (plan : Plan) (g : GuestWhole) (found : ℕ → ℕ → ℕ) (any : Bool) (ask : Ask) (c : Ctx) (l : ℕ) (cmd : Cmd) (k : ℕ) → guest_aimed c l cmd ≡ Some k → (deed_guest_in c plan g found any ask cmd).frame ≡ None
-unframed plan g found any ask ctx.Hv l (UPagein lpid src gpa flags order) k is = page_in_unframed plan g.part any ask lpid src gpa flags order
-unframed plan g found any ask ctx.Hv l (UPageout lpid dest gpa flags order) k is = page_out_unframed plan g ask lpid dest gpa flags order
-unframed plan g found any ask ctx.Hv l (UReturn r0 r2 outs) k is = return_unframed g.part ask
-unframed plan g found any ask ctx.Hv l cmd k is = absurd cc
-unframed plan g found any ask (ctx.Uv (Inward move)) l cmd k is = in_unframed g.part ask move
-unframed plan g found any ask (ctx.Uv (Outward move)) l cmd k is = out_unframed g.part ask move
-unframed plan g found any ask (ctx.Guest run) l cmd k is = gone_or plan run g found any ask cmd (run.generation == g.part.generation)
 
 module _ {S : Type 0} (takes : S → ℕ → ℕ → Type 0) (old : State S) (n : ℕ) (cpu : Cpu) (i : ℕ) (guest : Guest S) (s : Site takes old n cpu cpu.ctx i guest) (whole : IsWholeMachine takes old) (cmd : Cmd) (targets : Targets (length old.guests) old.normal cpu cmd (AtGuest (i + 1))) where
   -- the guest that it names
@@ -242,7 +231,6 @@ module _ {S : Type 0} (takes : S → ℕ → ℕ → Type 0) (old : State S) (n 
         let found : ℕ → ℕ → ℕ = found_after plan past in
         let e : Event = entry_at_guest plan g found (is_any_free old.pool) c mark cmd in
         let shows = fits.cpus n cpu s.there in
-        let at : guest_aimed c.ctx c.lpid cmd ≡ Some (i + 1) = subst (λ (x : Ctx). guest_aimed x c.lpid cmd ≡ Some (i + 1)) shows.ctx (subst (λ (l : ℕ). guest_aimed cpu.ctx l cmd ≡ Some (i + 1)) shows.lpid aims) in
         let aimed : target_in plan c.ctx c.lpid cmd ≡ AtGuest (i + 1) =
         subst (λ (x : Ctx). target_in plan x c.lpid cmd ≡ AtGuest (i + 1)) shows.ctx (subst (λ (l : ℕ). target_in plan cpu.ctx l cmd ≡ AtGuest (i + 1)) shows.lpid
         (targets plan (sym fits.normal_is.shift) (sym fits.normal_is.count) (sym fits.guest_count))) in
@@ -250,7 +238,7 @@ module _ {S : Type 0} (takes : S → ℕ → ℕ → Type 0) (old : State S) (n 
         entry_at plan past mark cmd (ask_of c cmd) (AtGuest (i + 1)) refl aimed ∙ ap (λ (free : ℕ). entry_of (ask_of c cmd) mark cmd (deed_guest plan g found (nat_lt 0 free) (ask_of c cmd) cmd)) (sym fits.free) in
         let clear : clashes g.part e ≡ false = ap (clashes_at (λ lpid. (guest_after plan lpid past).part) e) (sym aimed) ∙ ap (is_clash plan past) (sym is) ∙ clean in
         makes_at_guest stands image old n below cpu s.there plan past line place stamp fits cmd e is command new_cpu i guest new_guest pool a s.here (λ lpid. ap (is_guest lpid) aimed)
-        (unframed plan g found (is_any_free old.pool) (ask_of c cmd) c.ctx c.lpid cmd (i + 1) at) (does.row plan g found c mark (sym s.is_cpu.number) (fits.guests i guest s.here) shows clear)
+        (share_guest plan g found (is_any_free old.pool) (ask_of c cmd) c.ctx cmd).0 (does.row plan g found c mark (sym s.is_cpu.number) (fits.guests i guest s.here) shows clear)
 
     -- its CPU alone changes, and counts of steps
     cpu_only : (P : Cpu → Cpu → Type 0) → P cpu new_cpu → SameGuest guest new_guest → pool ≡ old.pool → OnCpu n P old.cpus (slice_set old.cpus n new_cpu) old.guests (slice_set old.guests i new_guest) old.pool pool old.normal old.normal

@@ -1,28 +1,16 @@
 -- What can be told of a step before it is done, and of the pool afterwards.
-use Rattle.std.proofs.Common.{◌≡◌, ℕ, ◌+◌, ◌-◌, ◌<◌, ◌==◌, nat_lt, Bool, true, false, if◌then◌else◌, List, [], ◌∷◌, slice_index, ◌&&◌, length, Option, Some, None, is_some, refl, ap, sym, subst, ◌∙◌, ◌⊎◌, inl, inr, arith}
+use Rattle.std.proofs.Common.{◌≡◌, ℕ, ◌+◌, ◌-◌, ◌<◌, nat_lt, Bool, true, false, List, Option, Some, None, is_some, refl, ap, sym, subst, ◌∙◌, ◌⊎◌, inl, inr, length, arith}
 use Rattle.std.specs.Prelude.{slice_get}
 use Rattle.std.proofs.lemmas.Bool.Decides.{nat_tests}
-use Rattle.pef_model.specs.declared.state.Run.{Run}
-use Rattle.pef_model.specs.declared.state.Work.TheVariants.{Inward, Outward}
 use Rattle.pef_model.specs.declared.state.Ctx.{Ctx}
-use Rattle.pef_model.specs.declared.state.Ctx.TheVariants as ctx
 use Rattle.pef_model.specs.declared.state.Tag.{Tag}
-use Rattle.pef_model.specs.declared.command.Code.{Code}
-use Rattle.pef_model.specs.declared.command.Code.TheVariants.{USuccess, UParameter, UInvalid}
 use Rattle.pef_model.specs.declared.command.Cmd.{Cmd}
-use Rattle.pef_model.specs.declared.command.Cmd.TheVariants.{UPagein, UPageout, UReturn, GLd, GSt}
-use Rattle.pef_model.specs.declared.entry.Answer.{Answer}
-use Rattle.pef_model.specs.declared.entry.Answer.TheVariants as answer
 use Rattle.pef_model.specs.declared.entry.PoolSaw.{PoolSaw}
 use Rattle.pef_model.specs.Plan.{Plan}
-use Rattle.pef_model.specs.Event.{Event, Mark}
-use Rattle.pef_model.specs.Target.{Ask, Target, target_in, touches_pool}
-use Rattle.pef_model.specs.GuestPart.{GuestPart, Meeting, Moves, Private, Unbacked, meets}
-use Rattle.pef_model.specs.Guest.{Guest as GuestWhole}
-use Rattle.pef_model.specs.Memory.{pool_with, offset_of}
-use Rattle.pef_model.specs.PageOut.{page_out_code}
-use Rattle.pef_model.specs.PageIn.{page_in_operands, is_last_sealed}
-use Rattle.pef_model.specs.Deed.{Deed, answering, returning, giving, coming_back, deed_guest_in, deed_hypervisor, deed_running, deed_gone, deed_access, deed_return, deed_page_out, deed_page_out_begin, deed_page_out_end, deed_page_in, deed_page_in_with, deed_page_in_test, deed_page_in_end, may_return_in, is_waiting}
+use Rattle.pef_model.specs.Event.{Event}
+use Rattle.pef_model.specs.Target.{Target, target_in}
+use Rattle.pef_model.specs.Memory.{pool_with}
+use Rattle.pef_model.specs.Deed.{Deed}
 use Rattle.pef_model.specs.History.{ask_of, cpu_after, deed_after, next_entry}
 use Rattle.pef_model.specs.Sound.{is_clash}
 use Rattle.pef_guest.specs.declared.cpu.Cpu.{Cpu}
@@ -31,63 +19,10 @@ use Rattle.pef_core.specs.Steps.{Fits}
 use Rattle.pef_core.specs.Does.{Targets}
 use Rattle.pef_core.specs.Did.{pool_seen, LooksAt}
 use Rattle.pef_core.proofs.Continuing.{mark_at}
-
--- the ways in which a step at a guest touches the pool: it takes the frame that is free, finds none, or gives one back
-abbrev pub IsShare : Bool → Option PoolSaw → Type 0
-IsShare any None = Unit {0}
-IsShare any (Some p) = ((p ≡ record { any = true; taken = 1; given = 0 }) × (any ≡ true)) ⊎ ((p ≡ record { any = false; taken = 0; given = 0 }) ⊎ (p ≡ record { any = false; taken = 0; given = 1 }))
-
-share_running : (plan : Plan) (run : Run) (g : GuestWhole) (found : ℕ → ℕ → ℕ) (any : Bool) (ask : Ask) (cmd : Cmd) → IsShare any (deed_running plan run g found any ask cmd).pool
-share_running plan run g found any ask (GLd rd gpa) = by_meeting (answer.Val (g.content gpa)) (λ n. answer.Val (found n (offset_of plan gpa))) [] any (meets plan g.part gpa) where
-  by_meeting : (success : Answer) (through : ℕ → Answer) (shown : List ℕ) (any : Bool) (r : Meeting) → IsShare any (deed_access ask success through shown any r).pool
-  by_meeting success through shown any Private = tt
-  by_meeting success through shown true Unbacked = inl (refl, refl)
-  by_meeting success through shown false Unbacked = inr (inl refl)
-  by_meeting success through shown any Moves = tt
-  by_meeting success through shown any met = tt
-share_running plan run g found any ask (GSt rs gpa) = by_meeting any (meets plan g.part gpa) where
-  by_meeting : (any : Bool) (r : Meeting) → IsShare any (deed_access ask answer.Done (λ n. answer.Done) (slice_index (g.registers run.vid).gpr rs ∷ []) any r).pool
-  by_meeting any Private = tt
-  by_meeting true Unbacked = inl (refl, refl)
-  by_meeting false Unbacked = inr (inl refl)
-  by_meeting any Moves = tt
-  by_meeting any met = tt
-share_running plan run g found any ask cmd = tt
-
-share_hypervisor : (plan : Plan) (g : GuestWhole) (any : Bool) (ask : Ask) (cmd : Cmd) → IsShare any (deed_hypervisor plan g any ask cmd).pool
-share_hypervisor plan g any ask (UPagein lpid src gpa flags order) = by_code (page_in_operands plan g.part src gpa flags order) any where
-  by_code : (code : Option Code) (any : Bool) → IsShare any (returning ask code (deed_page_in_with plan g.part ask lpid src gpa any)).pool
-  by_code None true = inl (refl, refl)
-  by_code None false = inr (inl refl)
-  by_code (Some code) any = tt
-share_hypervisor plan g any ask (UPageout lpid dest gpa flags order) = by_code (page_out_code plan g.part dest gpa flags order) where
-  by_code : (code : Option Code) → IsShare any (returning ask code (deed_page_out_begin plan g ask lpid dest gpa)).pool
-  by_code None = tt
-  by_code (Some code) = tt
-share_hypervisor plan g any ask (UReturn r0 r2 outs) = by_test (may_return_in g.part.phase && is_waiting (g.part.vcpus ask.vid).state) where
-  by_test : (b : Bool) → IsShare any (if b then record (answering ask answer.Enter) { after = ctx.Guest (record { lpid = ask.lpid; vid = ask.vid; generation = g.part.generation }) } else answering ask (answer.Ret UInvalid)).pool
-  by_test true = tt
-  by_test false = tt
-share_hypervisor plan g any ask cmd = tt
-
-pub share_guest : (plan : Plan) (g : GuestWhole) (found : ℕ → ℕ → ℕ) (any : Bool) (ask : Ask) (c : Ctx) (cmd : Cmd) → IsShare any (deed_guest_in c plan g found any ask cmd).pool
-share_guest plan g found any ask ctx.Hv cmd = share_hypervisor plan g any ask cmd
-share_guest plan g found any ask (ctx.Uv (Inward move)) cmd = by_test (move.generation == g.part.generation) (is_last_sealed (g.part.pages move.gfn).sealed ask.hand) where
-  by_test : (b last : Bool) → IsShare any (if b then deed_page_in_test ask last else coming_back ask UParameter).pool
-  by_test true true = tt
-  by_test true false = inr (inr refl)
-  by_test false last = tt
-share_guest plan g found any ask (ctx.Uv (Outward move)) cmd = by_test (move.generation == g.part.generation) where
-  by_test : (b : Bool) → IsShare any (if b then giving (coming_back ask USuccess) 1 else coming_back ask UParameter).pool
-  by_test true = inr (inr refl)
-  by_test false = tt
-share_guest plan g found any ask (ctx.Guest run) cmd = by_test (run.generation == g.part.generation) where
-  by_test : (b : Bool) → IsShare any (if b then deed_running plan run g found any ask cmd else deed_gone ask).pool
-  by_test true = share_running plan run g found any ask cmd
-  by_test false = tt
+use Rattle.pef_core.proofs.Touching.{IsShareOf}
 
 -- what a step did with the pool is told by the numbers of free frames before and after it
-pub told_by_numbers : (free free_new : ℕ) (o : Option PoolSaw) → IsShare (nat_lt 0 free) o → free_new ≡ pool_with free o → pool_seen (is_some o) free free_new ≡ o
+pub told_by_numbers : (free free_new : ℕ) (o : Option PoolSaw) → IsShareOf (nat_lt 0 free) o → free_new ≡ pool_with free o → pool_seen (is_some o) free free_new ≡ o
 told_by_numbers free free_new None share is = refl
 told_by_numbers free free_new (Some p) share is = by_share share is where
   told : (any : Bool) (taken given : ℕ) → nat_lt free_new free ≡ any → free - free_new ≡ taken → free_new - free ≡ given → pool_seen true free free_new ≡ Some (record { any = any; taken = taken; given = given })

@@ -19,7 +19,10 @@ use Rattle.pef_guest.specs.Does.{entry_at_guest}
 use Rattle.pef_core.specs.State.{State, IsWholeMachine}
 use Rattle.pef_core.specs.Steps.{Fits, Makes}
 use Rattle.pef_core.specs.Does.{Targets}
-use Rattle.pef_core.specs.Did.{pool_seen, TouchesPool, IsLook, Tells, LooksAt}
+use Rattle.pef_core.specs.Did.{pool_seen, IsLook, Tells, LooksAt}
+use Rattle.pef_core.specs.declared.lent.Want.{Want}
+use Rattle.pef_core.specs.declared.lent.Want.TheVariants as want
+use Rattle.pef_core.specs.Lent.{is_pool, frame_wanted, Touches}
 use Rattle.pef_core.specs.declared.did.Look.{Look}
 use Rattle.pef_model.proofs.Folds.{same_test}
 use Rattle.pef_model.specs.Memory.{pool_with}
@@ -29,9 +32,15 @@ use Rattle.pef_core.proofs.Entries.{entry_at}
 use Rattle.pef_core.proofs.Places.{read_at, sized}
 use Rattle.pef_core.proofs.WholeAfter.{one_step_more}
 use Rattle.pef_core.proofs.Moving.{Site}
-use Rattle.pef_core.proofs.AtGuest.{named, in_range, unframed, ready_for}
+use Rattle.pef_core.proofs.AtGuest.{named, in_range, ready_for}
 use Rattle.pef_core.proofs.OtherAims.{unpooled, framed}
-use Rattle.pef_core.proofs.Looking.{IsShare, share_guest, told_by_numbers, looks_at}
+use Rattle.pef_core.proofs.Looking.{told_by_numbers, looks_at}
+use Rattle.pef_core.proofs.Touching.{IsShareOf, share_guest}
+
+-- what a step at a guest needs is no normal frame
+no_frame : (wanted : Want) → None ≡ frame_wanted wanted
+no_frame want.Nothing = refl
+no_frame want.Pool = refl
 
 module _ {S : Type 0} (takes : S → ℕ → ℕ → Type 0) (stands : S → Tag → List ℕ → List ℕ → Type 0) (image : S → Tag → List ℕ → List ℕ) (m : State S) (n : ℕ) (whole : IsWholeMachine takes m) (below : n < length m.cpus) (cpu : Cpu) (read : cpu ≡ get_or m.cpus n cpu) (cmd : Cmd) where
   pub there : slice_get m.cpus n ≡ Some cpu
@@ -78,19 +87,18 @@ module _ {S : Type 0} (takes : S → ℕ → ℕ → Type 0) (stands : S → Tag
       pub guest_ready : IsReadyFor takes cmd guest cpu
       guest_ready = ready_for takes (record m { steps = m.steps + 1 }) n cpu (lpid - 1) guest site (one_step_more takes m whole) cmd placed
 
-      -- what aims at a guest touches the pool where it says so
-      pub looks_at_guest : (touched : Bool) → TouchesPool stands image guest cpu cmd touched → LooksAt stands image m n cmd (record { before = cpu.ctx; lpid = cpu.lpid; vid = cpu.vid; last = cpu.last; touched = touched; frame = None })
-      looks_at_guest touched touches = looks_at stands image m n cpu there cmd (AtGuest (lpid - 1 + 1)) placed touched None (λ plan past line place stamp fits clean at.
+      -- what aims at a guest touches what it needs
+      pub looks_at_guest : (wanted : Want) → Touches stands image guest cpu cmd wanted → LooksAt stands image m n cmd (record { before = cpu.ctx; lpid = cpu.lpid; vid = cpu.vid; last = cpu.last; touched = is_pool wanted; frame = None })
+      looks_at_guest wanted touches = looks_at stands image m n cpu there cmd (AtGuest (lpid - 1 + 1)) placed (is_pool wanted) None (λ plan past line place stamp fits clean at.
           let c : CpuPart = cpu_after plan n past in
           let mark : Mark = mark_at n line place stamp in
           let g : GuestWhole = guest_after plan (lpid - 1 + 1) past in
           let any : Bool = nat_lt 0 (pool_after plan past) in
           let e : Event = entry_at_guest plan g (found_after plan past) any c mark cmd in
           let is : next_entry plan past mark cmd ≡ e = entry_at plan past mark cmd (ask_of c cmd) (AtGuest (lpid - 1 + 1)) refl at in
-          let clear : clashes g.part e ≡ false = ap (clashes_at (λ l. (guest_after plan l past).part) e) (sym at) ∙ ap (is_clash plan past) (sym is) ∙ clean in (
-            sym (touches plan g (found_after plan past) any c mark (fits.guests (lpid - 1) guest here) (fits.cpus n cpu there) clear),
-            sym (unframed plan g (found_after plan past) any (ask_of c cmd) c.ctx c.lpid cmd (lpid - 1 + 1) (named plan c.ctx c.lpid cmd (lpid - 1 + 1) at)),
-          ))
+          let clear : clashes g.part e ≡ false = ap (clashes_at (λ l. (guest_after plan l past).part) e) (sym at) ∙ ap (is_clash plan past) (sym is) ∙ clean in
+          let does = touches plan g (found_after plan past) any c mark (fits.guests (lpid - 1) guest here) (fits.cpus n cpu there) clear in
+          (sym does.0, no_frame wanted ∙ sym does.1))
 
 -- a step that was looked at tells what its entry does
 module _ {S : Type 0} (stands : S → Tag → List ℕ → List ℕ → Type 0) (image : S → Tag → List ℕ → List ℕ) (m new : State S) (n : ℕ) (cmd : Cmd) (a : Answer) (plan : Plan) (past : List Event) (line place stamp : ℕ) (fits : Fits stands image plan m past)
@@ -100,12 +108,12 @@ module _ {S : Type 0} (stands : S → Tag → List ℕ → List ℕ → Type 0) 
   e = next_entry plan past (mark_at n line place stamp) cmd
 
   -- how it touches the pool
-  share_at : (t : Target) → IsShare (nat_lt 0 (pool_after plan past)) (deed_after plan past (ask_of (cpu_after plan n past) cmd) cmd t).pool
+  share_at : (t : Target) → IsShareOf (nat_lt 0 (pool_after plan past)) (deed_after plan past (ask_of (cpu_after plan n past) cmd) cmd t).pool
   share_at Alone = tt
-  share_at (AtGuest l) = share_guest plan (guest_after plan l past) (found_after plan past) (nat_lt 0 (pool_after plan past)) (ask_of (cpu_after plan n past) cmd) (cpu_after plan n past).ctx cmd
+  share_at (AtGuest l) = (share_guest plan (guest_after plan l past) (found_after plan past) (nat_lt 0 (pool_after plan past)) (ask_of (cpu_after plan n past) cmd) (cpu_after plan n past).ctx cmd).1
   share_at (AtFrame k) =
       let ask : Ask = ask_of (cpu_after plan n past) cmd in
-      subst (IsShare (nat_lt 0 (pool_after plan past))) (sym (unpooled plan k (frame_after plan k past) ask (cpu_after plan n past).ctx cmd)) tt
+      subst (IsShareOf (nat_lt 0 (pool_after plan past))) (sym (unpooled plan k (frame_after plan k past) ask (cpu_after plan n past).ctx cmd)) tt
 
   pub tells : (look : Look) → IsLook (next_entry plan past (mark_at n line place stamp) cmd) look → (own : Cpu) → slice_get new.cpus n ≡ Some own →
       Tells (next_entry plan past (mark_at n line place stamp) cmd)
@@ -120,7 +128,7 @@ module _ {S : Type 0} (stands : S → Tag → List ℕ → List ℕ → Type 0) 
     last = is.last;
     pool = ap (λ (b : Bool). pool_seen b (length m.pool.free) (length new.pool.free)) is.touched
         ∙ told_by_numbers (length m.pool.free) (length new.pool.free) e.saw.pool
-        (subst (λ (free : ℕ). IsShare (nat_lt 0 free) e.saw.pool) (sym fits.free) (share_at (target_in plan (cpu_after plan n past).ctx (cpu_after plan n past).lpid cmd)))
+        (subst (λ (free : ℕ). IsShareOf (nat_lt 0 free) e.saw.pool) (sym fits.free) (share_at (target_in plan (cpu_after plan n past).ctx (cpu_after plan n past).lpid cmd)))
         (makes.fits.free ∙ free_after plan past e ∙ ap (λ (k : ℕ). pool_with k e.saw.pool) (sym fits.free));
     frame = is.frame;
   }

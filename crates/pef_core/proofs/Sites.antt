@@ -1,5 +1,5 @@
 -- Where a step finds its CPU and its guest in the machine that it has open.
-use Rattle.std.proofs.Common.{◌≡◌, ℕ, ◌+◌, ◌-◌, ◌<◌, ◌≤◌, false, length, Some, get_or, ap, sym, subst, refl, ◌∙◌, arith}
+use Rattle.std.proofs.Common.{◌≡◌, ℕ, ◌+◌, ◌-◌, ◌<◌, ◌≤◌, length, Some, get_or, ap, sym, subst, refl, ◌∙◌, arith}
 use Rattle.std.specs.Prelude.{slice_get}
 use Rattle.pef_guest.specs.declared.cpu.Cpu.{Cpu}
 use Rattle.pef_guest.specs.declared.guest.Guest.{Guest}
@@ -9,7 +9,6 @@ use Rattle.pef_core.proofs.Places.{read_at, has_context, sized}
 use Rattle.pef_core.specs.Does.{AimsAt, Targets}
 use Rattle.pef_core.proofs.Lists.{element_at}
 use Rattle.pef_core.proofs.AtGuest.{in_range}
-use Rattle.pef_model.specs.Plan.{Plan}
 use Rattle.pef_model.specs.Target.{Target, AtGuest}
 use Rattle.pef_model.specs.declared.command.Cmd.{Cmd}
 use Rattle.pef_core.proofs.Moving.{Site, site}

@@ -1,24 +1,31 @@
--- Which steps at a guest touch the pool in the model.
-use Rattle.std.proofs.Common.{◌≡◌, ℕ, ◌==◌, ◌&&◌, Bool, true, false, if◌then◌else◌, List, [], ◌∷◌, slice_index, Option, Some, None, is_some, refl}
+-- What steps at a guest touch beside it, in the model and by what the guest has.
+use Rattle.std.proofs.Common.{◌≡◌, ℕ, ◌==◌, ◌&&◌, Bool, true, false, if◌then◌else◌, List, [], ◌∷◌, slice_index, Option, Some, None, is_some, refl, ◌⊎◌, inl, inr}
 use Rattle.pef_model.specs.declared.state.Move.{Move}
 use Rattle.pef_model.specs.declared.state.Run.{Run}
 use Rattle.pef_model.specs.Memory.{offset_of}
+use Rattle.pef_model.specs.declared.state.Work.{Work}
 use Rattle.pef_model.specs.declared.state.Work.TheVariants.{Inward, Outward}
+use Rattle.pef_model.specs.declared.state.Ctx.{Ctx}
 use Rattle.pef_model.specs.declared.state.Ctx.TheVariants as ctx
 use Rattle.pef_model.specs.declared.command.Code.{Code}
-use Rattle.pef_model.specs.declared.command.Code.TheVariants.{UInvalid}
+use Rattle.pef_model.specs.declared.command.Code.TheVariants.{USuccess, UParameter, UInvalid}
 use Rattle.pef_model.specs.declared.command.Cmd.{Cmd}
-use Rattle.pef_model.specs.declared.command.Cmd.TheVariants.{GLd, GSt, Go}
+use Rattle.pef_model.specs.declared.command.Cmd.TheVariants.{UPagein, UPageout, UReturn, GLd, GSt, Go}
 use Rattle.pef_model.specs.declared.entry.Answer.{Answer}
 use Rattle.pef_model.specs.declared.entry.Answer.TheVariants as answer
+use Rattle.pef_model.specs.declared.entry.PoolSaw.{PoolSaw}
 use Rattle.pef_model.specs.Plan.{Plan}
 use Rattle.pef_model.specs.Target.{Ask}
 use Rattle.pef_model.specs.GuestPart.{GuestPart, Meeting, Moves, Private, Unbacked, meets}
 use Rattle.pef_model.specs.Guest.{Guest as GuestWhole}
 use Rattle.pef_model.specs.PageOut.{page_out_code}
-use Rattle.pef_model.specs.Deed.{answering, returning, deed_access, deed_running, deed_return, deed_page_out, deed_page_out_begin, may_return_in, is_waiting}
-use Rattle.pef_guest.specs.Aims.{guest_aimed}
+use Rattle.pef_model.specs.PageIn.{page_in_operands, is_last_sealed}
+use Rattle.pef_model.specs.Deed.{Deed, answering, returning, giving, coming_back, deed_guest_in, deed_hypervisor, deed_running, deed_gone, deed_access, deed_return, deed_page_out, deed_page_out_begin, deed_page_in_with, deed_page_in_test, may_return_in, is_waiting}
+use Rattle.pef_guest.specs.declared.cpu.Cpu.{Cpu}
+use Rattle.pef_guest.specs.declared.guest.Guest.{Guest}
+use Rattle.pef_guest.specs.Aims.{guest_aimed, uses_pool}
 use Rattle.pef_access.specs.Access.{is_unbacked}
+use Rattle.pef_core.specs.Lent.{WantsPool}
 
 -- an access asks for a frame where it meets an Invalid page
 access_asks : (ask : Ask) (success : Answer) (through : ℕ → Answer) (shown : List ℕ) (any : Bool) (r : Meeting) → is_some (deed_access ask success through shown any r).pool ≡ is_unbacked r
@@ -64,3 +71,75 @@ ends_in move l k cmd is = absurd cc
 pub ends_out : (move : Move) (l k : ℕ) (cmd : Cmd) → guest_aimed (ctx.Uv (Outward move)) l cmd ≡ Some k → IsEnd move cmd
 ends_out move l k Go is = record { is = refl; copied = copied_is move.copied move.lpid k is }
 ends_out move l k cmd is = absurd cc
+
+-- the ways in which a step at a guest touches the pool: it takes the frame that is free, finds none, or gives one back
+abbrev pub IsShareOf : Bool → Option PoolSaw → Type 0
+IsShareOf any None = Unit {0}
+IsShareOf any (Some p) = ((p ≡ record { any = true; taken = 1; given = 0 }) × (any ≡ true)) ⊎ ((p ≡ record { any = false; taken = 0; given = 0 }) ⊎ (p ≡ record { any = false; taken = 0; given = 1 }))
+
+-- a step at a guest touches no normal frame, and the pool in one of these ways
+abbrev pub IsShare : Bool → Deed → Type 0
+IsShare any deed = (deed.frame ≡ None) × IsShareOf any deed.pool
+
+share_access : (ask : Ask) (success : Answer) (through : ℕ → Answer) (shown : List ℕ) (any : Bool) (r : Meeting) → IsShare any (deed_access ask success through shown any r)
+share_access ask success through shown any Private = (refl, tt)
+share_access ask success through shown true Unbacked = (refl, inl (refl, refl))
+share_access ask success through shown false Unbacked = (refl, inr (inl refl))
+share_access ask success through shown any Moves = (refl, tt)
+share_access ask success through shown any met = (refl, tt)
+
+share_running : (plan : Plan) (run : Run) (g : GuestWhole) (found : ℕ → ℕ → ℕ) (any : Bool) (ask : Ask) (cmd : Cmd) → IsShare any (deed_running plan run g found any ask cmd)
+share_running plan run g found any ask (GLd rd gpa) = share_access ask (answer.Val (g.content gpa)) (λ n. answer.Val (found n (offset_of plan gpa))) [] any (meets plan g.part gpa)
+share_running plan run g found any ask (GSt rs gpa) = share_access ask answer.Done (λ n. answer.Done) (slice_index (g.registers run.vid).gpr rs ∷ []) any (meets plan g.part gpa)
+share_running plan run g found any ask cmd = (refl, tt)
+
+share_hypervisor : (plan : Plan) (g : GuestWhole) (any : Bool) (ask : Ask) (cmd : Cmd) → IsShare any (deed_hypervisor plan g any ask cmd)
+share_hypervisor plan g any ask (UPagein lpid src gpa flags order) = by_code (page_in_operands plan g.part src gpa flags order) any where
+  by_code : (code : Option Code) (any : Bool) → IsShare any (returning ask code (deed_page_in_with plan g.part ask lpid src gpa any))
+  by_code None true = (refl, inl (refl, refl))
+  by_code None false = (refl, inr (inl refl))
+  by_code (Some code) any = (refl, tt)
+share_hypervisor plan g any ask (UPageout lpid dest gpa flags order) = by_code (page_out_code plan g.part dest gpa flags order) where
+  by_code : (code : Option Code) → IsShare any (returning ask code (deed_page_out_begin plan g ask lpid dest gpa))
+  by_code None = (refl, tt)
+  by_code (Some code) = (refl, tt)
+share_hypervisor plan g any ask (UReturn r0 r2 outs) = by_test (may_return_in g.part.phase && is_waiting (g.part.vcpus ask.vid).state) where
+  by_test : (b : Bool) → IsShare any (if b then record (answering ask answer.Enter) { after = ctx.Guest (record { lpid = ask.lpid; vid = ask.vid; generation = g.part.generation }) } else answering ask (answer.Ret UInvalid))
+  by_test true = (refl, tt)
+  by_test false = (refl, tt)
+share_hypervisor plan g any ask cmd = (refl, tt)
+
+pub share_guest : (plan : Plan) (g : GuestWhole) (found : ℕ → ℕ → ℕ) (any : Bool) (ask : Ask) (c : Ctx) (cmd : Cmd) → IsShare any (deed_guest_in c plan g found any ask cmd)
+share_guest plan g found any ask ctx.Hv cmd = share_hypervisor plan g any ask cmd
+share_guest plan g found any ask (ctx.Uv (Inward move)) cmd = by_test (move.generation == g.part.generation) (is_last_sealed (g.part.pages move.gfn).sealed ask.hand) where
+  by_test : (b last : Bool) → IsShare any (if b then deed_page_in_test ask last else coming_back ask UParameter)
+  by_test true true = (refl, tt)
+  by_test true false = (refl, inr (inr refl))
+  by_test false last = (refl, tt)
+share_guest plan g found any ask (ctx.Uv (Outward move)) cmd = by_test (move.generation == g.part.generation) where
+  by_test : (b : Bool) → IsShare any (if b then giving (coming_back ask USuccess) 1 else coming_back ask UParameter)
+  by_test true = (refl, inr (inr refl))
+  by_test false = (refl, tt)
+share_guest plan g found any ask (ctx.Guest run) cmd = by_test (run.generation == g.part.generation) where
+  by_test : (b : Bool) → IsShare any (if b then deed_running plan run g found any ask cmd else deed_gone ask)
+  by_test true = share_running plan run g found any ask cmd
+  by_test false = (refl, tt)
+
+-- what needs the pool may use it
+pub wants_uses : {S : Type 0} (guest : Guest S) (cpu : Cpu) (c : Ctx) (l k : ℕ) (cmd : Cmd) → guest_aimed c l cmd ≡ Some k → WantsPool guest cpu c cmd → uses_pool c cmd ≡ true
+wants_uses guest cpu ctx.Hv l k (UPagein lpid src gpa flags order) at wants = refl
+wants_uses guest cpu ctx.Hv l k cmd at wants = cc
+wants_uses guest cpu (ctx.Uv (Inward move)) l k cmd at wants = let ends = ends_in move l k cmd at in rw ends.is ends.copied
+wants_uses guest cpu (ctx.Uv (Outward move)) l k cmd at wants = let ends = ends_out move l k cmd at in rw ends.is ends.copied
+wants_uses guest cpu (ctx.Guest run) l k (GLd rd gpa) at wants = refl
+wants_uses guest cpu (ctx.Guest run) l k (GSt rs gpa) at wants = refl
+wants_uses guest cpu (ctx.Guest run) l k cmd at wants = (let none = wants.1 in cc)
+
+-- a test that does not hold
+pub not_true : (b : Bool) → (b ≡ true → ⊥) → b ≡ false
+not_true true none = absurd (none refl)
+not_true false none = refl
+
+pub goes_on : (work : Work) (l k : ℕ) (cmd : Cmd) → guest_aimed (ctx.Uv work) l cmd ≡ Some k → cmd ≡ Go
+goes_on (Inward move) l k cmd is = (ends_in move l k cmd is).is
+goes_on (Outward move) l k cmd is = (ends_out move l k cmd is).is

@@ -1,21 +1,12 @@
 -- What a step did, as its entry tells it.
 use Rattle.std.specs.Prelude.{◌≡◌, ℕ, ◌-◌, nat_lt, Bool, true, false, Option, Some, None}
-use Rattle.pef_model.specs.declared.state.Ctx.{Ctx}
 use Rattle.pef_model.specs.declared.command.Cmd.{Cmd}
-use Rattle.pef_model.specs.declared.entry.Answer.{Answer}
 use Rattle.pef_model.specs.declared.entry.PoolSaw.{PoolSaw}
 use Rattle.pef_model.specs.declared.state.Tag.{Tag}
 use Rattle.std.specs.Prelude.{List}
 use Rattle.pef_model.specs.Plan.{Plan}
-use Rattle.pef_model.specs.Event.{Event, Mark}
+use Rattle.pef_model.specs.Event.{Event}
 use Rattle.pef_model.specs.Target.{touches_pool}
-use Rattle.pef_model.specs.Cpu.{CpuPart}
-use Rattle.pef_model.specs.Guest.{Guest as GuestWhole}
-use Rattle.pef_model.specs.Clash.{clashes}
-use Rattle.pef_guest.specs.declared.cpu.Cpu.{Cpu}
-use Rattle.pef_guest.specs.declared.guest.Guest.{Guest}
-use Rattle.pef_guest.specs.Shows.{ShowsCpu, Shows}
-use Rattle.pef_guest.specs.Does.{entry_at_guest}
 use Rattle.pef_model.specs.History.{next_entry}
 use Rattle.pef_model.specs.Sound.{is_clash}
 use Rattle.pef_core.specs.State.{State}
@@ -27,12 +18,6 @@ use Rattle.pef_core.specs.declared.did.Look.{Look}
 abbrev pub pool_seen : Bool → ℕ → ℕ → Option PoolSaw
 pool_seen true free free_new = Some (record { any = nat_lt free_new free; taken = free - free_new; given = free_new - free })
 pool_seen false free free_new = None
-
--- a step at a guest touches the pool exactly where this says so, whatever guest and CPU of the model are shown, unless it is a digest collision
-abbrev pub TouchesPool : {S : Type 0} → (S → Tag → List ℕ → List ℕ → Type 0) → (S → Tag → List ℕ → List ℕ) → Guest S → Cpu → Cmd → Bool → Type 0
-TouchesPool stands image guest cpu cmd touched =
-    (plan : Plan) (g : GuestWhole) (found : ℕ → ℕ → ℕ) (any : Bool) (c : CpuPart) (mark : Mark) → Shows stands image plan guest g → ShowsCpu cpu c →
-    clashes g.part (entry_at_guest plan g found any c mark cmd) ≡ false → touches_pool (entry_at_guest plan g found any c mark cmd) ≡ touched
 
 -- what can be told of a step before it is done is what its entry tells
 pub record IsLook (e : Event) (look : Look) : Type 0 where

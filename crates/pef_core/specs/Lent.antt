@@ -1,11 +1,28 @@
 -- What a step at a guest is lent beside the guest and its CPU.
-use Rattle.std.specs.Prelude.{◌≡◌, ℕ, Bool, true, false, List, Option, Some, None, ◌⊎◌}
+use Rattle.std.specs.Prelude.{◌≡◌, ℕ, Bool, true, false, List, Option, None, ◌⊎◌}
 use Rattle.std.proofs.Common.{inl, inr}
 use Rattle.std.specs.Borrow.{MutBor}
+use Rattle.pef_model.specs.declared.state.Work.TheVariants.{Inward, Outward}
+use Rattle.pef_model.specs.declared.state.Ctx.{Ctx}
+use Rattle.pef_model.specs.declared.state.Ctx.TheVariants as ctx
+use Rattle.pef_model.specs.declared.state.Tag.{Tag}
+use Rattle.pef_model.specs.declared.command.Cmd.{Cmd}
+use Rattle.pef_model.specs.declared.command.Cmd.TheVariants.{UPagein, GLd, GSt}
+use Rattle.pef_model.specs.Plan.{Plan}
+use Rattle.pef_model.specs.Event.{Mark}
+use Rattle.pef_model.specs.Target.{touches_pool}
+use Rattle.pef_model.specs.Cpu.{CpuPart}
+use Rattle.pef_model.specs.Guest.{Guest as GuestWhole}
+use Rattle.pef_model.specs.Clash.{clashes}
 use Rattle.pef_frames.specs.Pool.{PoolState}
 use Rattle.pef_guest.specs.declared.cpu.Cpu.{Cpu}
 use Rattle.pef_guest.specs.declared.guest.Guest.{Guest}
+use Rattle.pef_guest.specs.Shows.{ShowsCpu, Shows}
 use Rattle.pef_guest.specs.Ready.{IsReadyPool}
+use Rattle.pef_guest.specs.Does.{entry_at_guest}
+use Rattle.pef_move.specs.Route.{are_right_in}
+use Rattle.pef_move.specs.PageIn.{IsRefusedIn}
+use Rattle.pef_access.specs.Access.{asks_at}
 use Rattle.pef_core.specs.declared.lent.Want.{Want}
 use Rattle.pef_core.specs.declared.lent.Want.TheVariants as want
 use Rattle.pef_core.specs.declared.lent.Inner.{Inner}
@@ -15,6 +32,42 @@ use Rattle.pef_core.specs.declared.lent.Inner.TheVariants.{Nothing, Pool, Frame}
 abbrev pub is_pool : Want → Bool
 is_pool want.Nothing = false
 is_pool want.Pool = true
+
+-- the normal frame that a step needs: none
+abbrev pub frame_wanted : Want → Option ℕ
+frame_wanted want.Nothing = None
+frame_wanted want.Pool = None
+
+-- whether a call of the hypervisor asks for a free frame: UV_PAGE_IN does, where its operands are right
+abbrev pub call_asks : {S : Type 0} → Guest S → Cmd → Bool
+call_asks guest (UPagein lpid src gpa flags order) = are_right_in guest (record { lpid = lpid; ra = src; gpa = gpa; flags = flags; order = order })
+call_asks guest cmd = false
+
+-- whether a command of a vCPU does: a load or store, where its page is Invalid
+abbrev pub command_asks : {S : Type 0} → Guest S → Cmd → Bool
+command_asks guest (GLd rd gpa) = asks_at guest gpa
+command_asks guest (GSt rs gpa) = asks_at guest gpa
+command_asks guest cmd = false
+
+-- by the context: a step at a guest takes a free frame or gives one back, or would if one were free
+abbrev pub WantsPool : {S : Type 0} → Guest S → Cpu → Ctx → Cmd → Type 0
+WantsPool guest cpu ctx.Hv cmd = call_asks guest cmd ≡ true
+WantsPool guest cpu (ctx.Uv (Inward move)) cmd = IsRefusedIn guest cpu.hand move
+WantsPool guest cpu (ctx.Uv (Outward move)) cmd = move.generation ≡ guest.generation
+WantsPool guest cpu (ctx.Guest run) cmd = (run.generation ≡ guest.generation) × (command_asks guest cmd ≡ true)
+
+-- a step at a guest touches the pool exactly where this says so, whatever guest and CPU of the model are shown, unless it is a digest collision
+abbrev pub TouchesPool : {S : Type 0} → (S → Tag → List ℕ → List ℕ → Type 0) → (S → Tag → List ℕ → List ℕ) → Guest S → Cpu → Cmd → Bool → Type 0
+TouchesPool stands image guest cpu cmd touched =
+    (plan : Plan) (g : GuestWhole) (found : ℕ → ℕ → ℕ) (any : Bool) (c : CpuPart) (mark : Mark) → Shows stands image plan guest g → ShowsCpu cpu c →
+    clashes g.part (entry_at_guest plan g found any c mark cmd) ≡ false → touches_pool (entry_at_guest plan g found any c mark cmd) ≡ touched
+
+-- a step at a guest touches beside it what it needs, and nothing else: its entry tells of the pool exactly where it needs the pool, and of the frame that it needs
+abbrev pub Touches : {S : Type 0} → (S → Tag → List ℕ → List ℕ → Type 0) → (S → Tag → List ℕ → List ℕ) → Guest S → Cpu → Cmd → Want → Type 0
+Touches stands image guest cpu cmd wanted =
+    (plan : Plan) (g : GuestWhole) (found : ℕ → ℕ → ℕ) (any : Bool) (c : CpuPart) (mark : Mark) → Shows stands image plan guest g → ShowsCpu cpu c →
+    clashes g.part (entry_at_guest plan g found any c mark cmd) ≡ false →
+    (touches_pool (entry_at_guest plan g found any c mark cmd) ≡ is_pool wanted) × ((entry_at_guest plan g found any c mark cmd).saw.frame ≡ frame_wanted wanted)
 
 -- the pool before the step: the one that is lent, or else any
 abbrev pub pool_of : PoolState → Inner → PoolState
@@ -33,7 +86,7 @@ pool_left pool (inr (inl p)) = p.0.now
 pool_left pool (inr (inr f)) = pool
 
 -- a step is lent what it needs, the pool in the state in which it needs it
-abbrev pub IsLent : {S : Type 0} → Guest S → Cpu → Bool → Inner → Type 0
-IsLent guest cpu wanted Nothing = wanted ≡ false
-IsLent guest cpu wanted (Pool p) = (wanted ≡ true) × IsReadyPool guest cpu p.now
-IsLent guest cpu wanted (Frame f) = ⊥
+abbrev pub IsLent : {S : Type 0} → Guest S → Cpu → Cmd → Inner → Type 0
+IsLent guest cpu cmd Nothing = WantsPool guest cpu cpu.ctx cmd → ⊥
+IsLent guest cpu cmd (Pool p) = WantsPool guest cpu cpu.ctx cmd × IsReadyPool guest cpu p.now
+IsLent guest cpu cmd (Frame f) = ⊥

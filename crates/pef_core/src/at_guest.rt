@@ -2,10 +2,9 @@
 
 ghost use Rattle.std.specs.Prelude.{◌≡◌, true, false};
 ghost use Rattle.pef_frames.specs.Pool.{PoolState};
-ghost use Rattle.pef_guest.specs.Aims.{uses_pool};
 ghost use Rattle.pef_guest.specs.Ready.{IsReadyFor, IsReadyPool, IsRunning};
 ghost use Rattle.pef_guest.specs.Does.{DoesRow};
-ghost use Rattle.pef_core.specs.Lent.{IsLent, pool_of, pool_left};
+ghost use Rattle.pef_core.specs.Lent.{IsLent, WantsPool, call_asks, command_asks, pool_of, pool_left};
 
 use crate::lent::Inner;
 use pef_frames::Pool;
@@ -22,7 +21,7 @@ pub fn apply_guest<S: Seal>(
     cmd: &Cmd,
 ) -> Answer
     requires ready { IsReadyFor S.takes cmd.now guest.old cpu.old }
-    requires lent { IsLent guest.old cpu.old (uses_pool cpu.old.ctx cmd.now) inner }
+    requires lent { IsLent guest.old cpu.old cmd.now inner }
     ensures { (pool : PoolState) → DoesRow S.takes S.stands S.image cmd.now guest.old guest.new cpu.old cpu.new (pool_of pool inner.entry) (pool_left pool inner.exit) result }
 {
     match inner {
@@ -36,14 +35,13 @@ pub fn apply_guest<S: Seal>(
 fn with_pool<S: Seal>(guest: &mut Guest<S>, cpu: &mut Cpu, pool: &mut Pool, cmd: &Cmd) -> Answer
     requires ready { IsReadyFor S.takes cmd.now guest.old cpu.old }
     requires pool { IsReadyPool guest.old cpu.old pool.old }
-    requires wanted { uses_pool cpu.old.ctx cmd.now ≡ true }
+    requires wanted { WantsPool guest.old cpu.old cpu.old.ctx cmd.now }
     ensures { DoesRow S.takes S.stands S.image cmd.now guest.old guest.new cpu.old cpu.new pool.old pool.new result }
 {
     match cpu.ctx {
         Ctx::Hv => call_with_pool(guest, cpu, pool, cmd),
-        Ctx::Uv(Work::Inward(inward)) => pef_move::page_in_end(guest, cpu, inward, pool),
+        Ctx::Uv(Work::Inward(inward)) => pef_move::page_in_end_refused(guest, cpu, inward, pool),
         Ctx::Uv(Work::Outward(outward)) => pef_move::page_out_end(guest, cpu, outward, pool),
-        Ctx::Guest(run) if run.generation != guest.generation => pef_reflect::gone(guest, cpu, run),
         Ctx::Guest(run) => access(guest, cpu, pool, run, cmd),
     }
 }
@@ -58,7 +56,7 @@ fn call_with_pool<S: Seal>(
     requires ready { IsReadyFor S.takes cmd.now guest.old cpu.old }
     requires pool { IsReadyPool guest.old cpu.old pool.old }
     requires hypervisor { cpu.old.ctx ≡ Ctx.Hv }
-    requires wanted { uses_pool Ctx.Hv cmd.now ≡ true }
+    requires wanted { call_asks guest.old cmd.now ≡ true }
     ensures { DoesRow S.takes S.stands S.image cmd.now guest.old guest.new cpu.old cpu.new pool.old pool.new result }
 {
     match cmd {
@@ -84,17 +82,17 @@ fn call_with_pool<S: Seal>(
     }
 }
 
-/// A load or store of the vCPU that the CPU runs.
+/// A load or store of the vCPU that the CPU runs, in an Invalid page.
 fn access<S: Seal>(guest: &mut Guest<S>, cpu: &Cpu, pool: &mut Pool, run: Run, cmd: &Cmd) -> Answer
     requires ready { IsReadyFor S.takes cmd.now guest.old cpu.now }
     requires pool { IsReadyPool guest.old cpu.now pool.old }
     requires runs { IsRunning cpu.now guest.old run }
-    requires wanted { uses_pool (Ctx.Guest run) cmd.now ≡ true }
+    requires wanted { command_asks guest.old cmd.now ≡ true }
     ensures { DoesRow S.takes S.stands S.image cmd.now guest.old guest.new cpu.now cpu.now pool.old pool.new result }
 {
     match cmd {
-        Cmd::GLd { rd, gpa } => pef_access::load(guest, cpu, pool, run, *rd, *gpa),
-        Cmd::GSt { rs, gpa } => pef_access::store(guest, cpu, pool, run, *rs, *gpa),
+        Cmd::GLd { rd, gpa } => pef_access::load_backing(guest, cpu, pool, run, *rd, *gpa),
+        Cmd::GSt { rs, gpa } => pef_access::store_backing(guest, cpu, pool, run, *rs, *gpa),
         _ => unreachable!(),
     }
 }
@@ -102,12 +100,14 @@ fn access<S: Seal>(guest: &mut Guest<S>, cpu: &Cpu, pool: &mut Pool, run: Run, c
 /// A command that is lent nothing.
 fn without_pool<S: Seal>(guest: &mut Guest<S>, cpu: &mut Cpu, cmd: &Cmd) -> Answer
     requires ready { IsReadyFor S.takes cmd.now guest.old cpu.old }
-    requires unwanted { uses_pool cpu.old.ctx cmd.now ≡ false }
+    requires unwanted { WantsPool guest.old cpu.old cpu.old.ctx cmd.now → ⊥ }
     ensures { (pool : PoolState) → DoesRow S.takes S.stands S.image cmd.now guest.old guest.new cpu.old cpu.new pool pool result }
 {
     match cpu.ctx {
         Ctx::Hv => call(guest, cpu, cmd),
-        Ctx::Uv(_) => unreachable!(),
+        Ctx::Uv(work) if pef_move::is_late(guest, work) => pef_move::end_late(guest, cpu, work),
+        Ctx::Uv(Work::Inward(inward)) => pef_move::page_in_end(guest, cpu, inward),
+        Ctx::Uv(Work::Outward(_)) => unreachable!(),
         Ctx::Guest(run) if run.generation != guest.generation => pef_reflect::gone(guest, cpu, run),
         Ctx::Guest(run) => command(guest, cpu, run, cmd),
     }
@@ -117,10 +117,27 @@ fn without_pool<S: Seal>(guest: &mut Guest<S>, cpu: &mut Cpu, cmd: &Cmd) -> Answ
 fn call<S: Seal>(guest: &mut Guest<S>, cpu: &mut Cpu, cmd: &Cmd) -> Answer
     requires ready { IsReadyFor S.takes cmd.now guest.old cpu.old }
     requires hypervisor { cpu.old.ctx ≡ Ctx.Hv }
-    requires unwanted { uses_pool Ctx.Hv cmd.now ≡ false }
+    requires unwanted { call_asks guest.old cmd.now ≡ false }
     ensures { (pool : PoolState) → DoesRow S.takes S.stands S.image cmd.now guest.old guest.new cpu.old cpu.new pool pool result }
 {
     match cmd {
+        Cmd::UPagein {
+            lpid,
+            src,
+            gpa,
+            flags,
+            order,
+        } => pef_move::page_in_refused(
+            guest,
+            cpu,
+            &PageCall {
+                lpid: *lpid,
+                ra: *src,
+                gpa: *gpa,
+                flags: *flags,
+                order: *order,
+            },
+        ),
         Cmd::UPageout {
             lpid,
             dest,
@@ -147,7 +164,7 @@ fn call<S: Seal>(guest: &mut Guest<S>, cpu: &mut Cpu, cmd: &Cmd) -> Answer
 fn command<S: Seal>(guest: &mut Guest<S>, cpu: &mut Cpu, run: Run, cmd: &Cmd) -> Answer
     requires ready { IsReadyFor S.takes cmd.now guest.old cpu.old }
     requires runs { IsRunning cpu.old guest.old run }
-    requires unwanted { uses_pool (Ctx.Guest run) cmd.now ≡ false }
+    requires unwanted { command_asks guest.old cmd.now ≡ false }
     ensures { (pool : PoolState) → DoesRow S.takes S.stands S.image cmd.now guest.old guest.new cpu.old cpu.new pool pool result }
 {
     match cmd {
@@ -169,6 +186,8 @@ fn command<S: Seal>(guest: &mut Guest<S>, cpu: &mut Cpu, run: Run, cmd: &Cmd) ->
             guest, cpu, run, *r0, *r2, outs,
         ),
         Cmd::GLi { rd, value } => pef_reflect::load_immediate(guest, cpu, run, *rd, *value),
+        Cmd::GLd { rd, gpa } => pef_access::load(guest, cpu, run, *rd, *gpa),
+        Cmd::GSt { rs, gpa } => pef_access::store(guest, cpu, run, *rs, *gpa),
         Cmd::GIrq => pef_reflect::interrupt(guest, cpu, run),
         _ => unreachable!(),
     }

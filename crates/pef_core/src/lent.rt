@@ -1,12 +1,20 @@
-//! What a step at a guest needs beside the guest and its CPU, and what it is lent.
+//! What a step at a guest touches beside the guest and its CPU, and what it is lent.
 
-ghost use Rattle.std.specs.Prelude.{◌≡◌};
+ghost use Rattle.std.specs.Prelude.{◌≡◌, ◌↔◌, ℕ, Bool, true, is_some, IsTrue};
+ghost use Rattle.pef_model.specs.Plan.{Plan, IsWithin};
+ghost use Rattle.pef_model.specs.Target.{Ask};
+ghost use Rattle.pef_model.specs.Guest.{Guest as GuestWhole};
+ghost use Rattle.pef_model.specs.Deed.{deed_hypervisor, deed_running, may_return_in};
 ghost use Rattle.pef_guest.specs.Aims.{uses_pool};
-ghost use Rattle.pef_core.specs.Lent.{is_pool};
+ghost use Rattle.pef_guest.specs.Shows.{Shows};
+ghost use Rattle.pef_guest.specs.Ready.{IsReadyFor};
+ghost use Rattle.pef_core.specs.Lent.{is_pool, call_asks, command_asks, WantsPool, TouchesPool, Touches};
 
 use pef_frames::{NormalFrame, Pool};
-use pef_guest::Cpu;
-use pef_model::{Cmd, Ctx, Work};
+use pef_guest::{Cpu, Guest};
+use pef_model::{Cmd, Ctx, Run, Work};
+use pef_move::PageCall;
+use pef_seal::Seal;
 
 /// What a step at a guest needs.
 #[derive(Clone, Copy)]
@@ -15,6 +23,18 @@ pub enum Want {
     Nothing,
     /// The pool.
     Pool,
+}
+
+impl Want {
+    /// Whether it is the pool.
+    pub(crate) fn is_pool(self) -> bool
+        ensures { result ≡ is_pool self }
+    {
+        match self {
+            Want::Nothing => false,
+            Want::Pool => true,
+        }
+    }
 }
 
 /// What a step at a guest is lent.
@@ -27,16 +47,88 @@ pub enum Inner<'a> {
     Frame(&'a mut NormalFrame),
 }
 
-/// What a command of a CPU needs at the guest at which it aims.
-pub fn needs(cpu: &Cpu, cmd: &Cmd) -> Want
-    ensures { is_pool result ≡ uses_pool cpu.now.ctx cmd.now }
+/// What a command of a CPU needs at the guest at which it aims: it is what the step touches beside the guest.
+pub fn needs<S: Seal>(guest: &Guest<S>, cpu: &Cpu, cmd: &Cmd) -> Want
+    requires { IsReadyFor S.takes cmd.now guest.now cpu.now }
+    ensures here { IsTrue (is_pool result) ↔ WantsPool guest.now cpu.now cpu.now.ctx cmd.now }
+    ensures used { is_pool result ≡ true → uses_pool cpu.now.ctx cmd.now ≡ true }
+    ensures touches { Touches S.stands S.image guest.now cpu.now cmd.now result }
 {
-    match (cpu.ctx, cmd) {
-        (Ctx::Hv, Cmd::UPagein { .. }) => Want::Pool,
-        (Ctx::Uv(Work::Inward(page)), Cmd::Go) if page.copied => Want::Pool,
-        (Ctx::Uv(Work::Outward(page)), Cmd::Go) if page.copied => Want::Pool,
-        (Ctx::Guest(_), Cmd::GLd { .. }) => Want::Pool,
-        (Ctx::Guest(_), Cmd::GSt { .. }) => Want::Pool,
-        _ => Want::Nothing,
+    if touches_pool(guest, cpu, cmd) {
+        Want::Pool
+    } else {
+        Want::Nothing
+    }
+}
+
+/// Whether a command of a CPU touches the pool at the guest at which it aims: UV_PAGE_IN whose operands are right, the end of a
+/// page-out and that of a page-in which is refused, under the guest's generation, and a load or store in an Invalid page.
+fn touches_pool<S: Seal>(guest: &Guest<S>, cpu: &Cpu, cmd: &Cmd) -> bool
+    requires { IsReadyFor S.takes cmd.now guest.now cpu.now }
+    ensures here { IsTrue result ↔ WantsPool guest.now cpu.now cpu.now.ctx cmd.now }
+    ensures model { TouchesPool S.stands S.image guest.now cpu.now cmd.now result }
+{
+    match cpu.ctx {
+        Ctx::Hv => asked_by_call(guest, cmd),
+        Ctx::Uv(Work::Inward(page)) => pef_move::refuses_page(guest, cpu, page),
+        Ctx::Uv(Work::Outward(page)) => pef_move::gives_frame_back(guest, page),
+        Ctx::Guest(run) if run.generation != guest.generation => false,
+        Ctx::Guest(run) => asked_by_command(guest, run, cmd),
+    }
+}
+
+/// Whether a call of the hypervisor does.
+fn asked_by_call<S: Seal>(guest: &Guest<S>, cmd: &Cmd) -> bool
+    requires { IsWithin 8 16 guest.now.shift }
+    ensures here { call_asks guest.now cmd.now ≡ result }
+    ensures model { (plan : Plan) (g : GuestWhole) (any : Bool) (ask : Ask) → Shows S.stands S.image plan guest.now g → is_some (deed_hypervisor plan g any ask cmd.now).pool ≡ result }
+{
+    match cmd {
+        Cmd::UPagein {
+            lpid,
+            src,
+            gpa,
+            flags,
+            order,
+        } => pef_move::asks_for_frame(
+            guest,
+            &PageCall {
+                lpid: *lpid,
+                ra: *src,
+                gpa: *gpa,
+                flags: *flags,
+                order: *order,
+            },
+        ),
+        Cmd::UPageout { .. } => false,
+        Cmd::UReturn { .. } => false,
+        Cmd::HLd { .. } => false,
+        Cmd::HSt { .. } => false,
+        Cmd::GLi { .. } => false,
+        Cmd::GLd { .. } => false,
+        Cmd::GSt { .. } => false,
+        Cmd::GIrq => false,
+        Cmd::Go => false,
+    }
+}
+
+/// Whether a command of a vCPU does, in its guest's generation.
+fn asked_by_command<S: Seal>(guest: &Guest<S>, run: Run, cmd: &Cmd) -> bool
+    requires shift { IsWithin 8 16 guest.now.shift }
+    requires phase { may_return_in guest.now.phase ≡ true }
+    ensures here { command_asks guest.now cmd.now ≡ result }
+    ensures model { (plan : Plan) (g : GuestWhole) (found : ℕ → ℕ → ℕ) (any : Bool) (ask : Ask) → Shows S.stands S.image plan guest.now g → is_some (deed_running plan run g found any ask cmd.now).pool ≡ result }
+{
+    match cmd {
+        Cmd::GLd { gpa, .. } => pef_access::asks_for_frame(guest, *gpa),
+        Cmd::GSt { gpa, .. } => pef_access::asks_for_frame(guest, *gpa),
+        Cmd::UPagein { .. } => false,
+        Cmd::UPageout { .. } => false,
+        Cmd::UReturn { .. } => false,
+        Cmd::HLd { .. } => false,
+        Cmd::HSt { .. } => false,
+        Cmd::GLi { .. } => false,
+        Cmd::GIrq => false,
+        Cmd::Go => false,
     }
 }

@@ -19,7 +19,7 @@ ghost use Rattle.pef_core.specs.Places.{EachPageIsPlaced};
 
 use crate::aim::{Target, target_of};
 use crate::at_guest::apply_guest;
-use crate::did::{Did, Look, look_of, pool_seen, touches_pool};
+use crate::did::{Did, Look, look_of, pool_seen};
 use crate::lent::{Inner, Want, needs};
 use crate::normal::Normal;
 use crate::own::apply_own;
@@ -163,7 +163,7 @@ impl<S: Seal> Machine<S> {
             Target::Alone => look_of(own, false, None),
             Target::Guest(lpid) => {
                 let guest = &self.guests[lpid as usize - 1];
-                look_of(own, touches_pool(guest, own, cmd), None)
+                look_of(own, needs(guest, own, cmd).is_pool(), None)
             }
             Target::Frame(frame) => look_of(own, false, Some(frame)),
         }
@@ -202,7 +202,7 @@ impl<S: Seal> Machine<S> {
     {
         let own = &mut self.cpus[cpu as usize];
         let guest = &mut self.guests[lpid as usize - 1];
-        match needs(own, cmd) {
+        match needs(guest, own, cmd) {
             Want::Nothing => apply_guest(guest, own, Inner::Nothing, cmd),
             Want::Pool => apply_guest(guest, own, Inner::Pool(&mut self.pool), cmd),
         }

@@ -1,34 +1,25 @@
 -- Which steps of a page's move touch the pool in the model.
-use Rattle.std.proofs.Common.{◌≡◌, ◌≢◌, ℕ, ◌<◌, ◌==◌, Bool, true, false, not, if◌then◌else◌, List, length, Option, Some, None, is_some, IsTrue, ◌↔◌, refl, ap, sym, subst, ◌∙◌, arith}
-use Rattle.std.proofs.lemmas.Bool.Decides.{nat_tests}
-use Rattle.pef_model.specs.declared.state.Way.TheVariants as way
+use Rattle.std.proofs.Common.{◌≡◌, ℕ, ◌==◌, Bool, true, false, not, if◌then◌else◌, List, Option, Some, None, is_some, refl, ap, sym, ◌∙◌}
 use Rattle.pef_model.specs.declared.state.Move.{Move}
 use Rattle.pef_model.specs.declared.state.Tag.{Tag}
 use Rattle.pef_model.specs.declared.command.Code.{Code}
 use Rattle.pef_model.specs.declared.command.Code.TheVariants.{USuccess, UParameter}
 use Rattle.pef_model.specs.Plan.{Plan}
-use Rattle.pef_model.specs.Event.{Mark}
 use Rattle.pef_model.specs.Target.{Ask}
 use Rattle.pef_model.specs.Cpu.{CpuPart}
-use Rattle.pef_model.specs.GuestPart.{GuestPart}
 use Rattle.pef_model.specs.Guest.{Guest as GuestWhole}
-use Rattle.pef_model.specs.PageIn.{page_in_operands, is_last_sealed}
-use Rattle.pef_model.specs.Clash.{ends_in_clash}
+use Rattle.pef_model.specs.PageIn.{is_last_sealed}
 use Rattle.pef_model.specs.Deed.{returning, giving, coming_back, deed_page_in, deed_page_in_with, deed_page_in_test, deed_page_in_end, deed_page_out_end}
-use Rattle.pef_frames.specs.Pool.{PoolState}
-use Rattle.pef_pages.specs.Pages.{mover_at, digest_at}
-use Rattle.pef_guest.specs.declared.cpu.Cpu.{Cpu}
 use Rattle.pef_guest.specs.declared.guest.Guest.{Guest}
-use Rattle.pef_guest.specs.Shows.{ShowsCpu, Shows, digest_by}
+use Rattle.pef_guest.specs.Shows.{Shows}
 use Rattle.pef_guest.specs.Rows.{ask_inward}
 use Rattle.pef_move.specs.declared.page_call.PageCall.{PageCall}
 use Rattle.pef_move.specs.Route.{operands_for}
-use Rattle.pef_move.proofs.CodesIn.{operands_are}
-use Rattle.pef_move.proofs.ComeRows.{is_kept}
+use Rattle.pef_move.proofs.Codes.{operands_are}
 
 module _ {S : Type 0} (stands : S → Tag → List ℕ → List ℕ → Type 0) (image : S → Tag → List ℕ → List ℕ) (plan : Plan) (guest : Guest S) (g : GuestWhole) where
   -- UV_PAGE_IN asks for a frame where no operand is wrong
-  pub asked : (call : PageCall) → Shows stands image plan guest g → (any : Bool) (ask : Ask) (code : Option Code) → operands_for guest call ≡ code →
+  pub asked : (call : PageCall) → Shows stands image plan guest g → (any : Bool) (ask : Ask) (code : Option Code) → operands_for plan g.part guest call ≡ code →
       is_some (deed_page_in plan g.part any ask call.lpid call.ra call.gpa call.flags call.order).pool ≡ not (is_some code)
   asked call shows any ask code is =
       ap (λ (o : Option Code). is_some (returning ask o (deed_page_in_with plan g.part ask call.lpid call.ra call.gpa any)).pool) (sym (operands_are stands image plan guest g call shows) ∙ is) ∙ by_code code any where

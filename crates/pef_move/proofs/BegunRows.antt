@@ -55,11 +55,11 @@ module _ {S : Type 0} (stands : S → Tag → List ℕ → List ℕ → Type 0) 
       Row stands image plan g c (entry_of (ask_hypervisor c) mark command (returning (ask_hypervisor c) code (deed_page_out_begin plan g (ask_hypervisor c) call.lpid call.ra call.gpa))) new cpu_new a
 
   -- the code of the model is that of the guest
-  code : (found : Option Code) → found ≡ code_for (record old { steps = old.steps + 1 }) call → page_out_code plan g.part call.ra call.gpa call.flags call.order ≡ found
+  code : (found : Option Code) → found ≡ code_for plan g.part (record old { steps = old.steps + 1 }) call → page_out_code plan g.part call.ra call.gpa call.flags call.order ≡ found
   code found e = sym (e ∙ code_is stands image plan old g call shows)
 
   -- a call that comes back at once leaves the guest and the hand
-  pub row_refused : (one : Code) → Some one ≡ code_for (record old { steps = old.steps + 1 }) call →
+  pub row_refused : (one : Code) → Some one ≡ code_for plan g.part (record old { steps = old.steps + 1 }) call →
       Row stands image plan g c (entry_of (ask_hypervisor c) mark command (deed_page_out plan g (ask_hypervisor c) call.lpid call.ra call.gpa call.flags call.order))
       (record old { steps = old.steps + 1 }) (record cpu { gpr = with_code gpr one; last = answer.Ret one }) (answer.Ret one)
   row_refused one e =
@@ -150,7 +150,7 @@ module _ {S : Type 0} (stands : S → Tag → List ℕ → List ℕ → Type 0) 
         Shows stands image plan guest (record g { part = with_page_leaving g.part n mark.cpu (bytes_out g.part.phase plan g call.lpid n); clean = g.clean && true })
 
     -- a page begins to move
-    pub row_begun : None ≡ code_for (record old { steps = old.steps + 1 }) call →
+    pub row_begun : None ≡ code_for plan g.part (record old { steps = old.steps + 1 }) call →
         Row stands image plan g c (entry_of (ask_hypervisor c) mark command (deed_page_out plan g (ask_hypervisor c) call.lpid call.ra call.gpa call.flags call.order)) new cpu_new answer.Step
     row_begun e =
         subst (λ (found : Option Code). RowBy found new cpu_new answer.Step) (sym (code None e)) (record {

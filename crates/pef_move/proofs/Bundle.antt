@@ -1,18 +1,16 @@
 -- What the rows of the two moves have in common.
-use Rattle.std.proofs.Common.{◌≡◌, ℕ, ◌+◌, ◌==◌, nat_lt, Bool, true, false, if◌then◌else◌, List, [], length, Option, Some, None, refl, ap, sym, subst, ◌∙◌, inl}
+use Rattle.std.proofs.Common.{◌≡◌, ℕ, ◌==◌, Bool, true, false, if◌then◌else◌, List, [], length, Option, Some, None, refl, ap, sym, subst, ◌∙◌, ◌↔◌, inl}
 use Rattle.pef_model.specs.declared.state.Move.{Move}
 use Rattle.pef_model.specs.declared.state.Work.TheVariants.{Inward, Outward}
-use Rattle.pef_model.specs.declared.state.Ctx.{Ctx}
 use Rattle.pef_model.specs.declared.state.Ctx.TheVariants as ctx
 use Rattle.pef_model.specs.declared.state.Tag.{Tag}
 use Rattle.pef_model.specs.declared.command.Code.{Code}
-use Rattle.pef_model.specs.declared.command.Code.TheVariants.{UParameter, UP2, USuccess}
-use Rattle.pef_model.specs.declared.command.Cmd.{Cmd}
+use Rattle.pef_model.specs.declared.command.Code.TheVariants.{UParameter}
 use Rattle.pef_model.specs.declared.command.Cmd.TheVariants.{UPagein, UPageout, Go}
 use Rattle.pef_model.specs.declared.entry.Answer.{Answer}
 use Rattle.pef_model.specs.declared.entry.Answer.TheVariants as answer
 use Rattle.pef_model.specs.Plan.{Plan}
-use Rattle.pef_model.specs.Event.{Event, Mark}
+use Rattle.pef_model.specs.Event.{Mark}
 use Rattle.pef_model.specs.Target.{Ask, uses_hand}
 use Rattle.pef_model.specs.Cpu.{CpuPart}
 use Rattle.pef_model.specs.GuestPart.{GuestPart}
@@ -21,20 +19,18 @@ use Rattle.pef_model.specs.Memory.{pool_with}
 use Rattle.pef_model.specs.PageOut.{page_out_code}
 use Rattle.pef_model.specs.PageIn.{is_last_sealed}
 use Rattle.pef_model.specs.Deed.{deed_guest, deed_page_out, deed_page_out_begin, deed_page_in_end, deed_page_in_test, coming_back, returning}
-use Rattle.pef_model.specs.History.{ask_of, entry_of}
+use Rattle.pef_model.specs.History.{ask_of}
 use Rattle.pef_model.specs.Clash.{ends_in_clash, clashes_in, clashes}
 use Rattle.pef_frames.specs.Pool.{PoolState}
-use Rattle.pef_frames.specs.PoolLaw.{times_free}
 use Rattle.pef_guest.specs.declared.cpu.Cpu.{Cpu}
 use Rattle.pef_guest.specs.declared.guest.Guest.{Guest}
-use Rattle.pef_guest.specs.Keeps.{KeepsFrames, times_held}
-use Rattle.pef_guest.specs.Rows.{Row, RowWithPool, ask_hypervisor, ask_inward, ask_outward}
-use Rattle.pef_guest.specs.Shows.{ShowsCpu}
+use Rattle.pef_guest.specs.Rows.{ask_hypervisor, ask_inward, ask_outward}
 use Rattle.pef_guest.specs.Ready.{KeepsOwn, WorksAt}
+use Rattle.pef_guest.specs.Refused.{BackWith}
 use Rattle.pef_guest.specs.Does.{is_any_free, entry_at_guest, MakesEntry}
 use Rattle.pef_guest.proofs.Asked.{RowAsked, makes_hypervisor}
 use Rattle.pef_move.specs.declared.page_call.PageCall.{PageCall}
-use Rattle.pef_move.specs.PageOut.{KeepsCpu, ComesBackWith, BeginsPageOut, EndsPageOut}
+use Rattle.pef_move.specs.PageOut.{KeepsCpu, BeginsPageOut, EndsPageOut}
 use Rattle.pef_move.specs.PageIn.{BeginsPageIn, EndsPageIn}
 
 -- what a step learns of a CPU with a call in progress
@@ -51,13 +47,18 @@ pub own_of : {S : Type 0} (guest : Guest S) (old new : Cpu) → KeepsCpu old new
 own_of guest old new kept = record { number = kept.number; hand = kept.hand; selects = inl (kept.lpid, kept.vid) }
 
 -- a CPU whose call has come back
-pub own_back : {S : Type 0} (guest : Guest S) (old new : Cpu) (a : Answer) → ComesBackWith old new a → KeepsOwn guest old new
-own_back guest old new (answer.Ret code) back = subst (KeepsOwn guest old) (sym back) (record { number = refl; hand = refl; selects = inl (refl, refl) })
-own_back guest old new a back = absurd back
+pub own_back : {S : Type 0} (guest : Guest S) (old new : Cpu) (code : Code) → BackWith old new code → KeepsOwn guest old new
+own_back guest old new code back = subst (KeepsOwn guest old) (sym back) (record { number = refl; hand = refl; selects = inl (refl, refl) })
 
-pub works_back : {S : Type 0} (guest : Guest S) (old new : Cpu) (a : Answer) → ComesBackWith old new a → WorksAt guest new new.ctx
-works_back guest old new (answer.Ret code) back = subst (WorksAt guest new) (sym (ap (λ (one : Cpu). one.ctx) back)) tt
-works_back guest old new a back = absurd back
+pub works_back : {S : Type 0} (guest : Guest S) (old new : Cpu) (code : Code) → BackWith old new code → WorksAt guest new new.ctx
+works_back guest old new code back = subst (WorksAt guest new) (sym (ap (λ (one : Cpu). one.ctx) back)) tt
+
+-- what a code of the operands says of the answer
+pub came_back : (code one : Code) (o : Option Code) → Some one ≡ o → (answer.Ret one ≡ answer.Ret code) ↔ (o ≡ Some code)
+came_back code one o is = (λ same. sym is ∙ (let e : one ≡ code = cc in ap Some e), λ there. (let e : one ≡ code = (let two = is ∙ there in cc) in ap answer.Ret e))
+
+pub goes_on : (code : Code) (o : Option Code) → None ≡ o → (answer.Step ≡ answer.Ret code) ↔ (o ≡ Some code)
+goes_on code o is = (λ same. absurd cc, λ there. absurd (let two = is ∙ there in cc))
 
 -- the begin of a page-out touches no pool
 unpooled : (plan : Plan) (g : GuestWhole) (ask : Ask) (lpid dest gpa flags order : ℕ) → (deed_page_out plan g ask lpid dest gpa flags order).pool ≡ None

@@ -33,7 +33,7 @@ use Rattle.pef_move.specs.declared.page_call.PageCall.{PageCall}
 use Rattle.pef_move.specs.declared.route.Route.{Route}
 use Rattle.pef_move.specs.Route.{operands_for, IsRouteIn}
 use Rattle.pef_guest.proofs.OnePage.{IsShownPage, shows_with, shows_counted}
-use Rattle.pef_move.proofs.CodesIn.{operands_are}
+use Rattle.pef_move.proofs.Codes.{operands_are}
 use Rattle.pef_move.proofs.Coming.{page, out, cell_is, coming, first_is}
 
 module _ {S : Type 0} (stands : S → Tag → List ℕ → List ℕ → Type 0) (image : S → Tag → List ℕ → List ℕ) (plan : Plan) (g : GuestWhole) (c : CpuPart) (mark : Mark) (old : Guest S) (cpu : Cpu) (call : PageCall) (pool : PoolState)
@@ -59,11 +59,11 @@ module _ {S : Type 0} (stands : S → Tag → List ℕ → List ℕ → Type 0) 
       (entry_of (ask_hypervisor c) mark command (deed_page_in plan g.part (nat_lt 0 (length pool.free)) (ask_hypervisor c) call.lpid call.ra call.gpa call.flags call.order)) new cpu_new (length pool.free) free a
 
   -- the code of the model is that of the guest
-  code : (found : Option Code) → found ≡ operands_for (record old { steps = old.steps + 1 }) call → page_in_operands plan g.part call.ra call.gpa call.flags call.order ≡ found
+  code : (found : Option Code) → found ≡ operands_for plan g.part (record old { steps = old.steps + 1 }) call → page_in_operands plan g.part call.ra call.gpa call.flags call.order ≡ found
   code found e = sym (e ∙ operands_are stands image plan old g call shows)
 
   -- so the row is the one of its code
-  row_by : (found : Option Code) (any : Bool) (new : Guest S) (cpu_new : Cpu) (free : ℕ) (a : Answer) → found ≡ operands_for (record old { steps = old.steps + 1 }) call → nat_lt 0 (length pool.free) ≡ any →
+  row_by : (found : Option Code) (any : Bool) (new : Guest S) (cpu_new : Cpu) (free : ℕ) (a : Answer) → found ≡ operands_for plan g.part (record old { steps = old.steps + 1 }) call → nat_lt 0 (length pool.free) ≡ any →
       RowBy found any new cpu_new free a → RowOf new cpu_new free a
   row_by found any new cpu_new free a e some row =
       subst (λ (one : Option Code). RowBy one (nat_lt 0 (length pool.free)) new cpu_new free a) (sym (code found e)) (subst (λ (one : Bool). RowBy found one new cpu_new free a) (sym some) row)
@@ -88,13 +88,13 @@ module _ {S : Type 0} (stands : S → Tag → List ℕ → List ℕ → Type 0) 
   }
 
   -- a call whose operands are wrong leaves the guest, the hand and the pool
-  pub row_refused : (one : Code) → Some one ≡ operands_for (record old { steps = old.steps + 1 }) call → RowOf (record old { steps = old.steps + 1 }) (cpu_back one) (length pool.free) (answer.Ret one)
+  pub row_refused : (one : Code) → Some one ≡ operands_for plan g.part (record old { steps = old.steps + 1 }) call → RowOf (record old { steps = old.steps + 1 }) (cpu_back one) (length pool.free) (answer.Ret one)
   row_refused one e =
       row_by (Some one) (nat_lt 0 (length pool.free)) (record old { steps = old.steps + 1 }) (cpu_back one) (length pool.free) (answer.Ret one) e refl
       (record { row = record { answered = refl; guest = shows_same; cpu_is = shows_back one }; pool = refl })
 
   -- a call that finds no free frame does so too
-  pub row_busy : None ≡ operands_for (record old { steps = old.steps + 1 }) call → pool.free ≡ [] → RowOf (record old { steps = old.steps + 1 }) (cpu_back UBusy) (length (without_first pool).free) (answer.Ret UBusy)
+  pub row_busy : None ≡ operands_for plan g.part (record old { steps = old.steps + 1 }) call → pool.free ≡ [] → RowOf (record old { steps = old.steps + 1 }) (cpu_back UBusy) (length (without_first pool).free) (answer.Ret UBusy)
   row_busy e none =
       let before = ap length none in
       let after = ap (λ (free : List ℕ). length (rest_of free)) none in
@@ -145,7 +145,7 @@ module _ {S : Type 0} (stands : S → Tag → List ℕ → List ℕ → Type 0) 
     }
 
     -- a page begins to come in
-    pub row_begun : None ≡ operands_for (record old { steps = old.steps + 1 }) call → RowOf (coming old cpu call route frame pool is first) cpu_coming (length (without_first pool).free) answer.Step
+    pub row_begun : None ≡ operands_for plan g.part (record old { steps = old.steps + 1 }) call → RowOf (coming old cpu call route frame pool is first) cpu_coming (length (without_first pool).free) answer.Step
     row_begun e =
         let free = ap length (first_is pool.size pool.free frame first).free_is in
         row_by None true (coming old cpu call route frame pool is first) cpu_coming (length (without_first pool).free) answer.Step e (grind (arith, nat_tests)) (record {

@@ -3,7 +3,6 @@ pub mod Codes
 pub mod Begun
 pub mod BegunRows
 pub mod Ended
-pub mod CodesIn
 pub mod Coming
 pub mod ComingRows
 pub mod OnWayIn
@@ -11,3 +10,4 @@ pub mod Come
 pub mod ComeRows
 pub mod Bundle
 mod Asking
+mod LateEnds

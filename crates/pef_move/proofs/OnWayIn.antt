@@ -3,13 +3,17 @@ use Rattle.std.proofs.Common.{◌≡◌, ℕ, Bool, true, false, not, ◌&&◌, 
 use Rattle.std.specs.Str.{bytes_eq}
 use Rattle.std.proofs.lemmas.Slice.Eq.{bytes_eq-Decides}
 use Rattle.pef_model.specs.declared.state.Digest32.{Digest32}
+use Rattle.pef_model.specs.declared.state.Move.{Move}
 use Rattle.pef_model.specs.declared.state.Way.TheVariants as way
 use Rattle.pef_model.specs.PageIn.{is_last_sealed}
 use Rattle.pef_model.specs.Clash.{collides_with}
 use Rattle.pef_pages.specs.declared.cell.Cell.{Cell}
 use Rattle.pef_pages.specs.declared.cell.Cell.TheVariants as cell
 use Rattle.pef_pages.specs.Cells.{mover_of, way_of}
+use Rattle.pef_pages.specs.Pages.{digest_at}
+use Rattle.pef_guest.specs.declared.guest.Guest.{Guest}
 use Rattle.pef_guest.specs.Shows.{digest_by}
+use Rattle.pef_move.specs.PageIn.{IsRefusedIn}
 use Rattle.pef_move.proofs.Ended.{cpu_of}
 
 -- a page that a CPU moves inward, with its frame, and with the digest that it keeps
@@ -51,3 +55,27 @@ last_sealed (Some sealed) hand kept false keeps apart test = by_bytes (bytes_eq 
 pub sealed_is : (sealed : Option (List ℕ)) (hand : List ℕ) → is_last_sealed sealed hand ≡ true → sealed ≡ Some hand
 sealed_is None hand e = absurd cc
 sealed_is (Some sealed) hand e = ap Some (sym ((bytes_eq-Decides hand sealed).0 e))
+
+-- a test of what is so, and of what is not
+pub is_so : {X : Type 0} → X → IsTrue true ↔ X
+is_so x = (λ yes. x, λ there. refl)
+
+pub is_not : (X : Type 0) → (X → ⊥) → IsTrue false ↔ X
+is_not X none = (λ yes. absurd cc, λ there. absurd (none there))
+
+-- a page keeps the digest of the hand where its end is not refused
+pub kept_or_refused : {S : Type 0} (guest : Guest S) (hand : List ℕ) (move : Move) → move.generation ≡ guest.generation → (IsRefusedIn guest hand move → ⊥) → digest_at guest.pages move.gfn ≡ Some (digest_by hand)
+kept_or_refused guest hand move now accepted = by_digest (digest_at guest.pages move.gfn) refl where
+  refused : (digest_at guest.pages move.gfn ≡ Some (digest_by hand) → ⊥) → digest_at guest.pages move.gfn ≡ Some (digest_by hand)
+  refused differs = absurd (accepted (record { now = now; differs = differs }))
+
+  by_bytes : (digest : Digest32) → digest_at guest.pages move.gfn ≡ Some digest → (same : Bool) → bytes_eq digest.bytes (digest_by hand).bytes ≡ same → digest_at guest.pages move.gfn ≡ Some (digest_by hand)
+  by_bytes digest is true e = is ∙ (let one = (bytes_eq-Decides digest.bytes (digest_by hand).bytes).0 e in λ i. Some (record { bytes = one i }))
+  by_bytes digest is false e = refused (λ same.
+      let one : digest ≡ digest_by hand = (let two = sym is ∙ same in cc) in
+      let yes = (bytes_eq-Decides digest.bytes (digest_by hand).bytes).1 (ap (λ (d : Digest32). d.bytes) one) in
+      (let no : true ≡ false = sym yes ∙ e in cc))
+
+  by_digest : (o : Option Digest32) → digest_at guest.pages move.gfn ≡ o → digest_at guest.pages move.gfn ≡ Some (digest_by hand)
+  by_digest None is = refused (λ same. (let two = sym is ∙ same in cc))
+  by_digest (Some digest) is = by_bytes digest is (bytes_eq digest.bytes (digest_by hand).bytes) refl

@@ -2,3 +2,4 @@ pub mod PageOut
 pub mod Route
 pub mod PageIn
 pub mod Unseal
+pub mod Late

@@ -1,12 +1,7 @@
 -- The steps of a page-in do what their rows of the model say, whatever guest, CPU and frame of the model are shown, but for a digest collision.
-use Rattle.std.specs.Prelude.{◌≡◌, ◌≢◌, ◌↔◌, ℕ, ◌<◌, nat_lt, true, false, List, length, Some}
-use Rattle.pef_model.specs.declared.state.Ctx.{Ctx}
-use Rattle.pef_model.specs.declared.state.Ctx.TheVariants as ctx
-use Rattle.pef_model.specs.declared.state.Way.TheVariants.{Inward as IsInward}
+use Rattle.std.specs.Prelude.{◌≡◌, ◌≢◌, ℕ, nat_lt, true, false, List, length, Some}
 use Rattle.pef_model.specs.declared.state.Move.{Move}
-use Rattle.pef_model.specs.declared.state.Work.TheVariants.{Inward}
 use Rattle.pef_model.specs.declared.state.Tag.{Tag}
-use Rattle.pef_model.specs.declared.command.Code.TheVariants.{USuccess, UParameter, UP2}
 use Rattle.pef_model.specs.declared.command.Cmd.TheVariants.{UPagein, Go}
 use Rattle.pef_model.specs.declared.entry.Answer.{Answer}
 use Rattle.pef_model.specs.declared.entry.Answer.TheVariants as answer
@@ -18,13 +13,12 @@ use Rattle.pef_model.specs.Guest.{Guest as GuestWhole}
 use Rattle.pef_model.specs.Deed.{deed_page_in, deed_page_in_copy, deed_page_in_end}
 use Rattle.pef_model.specs.History.{entry_of}
 use Rattle.pef_model.specs.Clash.{ends_in_clash}
-use Rattle.pef_frames.specs.Frame.{FrameState}
-use Rattle.pef_frames.specs.Pool.{PoolState, with_free}
-use Rattle.pef_pages.specs.Pages.{mover_at, frame_at, kind_at, digest_at, ended_in}
+use Rattle.pef_frames.specs.Pool.{PoolState}
+use Rattle.pef_pages.specs.Pages.{digest_at}
 use Rattle.pef_guest.specs.declared.cpu.Cpu.{Cpu}
 use Rattle.pef_guest.specs.declared.guest.Guest.{Guest}
 use Rattle.pef_guest.specs.Shows.{ShowsCpu, Shows, digest_by}
-use Rattle.pef_guest.specs.Refused.{RefusesCpu, SameGuest, PutsBack}
+use Rattle.pef_guest.specs.Refused.{RefusesCpu, SameGuest}
 use Rattle.pef_guest.specs.Rows.{RowWithPool, ask_hypervisor, ask_reading, ask_inward}
 use Rattle.pef_move.specs.declared.page_call.PageCall.{PageCall}
 
@@ -54,21 +48,10 @@ abbrev pub CopiesPageIn : Move → Cpu → Cpu → List ℕ → Answer → Type 
 CopiesPageIn move cpu cpu_new frame answer =
     (c : CpuPart) (mark : Mark) (n : ℕ) → ShowsCpu cpu c → RowRead c (entry_of (ask_reading move c) mark Go (deed_page_in_copy move n frame (ask_reading move c))) cpu_new answer
 
--- an end under another generation comes back with U_PARAMETER, and changes the CPU alone, and a count of steps
-abbrev pub EndsOldIn : {S : Type 0} → Move → Guest S → Guest S → Cpu → Cpu → PoolState → PoolState → Answer → Type 0
-EndsOldIn move old new cpu cpu_new pool pool_new a =
-    move.generation ≢ old.generation →
-    (a ≡ answer.Ret UParameter) × (cpu_new ≡ record cpu { ctx = ctx.Hv; gpr = with_code cpu.gpr UParameter; last = answer.Ret UParameter }) × SameGuest old new × (pool_new ≡ pool)
-
--- where the end answers U_P2 the page was refused
-abbrev pub RefusesLate : {S : Type 0} → Move → Guest S → Guest S → PoolState → PoolState → Answer → Type 0
-RefusesLate move old new pool pool_new (answer.Ret UP2) = PutsBack move old new pool pool_new
-RefusesLate move old new pool pool_new other = Unit {0}
-
--- an end accepts a page exactly where the hand has the digest that the page keeps, and else refuses it
-pub record AcceptsByDigest {S : Type 0} (move : Move) (guest : Guest S) (hand : List ℕ) (a : Answer) : Type 0 where
-  pub accepts : (a ≡ answer.Ret USuccess) ↔ (digest_at guest.pages move.gfn ≡ Some (digest_by hand))
-  pub refuses : (a ≡ answer.Ret UP2) ↔ (digest_at guest.pages move.gfn ≢ Some (digest_by hand))
+-- the end of a page-in is refused: in the guest's generation, where the hand has another digest than the page keeps
+pub record IsRefusedIn {S : Type 0} (guest : Guest S) (hand : List ℕ) (move : Move) : Type 0 where
+  pub now : move.generation ≡ guest.generation
+  pub differs : digest_at guest.pages move.gfn ≢ Some (digest_by hand)
 
 -- the end of a page-in, unless it ends in a clash, as the model says of a copied move
 abbrev pub EndsPageIn : {S : Type 0} → (S → Tag → List ℕ → List ℕ → Type 0) → (S → Tag → List ℕ → List ℕ) → Move → Guest S → Guest S → Cpu → Cpu → PoolState → PoolState → Answer → Type 0

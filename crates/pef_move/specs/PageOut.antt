@@ -1,12 +1,7 @@
 -- The steps of a page-out do what their rows of the model say, whatever guest, CPU and frame of the model are shown.
-use Rattle.std.specs.Prelude.{◌≡◌, ◌≢◌, ℕ, ◌<◌, false, List, length, Some}
-use Rattle.pef_model.specs.declared.state.Ctx.{Ctx}
-use Rattle.pef_model.specs.declared.state.Ctx.TheVariants as ctx
-use Rattle.pef_model.specs.declared.state.Way.TheVariants.{Outward as IsOutward}
+use Rattle.std.specs.Prelude.{◌≡◌, ℕ, List, length, Some}
 use Rattle.pef_model.specs.declared.state.Move.{Move}
-use Rattle.pef_model.specs.declared.state.Work.TheVariants.{Outward}
 use Rattle.pef_model.specs.declared.state.Tag.{Tag}
-use Rattle.pef_model.specs.declared.command.Code.TheVariants.{USuccess, UParameter}
 use Rattle.pef_model.specs.declared.command.Cmd.TheVariants.{UPageout, Go}
 use Rattle.pef_model.specs.declared.entry.Answer.{Answer}
 use Rattle.pef_model.specs.declared.entry.Answer.TheVariants as answer
@@ -21,7 +16,7 @@ use Rattle.pef_model.specs.History.{entry_of}
 use Rattle.pef_frames.specs.Frame.{FrameState}
 use Rattle.pef_frames.specs.Pool.{PoolState, with_free}
 use Rattle.pef_pages.specs.Cells.{kind_without, ended_out}
-use Rattle.pef_pages.specs.Pages.{cell_at, kind_at, mover_at, frame_at, digest_at, with_cell, leaves_order}
+use Rattle.pef_pages.specs.Pages.{cell_at, kind_at, frame_at, digest_at, with_cell, leaves_order}
 use Rattle.pef_guest.specs.declared.cpu.Cpu.{Cpu}
 use Rattle.pef_guest.specs.declared.guest.Guest.{Guest}
 use Rattle.pef_guest.specs.Shows.{ShowsCpu, Shows, kept_in}
@@ -63,17 +58,6 @@ CopiesPageOut move cpu cpu_new frame frame_new answer =
     (plan : Plan) (c : CpuPart) (mark : Mark) (n : ℕ) → ShowsCpu cpu c →
     RowCopy plan n c (entry_of (ask_outward move c) mark Go (deed_page_out_copy move n (ask_outward move c))) cpu_new frame frame_new answer
 
--- a call in progress comes back with a code: of its CPU the context, R3 and the last answer change
-abbrev pub ComesBackWith : Cpu → Cpu → Answer → Type 0
-ComesBackWith old new (answer.Ret code) = new ≡ record old { ctx = ctx.Hv; gpr = with_code old.gpr code; last = answer.Ret code }
-ComesBackWith old new other = ⊥
-
--- an end under another generation comes back with U_PARAMETER, and changes the CPU alone, and a count of steps
-abbrev pub EndsOld : {S : Type 0} → Move → Guest S → Guest S → Cpu → Cpu → PoolState → PoolState → Answer → Type 0
-EndsOld move old new cpu cpu_new pool pool_new a =
-    move.generation ≢ old.generation →
-    (a ≡ answer.Ret UParameter) × (cpu_new ≡ record cpu { ctx = ctx.Hv; gpr = with_code cpu.gpr UParameter; last = answer.Ret UParameter }) × SameGuest old new × (pool_new ≡ pool)
-
 -- a page that has gone out is at rest without a frame, with the digest that was put aside for it, and its frame is free
 pub record GoesOut {S : Type 0} (move : Move) (old new : Guest S) (pool pool_new : PoolState) : Type 0 where
   pub frame : FrameState
@@ -82,10 +66,6 @@ pub record GoesOut {S : Type 0} (move : Move) (old new : Guest S) (pool pool_new
   pub pages : new.pages ≡ leaves_order (with_cell old.pages move.gfn (ended_out (cell_at old.pages move.gfn))) move.gfn
   pub kind_is : kind_at new.pages move.gfn ≡ kind_without (kept_in (cell_at old.pages move.gfn))
   pub digest : digest_at new.pages move.gfn ≡ kept_in (cell_at old.pages move.gfn)
-
--- an end under the guest's generation comes back with U_SUCCESS, and the page has gone out
-abbrev pub EndsNow : {S : Type 0} → Move → Guest S → Guest S → PoolState → PoolState → Answer → Type 0
-EndsNow move old new pool pool_new a = move.generation ≡ old.generation → (a ≡ answer.Ret USuccess) × GoesOut move old new pool pool_new
 
 -- the end of a page-out
 abbrev pub EndsPageOut : {S : Type 0} → (S → Tag → List ℕ → List ℕ → Type 0) → (S → Tag → List ℕ → List ℕ) → Move → Guest S → Guest S → Cpu → Cpu → PoolState → PoolState → Answer → Type 0

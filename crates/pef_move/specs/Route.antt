@@ -1,19 +1,19 @@
 -- What a call is to move, and what the begin of a page-out does.
-use Rattle.std.specs.Prelude.{◌≡◌, ◌≢◌, ◌↔◌, ℕ, ◌+◌, ◌-◌, ◌/◌, ◌^◌, ◌<◌, false, List, [], ◌∷◌, length, Option, Some, None, Result, Ok, Err}
+use Rattle.std.specs.Prelude.{◌≡◌, ◌≢◌, ◌↔◌, ℕ, ◌+◌, ◌-◌, ◌/◌, ◌%◌, ◌^◌, ◌<◌, ◌==◌, nat_lt, ◌&&◌, not, Bool, true, false, List, [], ◌∷◌, length, Option, Some, None, is_some, Result, Ok, Err}
 use Rattle.pef_model.specs.declared.state.Phase.TheVariants as phase
 use Rattle.pef_model.specs.declared.state.Kind.TheVariants as kind
-use Rattle.pef_model.specs.declared.state.VState.TheVariants.{Idle}
 use Rattle.pef_model.specs.declared.state.Ctx.TheVariants as ctx
 use Rattle.pef_model.specs.declared.state.Work.TheVariants.{Outward}
 use Rattle.pef_model.specs.declared.state.Tag.{Tag}
+use Rattle.pef_model.specs.declared.command.TheConstants.{PAGE_IN_FLAGS}
 use Rattle.pef_model.specs.declared.command.Code.{Code}
 use Rattle.pef_model.specs.declared.command.Code.TheVariants.{UBusy}
 use Rattle.pef_model.specs.declared.entry.Answer.TheVariants as answer
 use Rattle.pef_model.specs.Plan.{Plan}
-use Rattle.pef_model.specs.GuestPart.{Page as PagePart, GuestPart, new_vcpu, no_entry}
+use Rattle.pef_model.specs.GuestPart.{GuestPart}
 use Rattle.pef_pages.specs.declared.page.Page.{Page}
 use Rattle.pef_model.specs.PageOut.{page_out_code}
-use Rattle.pef_model.specs.PageIn.{page_in_operands}
+use Rattle.pef_model.specs.PageIn.{may_page_in_in, can_come_in, page_in_operands}
 use Rattle.pef_num.specs.DoublewordLaw.{AreBytes}
 use Rattle.pef_frames.specs.Frame.{FrameState}
 use Rattle.pef_pages.specs.Cells.{begun_out}
@@ -24,46 +24,22 @@ use Rattle.pef_guest.specs.Shows.{digest_by}
 use Rattle.pef_move.specs.declared.page_call.PageCall.{PageCall}
 use Rattle.pef_move.specs.declared.route.Route.{Route}
 
--- a page, as far as a call reads it before the page moves
-abbrev pub page_by : PagesState FrameState → ℕ → PagePart
-page_by pages gfn = record { kind = kind_at pages gfn; mover = mover_at pages gfn; version = version_at pages gfn; sealed = None; pending = None; plain = None }
-
 -- a page that begins to move, with the digest of what is in the hand
 abbrev pub page_begun : PagesState FrameState → ℕ → ℕ → List ℕ → Page FrameState
 page_begun pages gfn cpu hand = record { cell = begun_out (cell_at pages gfn) cpu (Some (digest_by hand)); version = version_at pages gfn + 1 }
 
 module _ {S : Type 0} where
   -- a plan with a guest's sizes
-  abbrev pub plan_by : Guest S → Plan
-  plan_by guest = record {
-    shift = guest.shift;
-    normal = guest.normal;
-    secure = guest.secure;
-    cpus = 0;
-    guests = 0;
-    vcpus = length guest.vcpus.items;
-    pages = length guest.pages.pages;
-    image = λ tag plain. plain;
-    is_born = λ lpid. false;
-    words = λ lpid. 0;
-    entropy = λ lpid. [];
-  }
+  abbrev pub plan_with : Plan → Guest S → Plan
+  plan_with plan guest = record plan { shift = guest.shift; normal = guest.normal; pages = length guest.pages.pages }
 
-  -- a guest's public part, as far as a call reads it before a page moves
-  abbrev pub part_by : Guest S → GuestPart
-  part_by guest = record {
-    phase = guest.phase;
-    generation = guest.generation;
-    entry = no_entry;
-    words = 0;
-    pages = page_by guest.pages;
-    vcpus = λ vid. new_vcpu Idle;
-    order = guest.pages.order;
-  }
+  -- a public part with a guest's phase, and with the kinds and movers of its pages
+  abbrev pub part_with : GuestPart → Guest S → GuestPart
+  part_with g guest = record g { phase = guest.phase; pages = λ gfn. record (g.pages gfn) { kind = kind_at guest.pages gfn; mover = mover_at guest.pages gfn } }
 
-  -- the code with which UV_PAGE_OUT comes back at once, by what the guest knows
-  abbrev pub code_for : Guest S → PageCall → Option Code
-  code_for guest call = page_out_code (plan_by guest) (part_by guest) call.ra call.gpa call.flags call.order
+  -- the code with which UV_PAGE_OUT comes back at once, by what it reads of the plan and of the guest
+  abbrev pub code_for : Plan → GuestPart → Guest S → PageCall → Option Code
+  code_for plan g guest call = page_out_code (plan_with plan guest) (part_with g guest) call.ra call.gpa call.flags call.order
 
   -- a page is Secure and at rest in a Secure guest, and the frame is a normal one
   pub record IsRoute (guest : Guest S) (call : PageCall) (route : Route) : Type 0 where
@@ -75,9 +51,23 @@ module _ {S : Type 0} where
     pub rests : mover_at guest.pages route.gfn ≡ None
     pub phase_is : guest.phase ≡ phase.Secure
 
-  -- the code with which UV_PAGE_IN comes back by its operands, by what the guest knows
-  abbrev pub operands_for : Guest S → PageCall → Option Code
-  operands_for guest call = page_in_operands (plan_by guest) (part_by guest) call.ra call.gpa call.flags call.order
+  -- the code with which UV_PAGE_IN comes back by its operands, by what it reads of the plan and of the guest
+  abbrev pub operands_for : Plan → GuestPart → Guest S → PageCall → Option Code
+  operands_for plan g guest call = page_in_operands (plan_with plan guest) (part_with g guest) call.ra call.gpa call.flags call.order
+
+  -- whether one of a guest's pages begins at an address
+  abbrev pub has_page_at : Guest S → ℕ → Bool
+  has_page_at guest gpa = (gpa % 2 ^ guest.shift == 0) && nat_lt (gpa / 2 ^ guest.shift) (length guest.pages.pages)
+
+  -- whether the operands of UV_PAGE_IN are right: the page is Out and at rest, and the frame is a normal one
+  abbrev pub are_right_in : Guest S → PageCall → Bool
+  are_right_in guest call =
+      may_page_in_in guest.phase
+      && ((call.ra % 2 ^ guest.shift == 0) && nat_lt (call.ra / 2 ^ guest.shift) guest.normal)
+      && (has_page_at guest call.gpa && can_come_in (kind_at guest.pages (call.gpa / 2 ^ guest.shift)))
+      && not (nat_lt PAGE_IN_FLAGS call.flags)
+      && (call.order == guest.shift)
+      && not (is_some (mover_at guest.pages (call.gpa / 2 ^ guest.shift)))
 
   -- a page is Out and at rest, and the frame is a normal one
   pub record IsRouteIn (guest : Guest S) (call : PageCall) (route : Route) : Type 0 where
@@ -123,13 +113,17 @@ module _ {S : Type 0} where
     pub cpu_is : cpu_new ≡ cpu_begun old route cpu cpu_new.hand
     pub guest_is : new ≡ record old { pages = with_page old.pages route.gfn (page_begun old.pages route.gfn cpu.number cpu_new.hand); sealer = new.sealer }
 
--- the code of the operands, or U_BUSY where they have none and no secure frame is free
-abbrev pub code_or_busy : Option Code → List ℕ → Option Code
-code_or_busy (Some code) free = Some code
-code_or_busy None [] = Some UBusy
-code_or_busy None (number ∷ more) = None
+-- U_BUSY where no secure frame is free
+abbrev pub busy_without : List ℕ → Option Code
+busy_without [] = Some UBusy
+busy_without (number ∷ more) = None
 
 -- the code of a result
 abbrev pub code_of : {X : Type 0} → Result X Code → Option Code
 code_of (Ok value) = None
 code_of (Err code) = Some code
+
+-- whether a result is a value
+abbrev pub has_value : {X : Type 0} → Result X Code → Bool
+has_value (Ok value) = true
+has_value (Err code) = false

@@ -1,6 +1,6 @@
 //! Which steps of a page's move read or change the number of free frames.
 
-ghost use Rattle.std.specs.Prelude.{◌≡◌, Bool, true, false, List, is_some};
+ghost use Rattle.std.specs.Prelude.{◌≡◌, ◌↔◌, Bool, true, false, List, is_some, IsTrue};
 ghost use Rattle.pef_model.specs.declared.state.Tag.{Tag};
 ghost use Rattle.pef_model.specs.Plan.{Plan, IsWithin};
 ghost use Rattle.pef_model.specs.Target.{Ask};
@@ -11,6 +11,8 @@ ghost use Rattle.pef_model.specs.Clash.{ends_in_clash};
 ghost use Rattle.pef_guest.specs.Ready.{MayEnd};
 ghost use Rattle.pef_guest.specs.Rows.{ask_inward};
 ghost use Rattle.pef_guest.specs.Shows.{ShowsCpu, Shows};
+ghost use Rattle.pef_move.specs.Route.{are_right_in};
+ghost use Rattle.pef_move.specs.PageIn.{IsRefusedIn};
 
 use crate::page_call::PageCall;
 use crate::page_in::is_kept;
@@ -22,7 +24,8 @@ use pef_seal::Seal;
 /// Whether UV_PAGE_IN of the hypervisor comes to ask for a free frame: its operands are right.
 pub fn asks_for_frame<S: Seal>(guest: &Guest<S>, call: &PageCall) -> bool
     requires { IsWithin 8 16 guest.now.shift }
-    ensures { (plan : Plan) (g : GuestWhole) (any : Bool) (ask : Ask) → Shows S.stands S.image plan guest.now g →
+    ensures here { are_right_in guest.now call.now ≡ result }
+    ensures model { (plan : Plan) (g : GuestWhole) (any : Bool) (ask : Ask) → Shows S.stands S.image plan guest.now g →
         is_some (deed_page_in plan g.part any ask call.now.lpid call.now.ra call.now.gpa call.now.flags call.now.order).pool ≡ result }
 {
     match route_in(guest, call) {
@@ -35,7 +38,8 @@ pub fn asks_for_frame<S: Seal>(guest: &Guest<S>, call: &PageCall) -> bool
 /// the CPU's hand.
 pub fn refuses_page<S: Seal>(guest: &Guest<S>, cpu: &Cpu, inward: Move) -> bool
     requires { MayEnd guest.now cpu.now Way.Inward inward }
-    ensures { (plan : Plan) (g : GuestWhole) (c : CpuPart) → Shows S.stands S.image plan guest.now g → ShowsCpu cpu.now c → ends_in_clash g.part (record inward { copied = true }) c.hand ≡ false →
+    ensures here { IsTrue result ↔ IsRefusedIn guest.now cpu.now.hand inward }
+    ensures model { (plan : Plan) (g : GuestWhole) (c : CpuPart) → Shows S.stands S.image plan guest.now g → ShowsCpu cpu.now c → ends_in_clash g.part (record inward { copied = true }) c.hand ≡ false →
         is_some (deed_page_in_end g.part (ask_inward inward c) inward).pool ≡ result }
 {
     if inward.generation != guest.generation {
@@ -46,7 +50,8 @@ pub fn refuses_page<S: Seal>(guest: &Guest<S>, cpu: &Cpu, inward: Move) -> bool
 
 /// Whether the end of a page-out gives its frame back: under the guest's generation.
 pub fn gives_frame_back<S: Seal>(guest: &Guest<S>, outward: Move) -> bool
-    ensures { (plan : Plan) (g : GuestWhole) (ask : Ask) → Shows S.stands S.image plan guest.now g → is_some (deed_page_out_end g.part ask outward).pool ≡ result }
+    ensures here { IsTrue result ↔ (outward.generation ≡ guest.now.generation) }
+    ensures model { (plan : Plan) (g : GuestWhole) (ask : Ask) → Shows S.stands S.image plan guest.now g → is_some (deed_page_out_end g.part ask outward).pool ≡ result }
 {
     outward.generation == guest.generation
 }

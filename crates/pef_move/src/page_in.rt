@@ -1,20 +1,23 @@
 //! A page-in is tested on what was copied and filled from it, so that a change of the normal frame after the copy is nothing.
 
-ghost use Rattle.std.specs.Prelude.{◌≡◌, ◌≢◌, ◌↔◌, ◌^◌, ◌<◌, true, false, ℕ, length, IsTrue, IsSome};
+ghost use Rattle.std.specs.Prelude.{◌≡◌, ◌↔◌, ◌^◌, ◌<◌, true, false, ℕ, length, Some, IsTrue, IsSome};
 ghost use Rattle.pef_frames.specs.Frame.{FrameState};
+ghost use Rattle.pef_frames.specs.Pool.{PoolState};
+ghost use Rattle.pef_model.specs.Plan.{Plan};
+ghost use Rattle.pef_model.specs.Guest.{Guest as GuestWhole};
+ghost use Rattle.pef_model.specs.PageIn.{page_in_operands};
 ghost use Rattle.pef_pages.specs.Cells.{way_of};
 ghost use Rattle.pef_pages.specs.Pages.{mover_at, frame_at, digest_at};
-ghost use Rattle.pef_guest.specs.Shows.{digest_by};
+ghost use Rattle.pef_guest.specs.Shows.{Shows, digest_by};
 ghost use Rattle.pef_model.specs.Registers.{load_page_in, with_code};
-ghost use Rattle.pef_guest.specs.Refused.{RefusesCpu};
+ghost use Rattle.pef_guest.specs.Refused.{RefusesCpu, BackWith, PutsBack};
 ghost use Rattle.pef_guest.specs.Does.{DoesRow};
 ghost use Rattle.pef_model.specs.declared.command.Cmd.{Cmd};
 ghost use Rattle.pef_guest.specs.Whole.{IsFrameOf, IsWhole};
-ghost use Rattle.pef_guest.specs.Keeps.{IsPoolOf, KeepsGuest, KeepsFrames, KeepsMovers};
-ghost use Rattle.pef_move.specs.PageOut.{KeepsCpu, ComesBackWith};
+ghost use Rattle.pef_guest.specs.Keeps.{IsPoolOf};
 ghost use Rattle.pef_guest.specs.Ready.{MayEnd, HasRoomFor};
-ghost use Rattle.pef_move.specs.PageIn.{RefusesPageIn, CopiesPageIn, EndsOldIn, AcceptsByDigest, RefusesLate};
-ghost use Rattle.pef_move.specs.Route.{operands_for, code_or_busy};
+ghost use Rattle.pef_move.specs.PageIn.{RefusesPageIn, CopiesPageIn, IsRefusedIn};
+ghost use Rattle.pef_move.specs.Route.{are_right_in, busy_without};
 ghost use Rattle.pef_move.specs.Unseal.{GivesBack, Unseals};
 
 use crate::page_call::PageCall;
@@ -25,17 +28,13 @@ use pef_model::{Answer, Cmd, Code, Ctx, Move, Tag, Way, Work};
 use pef_pages::Pages;
 use pef_seal::{Seal, digest_of};
 
-/// UV_PAGE_IN of the hypervisor, the begin: a page that is Out gets a zeroed secure frame, and moves from now on. The call's
-/// registers are loaded before. The guest is the one that the call names.
+/// UV_PAGE_IN of the hypervisor with operands that are right, the begin: the page, which is Out, gets a zeroed secure frame, and
+/// moves from now on. The call's registers are loaded before. The guest is the one that the call names.
 ///
-/// The answer is Step, or the code of the first of these: U_PARAMETER where the guest is neither Starting nor Secure; U_P2
-/// where the real address is no multiple of a page's size, or past the last normal frame; U_P3 where the guest address is no
-/// multiple of a page's size, or past the guest's last page, or the page isn't Out; U_P4 at flags above 7; U_P5 where the
-/// order is not that of a page, 8 to 16; U_BUSY where the page is on the move, or no secure frame is free. A call that comes
-/// back at once changes nothing but the CPU's registers and last answer, and counts of steps.
+/// The answer is Step, or U_BUSY where no secure frame is free: then nothing changes but the CPU's registers and last answer, and
+/// counts of steps.
 ///
-/// The flags are the manual's, and have no effect. The begin as a step of its own, the order of the tests and U_BUSY are
-/// this project's own.
+/// The flags are the manual's, and have no effect. The begin as a step of its own and U_BUSY are this project's own.
 pub fn page_in_begin<S: Seal>(
     guest: &mut Guest<S>,
     cpu: &mut Cpu,
@@ -44,19 +43,19 @@ pub fn page_in_begin<S: Seal>(
 ) -> Answer
     requires hypervisor { cpu.old.ctx ≡ Ctx.Hv }
     requires named { call.now.lpid ≡ guest.old.lpid }
+    requires right { are_right_in guest.old call.now ≡ true }
     requires whole { IsWhole S.takes guest.old }
     requires pool { IsPoolOf guest.old pool.old }
     requires steps { guest.old.steps < 2 ^ 63 }
     ensures does { DoesRow S.takes S.stands S.image (Cmd.UPagein call.now.lpid call.now.ra call.now.gpa call.now.flags call.now.order) guest.old guest.new cpu.old cpu.new pool.old pool.new result }
     ensures sealer { guest.new.sealer ≡ guest.old.sealer }
-    ensures code { (code : Code) → (result ≡ Answer.Ret code) ↔ (code_or_busy (operands_for guest.old call.now) pool.old.free ≡ Some code) }
+    ensures code { (code : Code) → (result ≡ Answer.Ret code) ↔ (busy_without pool.old.free ≡ Some code) }
     ensures refused { RefusesPageIn call.now guest.old guest.new cpu.old cpu.new pool.old pool.new result }
 {
     guest.steps += 1;
     registers::load_page_in(&mut cpu.gpr, call.operands());
-    let route = match route_in(guest, call) {
-        Ok(route) => route,
-        Err(code) => return cpu.refuse(code),
+    let Ok(route) = route_in(guest, call) else {
+        unreachable!()
     };
     let Some(frame) = pool.take() else {
         return cpu.refuse(Code::UBusy);
@@ -69,6 +68,29 @@ pub fn page_in_begin<S: Seal>(
         frame: route.frame,
         copied: false,
     }))
+}
+
+/// UV_PAGE_IN of the hypervisor with an operand that is wrong: it comes back with the code of the first of these. U_PARAMETER
+/// where the guest is neither Starting nor Secure; U_P2 where the real address is no multiple of a page's size, or past the last
+/// normal frame; U_P3 where the guest address is no multiple of a page's size, or past the guest's last page, or the page isn't
+/// Out; U_P4 at flags above 7; U_P5 where the order is not that of a page, 8 to 16; U_BUSY where the page is on the move. Nothing
+/// changes but the CPU's registers and last answer, and counts of steps. The order of the tests is this project's own.
+pub fn page_in_refused<S: Seal>(guest: &mut Guest<S>, cpu: &mut Cpu, call: &PageCall) -> Answer
+    requires hypervisor { cpu.old.ctx ≡ Ctx.Hv }
+    requires wrong { are_right_in guest.old call.now ≡ false }
+    requires whole { IsWhole S.takes guest.old }
+    requires steps { guest.old.steps < 2 ^ 63 }
+    ensures does { (pool : PoolState) → DoesRow S.takes S.stands S.image (Cmd.UPagein call.now.lpid call.now.ra call.now.gpa call.now.flags call.now.order) guest.old guest.new cpu.old cpu.new pool pool result }
+    ensures code { (plan : Plan) (g : GuestWhole) → Shows S.stands S.image plan guest.old g → (code : Code) →
+        (result ≡ Answer.Ret code) ↔ (page_in_operands plan g.part call.now.ra call.now.gpa call.now.flags call.now.order ≡ Some code) }
+    ensures refused { (pool : PoolState) → RefusesPageIn call.now guest.old guest.new cpu.old cpu.new pool pool result }
+{
+    guest.steps += 1;
+    registers::load_page_in(&mut cpu.gpr, call.operands());
+    match route_in(guest, call) {
+        Ok(_route) => unreachable!(),
+        Err(code) => cpu.refuse(code),
+    }
 }
 
 /// UV_PAGE_IN of the hypervisor where the first operand is the number of no guest: it comes back with U_PARAMETER.
@@ -96,13 +118,32 @@ pub fn page_in_copy(cpu: &mut Cpu, inward: Move, frame: &NormalFrame) -> Answer
     }))
 }
 
-/// The end: where the hand has the digest that the page keeps, the page is Secure again with what the hand unseals to. Else
-/// the call comes back with U_P2, the page is Out at rest under the same digest, and its frame goes back zeroed. Where the
-/// guest has ended since, the call comes back with U_PARAMETER, and nothing changes but the CPU and the guest's count of
-/// steps.
+/// The end, where the hand has the digest that the page keeps: the page is Secure again with what the hand unseals to.
 ///
-/// The test is of what was copied. That it comes after the copy, and that a page has one digest, is this project's own.
-pub fn page_in_end<S: Seal>(
+/// What was tested is what was copied. That the test comes after the copy, and that a page has one digest, is this project's own.
+pub fn page_in_end<S: Seal>(guest: &mut Guest<S>, cpu: &mut Cpu, inward: Move) -> Answer
+    requires working { cpu.old.ctx ≡ Ctx.Uv (Work.Inward inward) }
+    requires copied { inward.copied ≡ true }
+    requires whole { IsWhole S.takes guest.old }
+    requires hand { length cpu.old.hand ≡ 2 ^ guest.old.shift }
+    requires ready { MayEnd guest.old cpu.old Way.Inward inward }
+    requires now { inward.generation ≡ guest.old.generation }
+    requires kept { IsRefusedIn guest.old cpu.old.hand inward → ⊥ }
+    requires steps { guest.old.steps < 2 ^ 63 }
+    ensures does { (pool : PoolState) → DoesRow S.takes S.stands S.image Cmd.Go guest.old guest.new cpu.old cpu.new pool pool result }
+    ensures answer { result ≡ Answer.Ret Code.USuccess }
+    ensures cpu { BackWith cpu.old cpu.new Code.USuccess }
+    ensures sealer { guest.new.sealer ≡ guest.old.sealer }
+{
+    guest.steps += 1;
+    unseal(guest, inward.gfn, cpu.hand());
+    guest.pages.end_in(inward.gfn, true);
+    cpu.come_back(Code::USuccess)
+}
+
+/// The end, where it doesn't: the call comes back with U_P2, the page is Out at rest under the digest that it kept, and its
+/// frame goes back zeroed.
+pub fn page_in_end_refused<S: Seal>(
     guest: &mut Guest<S>,
     cpu: &mut Cpu,
     inward: Move,
@@ -111,30 +152,19 @@ pub fn page_in_end<S: Seal>(
     requires working { cpu.old.ctx ≡ Ctx.Uv (Work.Inward inward) }
     requires copied { inward.copied ≡ true }
     requires whole { IsWhole S.takes guest.old }
-    requires hand { length cpu.old.hand ≡ 2 ^ guest.old.shift }
     requires pool { IsPoolOf guest.old pool.old }
     requires ready { MayEnd guest.old cpu.old Way.Inward inward }
+    requires differs { IsRefusedIn guest.old cpu.old.hand inward }
     requires room { HasRoomFor guest.old pool.old inward }
     requires steps { guest.old.steps < 2 ^ 63 }
     ensures does { DoesRow S.takes S.stands S.image Cmd.Go guest.old guest.new cpu.old cpu.new pool.old pool.new result }
-    ensures back { ComesBackWith cpu.old cpu.new result }
-    ensures sealer { guest.new.sealer ≡ guest.old.sealer }
-    ensures old { EndsOldIn inward guest.old guest.new cpu.old cpu.new pool.old pool.new result }
-    ensures accepted { inward.generation ≡ guest.old.generation → AcceptsByDigest inward guest.old cpu.old.hand result }
-    ensures refused { RefusesLate inward guest.old guest.new pool.old pool.new result }
-    ensures parameter { result ≡ Answer.Ret Code.UParameter → inward.generation ≢ guest.old.generation }
+    ensures answer { result ≡ Answer.Ret Code.UP2 }
+    ensures cpu { BackWith cpu.old cpu.new Code.UP2 }
+    ensures back { PutsBack inward guest.old guest.new pool.old pool.new }
 {
     guest.steps += 1;
-    if inward.generation != guest.generation {
-        return cpu.come_back(Code::UParameter);
-    }
-    if !is_kept(&guest.pages, inward.gfn, cpu.hand()) {
-        refuse(&mut guest.pages, inward.gfn, pool);
-        return cpu.come_back(Code::UP2);
-    }
-    unseal(guest, inward.gfn, cpu.hand());
-    guest.pages.end_in(inward.gfn, true);
-    cpu.come_back(Code::USuccess)
+    refuse(&mut guest.pages, inward.gfn, pool);
+    cpu.come_back(Code::UP2)
 }
 
 /// Whether bytes have the digest that a page keeps.

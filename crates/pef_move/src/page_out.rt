@@ -5,14 +5,18 @@ ghost use Rattle.pef_model.specs.declared.state.Tag.{Tag};
 ghost use Rattle.pef_model.specs.Registers.{load_page_out, with_code};
 ghost use Rattle.pef_num.specs.DoublewordLaw.{AreBytes};
 ghost use Rattle.pef_guest.specs.Whole.{IsWhole};
-ghost use Rattle.pef_guest.specs.Keeps.{IsPoolOf, KeepsGuest, KeepsFrames, KeepsMovers, times_held};
-ghost use Rattle.pef_guest.specs.Refused.{RefusesCpu};
+ghost use Rattle.pef_guest.specs.Keeps.{IsPoolOf, KeepsGuest};
+ghost use Rattle.pef_guest.specs.Shows.{Shows};
+ghost use Rattle.pef_model.specs.Plan.{Plan};
+ghost use Rattle.pef_model.specs.Guest.{Guest as GuestWhole};
+ghost use Rattle.pef_model.specs.PageOut.{page_out_code};
+ghost use Rattle.pef_guest.specs.Refused.{RefusesCpu, BackWith};
 ghost use Rattle.pef_guest.specs.Does.{DoesRow};
 ghost use Rattle.pef_frames.specs.Pool.{PoolState};
 ghost use Rattle.pef_model.specs.declared.command.Cmd.{Cmd};
 ghost use Rattle.pef_guest.specs.Ready.{MayEnd, HasRoomFor, KeepsOwn, WorksAt};
-ghost use Rattle.pef_move.specs.PageOut.{ComesBackWith, RefusesCall, CopiesPageOut, EndsOld, EndsNow};
-ghost use Rattle.pef_move.specs.Route.{code_for, CanBegin, HasBegun};
+ghost use Rattle.pef_move.specs.PageOut.{RefusesCall, CopiesPageOut, GoesOut};
+ghost use Rattle.pef_move.specs.Route.{CanBegin, HasBegun};
 
 use crate::page_call::PageCall;
 use crate::route::{Route, route_of};
@@ -45,7 +49,8 @@ pub fn page_out_begin<S: Seal>(guest: &mut Guest<S>, cpu: &mut Cpu, call: &PageC
     ensures works { WorksAt guest.new cpu.new cpu.new.ctx }
     ensures does { (pool : PoolState) → DoesRow S.takes S.stands S.image (Cmd.UPageout call.now.lpid call.now.ra call.now.gpa call.now.flags call.now.order) guest.old guest.new cpu.old cpu.new pool pool result }
     ensures sealer { (tag : Tag) (page sealed : List ℕ) → tag.gfn ≢ call.now.gpa / 2 ^ guest.old.shift → S.stands guest.new.sealer tag page sealed ↔ S.stands guest.old.sealer tag page sealed }
-    ensures code { (code : Code) → (result ≡ Answer.Ret code) ↔ (code_for guest.old call.now ≡ Some code) }
+    ensures code { (plan : Plan) (g : GuestWhole) → Shows S.stands S.image plan guest.old g → (code : Code) →
+        (result ≡ Answer.Ret code) ↔ (page_out_code plan g.part call.now.ra call.now.gpa call.now.flags call.now.order ≡ Some code) }
     ensures refused { RefusesCall call.now guest.old guest.new cpu.old cpu.new result }
 {
     guest.steps += 1;
@@ -83,10 +88,8 @@ pub fn page_out_copy(cpu: &mut Cpu, outward: Move, frame: &mut NormalFrame) -> A
     }))
 }
 
-/// The end: the secure frame goes back zeroed, the page is Out with the digest of what the begin sealed, and the call comes
-/// back with U_SUCCESS. Where the guest has ended since, it comes back with U_PARAMETER, and nothing changes but the CPU and
-/// counts of steps: the frame may be another page's by now. A step of its own, and what it does after the guest's end, are
-/// this project's own.
+/// The end, in the guest's generation: the secure frame goes back zeroed, the page is Out with the digest of what the begin
+/// sealed, and the call comes back with U_SUCCESS. A step of its own is this project's own.
 pub fn page_out_end<S: Seal>(
     guest: &mut Guest<S>,
     cpu: &mut Cpu,
@@ -98,19 +101,16 @@ pub fn page_out_end<S: Seal>(
     requires whole { IsWhole S.takes guest.old }
     requires pool { IsPoolOf guest.old pool.old }
     requires ready { MayEnd guest.old cpu.old Way.Outward outward }
+    requires now { outward.generation ≡ guest.old.generation }
     requires room { HasRoomFor guest.old pool.old outward }
     requires steps { guest.old.steps < 2 ^ 63 }
     ensures does { DoesRow S.takes S.stands S.image Cmd.Go guest.old guest.new cpu.old cpu.new pool.old pool.new result }
-    ensures back { ComesBackWith cpu.old cpu.new result }
+    ensures answer { result ≡ Answer.Ret Code.USuccess }
+    ensures cpu { BackWith cpu.old cpu.new Code.USuccess }
     ensures sealer { guest.new.sealer ≡ guest.old.sealer }
-    ensures old { EndsOld outward guest.old guest.new cpu.old cpu.new pool.old pool.new result }
-    ensures ended { EndsNow outward guest.old guest.new pool.old pool.new result }
-    ensures parameter { result ≡ Answer.Ret Code.UParameter → outward.generation ≢ guest.old.generation }
+    ensures ended { GoesOut outward guest.old guest.new pool.old pool.new }
 {
     guest.steps += 1;
-    if outward.generation != guest.generation {
-        return cpu.come_back(Code::UParameter);
-    }
     let frame = guest.pages.end_out(outward.gfn);
     pool.give(frame);
     cpu.come_back(Code::USuccess)

@@ -1,12 +1,12 @@
 //! A call that moves a page tests its operands from left to right, and comes back with the code of the first that is wrong.
 
 ghost use Rattle.std.specs.Prelude.{◌≡◌, ◌==◌, ◌&&◌, ◌/◌, ◌%◌, ◌^◌, ◌<◌, nat_lt, if◌then◌else◌, length, IfOk, IfSome};
-ghost use Rattle.pef_model.specs.Plan.{IsWithin};
-ghost use Rattle.pef_model.specs.PageOut.{may_page_out_in, has_page, can_go_out};
-ghost use Rattle.pef_model.specs.GuestPart.{is_shared};
+ghost use Rattle.pef_model.specs.Plan.{Plan, IsWithin};
+ghost use Rattle.pef_model.specs.PageOut.{may_page_out_in, can_go_out};
+ghost use Rattle.pef_model.specs.GuestPart.{GuestPart, is_shared};
 ghost use Rattle.pef_model.specs.PageIn.{may_page_in_in, can_come_in};
 ghost use Rattle.pef_pages.specs.Pages.{kind_at};
-ghost use Rattle.pef_move.specs.Route.{plan_by, code_for, operands_for, code_of, IsRoute, IsRouteIn};
+ghost use Rattle.pef_move.specs.Route.{code_for, operands_for, has_page_at, are_right_in, code_of, has_value, IsRoute, IsRouteIn};
 
 use crate::page_call::PageCall;
 use pef_guest::Guest;
@@ -26,7 +26,7 @@ pub(crate) struct Route {
 /// What a page-out is to move, or the code with which the call comes back at once.
 pub(crate) fn route_of<S: Seal>(guest: &Guest<S>, call: &PageCall) -> Result<Route, Code>
     requires { IsWithin 8 16 guest.now.shift }
-    ensures code { code_of result ≡ code_for guest.now call.now }
+    ensures code { (plan : Plan) (g : GuestPart) → code_of result ≡ code_for plan g guest.now call.now }
     ensures route { IfOk result (IsRoute guest.now call.now) }
 {
     if !is_for(guest.phase) {
@@ -58,7 +58,8 @@ pub(crate) fn route_of<S: Seal>(guest: &Guest<S>, call: &PageCall) -> Result<Rou
 /// What a page-in is to move, or the code with which the call comes back by its operands.
 pub(crate) fn route_in<S: Seal>(guest: &Guest<S>, call: &PageCall) -> Result<Route, Code>
     requires { IsWithin 8 16 guest.now.shift }
-    ensures code { code_of result ≡ operands_for guest.now call.now }
+    ensures right { has_value result ≡ are_right_in guest.now call.now }
+    ensures code { (plan : Plan) (g : GuestPart) → code_of result ≡ operands_for plan g guest.now call.now }
     ensures route { IfOk result (IsRouteIn guest.now call.now) }
 {
     if !is_for(guest.phase) {
@@ -107,7 +108,7 @@ fn frame_below(address: u64, shift: u8, count: u32) -> Option<u32>
 /// The page that begins at a guest address, where there is one that is neither Invalid nor Out.
 fn page_to_go_out<S: Seal>(guest: &Guest<S>, gpa: u64) -> Option<u32>
     requires { IsWithin 8 16 guest.now.shift }
-    ensures number { result ≡ (if has_page (plan_by guest.now) gpa && can_go_out (kind_at guest.now.pages (gpa / 2 ^ guest.now.shift)) then Some (gpa / 2 ^ guest.now.shift) else None) }
+    ensures number { result ≡ (if has_page_at guest.now gpa && can_go_out (kind_at guest.now.pages (gpa / 2 ^ guest.now.shift)) then Some (gpa / 2 ^ guest.now.shift) else None) }
     ensures below { IfSome result (λ gfn. gfn < length guest.now.pages.pages) }
 {
     let gfn = frame_below(gpa, guest.shift, guest.pages.count())?;
@@ -117,7 +118,7 @@ fn page_to_go_out<S: Seal>(guest: &Guest<S>, gpa: u64) -> Option<u32>
 /// The page that begins at a guest address, where there is one that is Out.
 fn page_to_come_in<S: Seal>(guest: &Guest<S>, gpa: u64) -> Option<u32>
     requires { IsWithin 8 16 guest.now.shift }
-    ensures number { result ≡ (if has_page (plan_by guest.now) gpa && can_come_in (kind_at guest.now.pages (gpa / 2 ^ guest.now.shift)) then Some (gpa / 2 ^ guest.now.shift) else None) }
+    ensures number { result ≡ (if has_page_at guest.now gpa && can_come_in (kind_at guest.now.pages (gpa / 2 ^ guest.now.shift)) then Some (gpa / 2 ^ guest.now.shift) else None) }
     ensures below { IfSome result (λ gfn. gfn < length guest.now.pages.pages) }
 {
     let gfn = frame_below(gpa, guest.shift, guest.pages.count())?;

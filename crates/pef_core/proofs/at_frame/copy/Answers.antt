@@ -1,5 +1,5 @@
-use Rattle.std.proofs.Common.{rules, refl, sym, ◌∙◌}
-use Rattle.pef_core.proofs.FrameRows.{in_does, out_does, copies_in, copies_out}
+use Rattle.std.proofs.Common.{rules, refl, ◌∙◌}
+use Rattle.pef_core.proofs.FrameRows.{copies_in, copies_out}
 use Rattle.pef_core.proofs.at_frame.copy.Goals as goal
 
 pub returns-in-Inward : goal.returns-in-Inward

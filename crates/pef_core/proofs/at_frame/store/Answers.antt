@@ -1,4 +1,4 @@
-use Rattle.std.proofs.Common.{◌≡◌, ◌%◌, length, ap, sym, ◌∙◌}
+use Rattle.std.proofs.Common.{◌≡◌, ◌%◌, length}
 use Rattle.pef_model.specs.Doubleword.{with_doubleword}
 use Rattle.pef_core.proofs.FrameRows.{store_does}
 use Rattle.pef_core.proofs.at_frame.store.Goals as goal

@@ -5,3 +5,6 @@ returns-in-UPageout g c pool = rw c.in-UPageout.is (c.page_out_begin.ensures.doe
 
 pub returns-in-UReturn : goal.returns-in-UReturn
 returns-in-UReturn g c pool = rw c.in-UReturn.is (c.uv_return.ensures pool)
+
+pub returns-in-UPagein : goal.returns-in-UPagein
+returns-in-UPagein g c pool = rw c.in-UPagein.is (c.page_in_refused.ensures.does pool)

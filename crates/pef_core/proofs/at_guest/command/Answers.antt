@@ -15,3 +15,9 @@ returns-in-GLi g c pool = rw c.in-GLi.is (c.load_immediate.ensures pool)
 
 pub returns-in-GIrq : goal.returns-in-GIrq
 returns-in-GIrq g c pool = rw c.in-GIrq.is (c.interrupt.ensures pool)
+
+pub returns-in-GLd : goal.returns-in-GLd
+returns-in-GLd g c pool = rw c.in-GLd.is (c.load.ensures pool)
+
+pub returns-in-GSt : goal.returns-in-GSt
+returns-in-GSt g c pool = rw c.in-GSt.is (c.store.ensures pool)

@@ -1,17 +1,11 @@
-use Rattle.std.proofs.Common.{rules, ◌≡◌, ℕ, ◌<◌, List, [], ◌∷◌, length, arith, refl, ap, sym, subst, ◌∙◌}
+use Rattle.std.proofs.Common.{rules, ◌≡◌, ℕ, ◌<◌, List, [], ◌∷◌, arith, refl, ap, sym, subst, ◌∙◌}
 use Rattle.pef_model.specs.declared.command.TheConstants.{UV_PAGE_IN}
-use Rattle.std.proofs.lemmas.List.{get_or-set_same, get_or-set_other}
-use Rattle.pef_model.specs.declared.command.Code.{Code}
-use Rattle.pef_model.specs.Registers.{load_call, load_page_in, number_of, with_code}
+use Rattle.pef_model.specs.Registers.{load_call, load_page_in}
 use Rattle.pef_frames.specs.Pool.{PoolState}
-use Rattle.pef_guest.specs.Loads.{LoadsCall}
-use Rattle.pef_guest.specs.declared.cpu.Cpu.{Cpu}
-use Rattle.pef_guest.specs.Refused.{ComesBack, RefusesCpu}
-use Rattle.pef_model.specs.declared.entry.Answer.TheVariants.{Ret}
 use Rattle.pef_model.specs.declared.command.Code.TheVariants.{UBusy}
 use Rattle.pef_move.specs.declared.page_call.PageCall.{PageCall}
-use Rattle.pef_move.proofs.Coming.{whole, frames, movers, comes}
-use Rattle.pef_move.proofs.ComingRows.{row_refused, row_busy, row_begun}
+use Rattle.pef_move.proofs.Coming.{whole, frames}
+use Rattle.pef_move.proofs.ComingRows.{row_busy, row_begun}
 use Rattle.pef_move.specs.PageOut.{KeepsCpu}
 use Rattle.pef_guest.proofs.Loading.{refuses}
 use Rattle.pef_guest.proofs.Asked.{refused_call}
@@ -43,32 +37,12 @@ returns-clause-does g c =
           (λ plan guest part mark marked shows shows_cpu.
           rw (c.begin.ensures.answer, c.begin.ensures.cpu, c.begin_in.ensures, c.take.ensures.pool)
           (row_begun g.S.Seal.stands g.S.Seal.image plan guest part mark c.args.guest.now c.args.cpu.now c.args.call.now c.args.pool.now shows shows_cpu c.requires.hypervisor c.load_page_in.new.gpr (loads c.args.cpu.now.gpr c.load_page_in.new.gpr c.operands.result c.args.call.now c.load_page_in.ensures.gpr c.operands.ensures)
-          c.in-Ok.route c.in-Some.frame c.requires.named marked c.in-Ok.ensures.route first c.in-Ok.ensures.code));
+          c.in-Ok.route c.in-Some.frame c.requires.named marked c.in-Ok.ensures.route first (c.in-Ok.ensures.code plan guest.part)));
     }
 
--- The code is the model's, and that a frame is free is asked last.
-pub returns-in_default-clause-does : goal.returns-in_default-clause-does
-returns-in_default-clause-does g c = record {
-  whole = search rules;
-  keeps = search rules;
-  life = search rules;
-  movers = search rules;
-  frames = search rules;
-  own = (let kept : KeepsCpu c.args.cpu.now c.refuse-in_default.new.self = search rules in own_of _ c.args.cpu.now c.refuse-in_default.new.self kept);
-  works = search rules;
-  pool_stays = rw c.requires.hypervisor (λ used. cc);
-  refused =
-      rw c.refuse-in_default.ensures.answer
-      (refused_call _ c.requires.hypervisor (rw c.refuse-in_default.ensures.cpu (refuses c.args.cpu.now c.load_page_in.new.gpr UBusy (let long = c.load_page_in.array_long in omega (arith, long)) c.load_page_in.ensures.rest)) (search rules, search rules));
-  row = in_begins g.S.Seal.takes g.S.Seal.stands g.S.Seal.image c.args.guest.now _ c.args.cpu.now c.refuse-in_default.new.self c.args.pool.now c.take.new.self c.refuse-in_default.result c.args.call.now c.requires.hypervisor
-      (λ plan guest part mark marked shows shows_cpu.
-      rw (c.refuse-in_default.ensures.answer, c.refuse-in_default.ensures.cpu, c.take.ensures.pool)
-      (row_busy g.S.Seal.stands g.S.Seal.image plan guest part mark c.args.guest.now c.args.cpu.now c.args.call.now c.args.pool.now shows shows_cpu c.requires.hypervisor c.load_page_in.new.gpr (loads c.args.cpu.now.gpr c.load_page_in.new.gpr c.operands.result c.args.call.now c.load_page_in.ensures.gpr c.operands.ensures)
-      c.in-Ok.ensures.code (c.in_default.ensures.none.0 refl)));
-}
-
-pub returns-in-Err-clause-does : goal.returns-in-Err-clause-does
-returns-in-Err-clause-does g c = record {
+-- Without a free frame the CPU alone changes.
+pub returns-in_default-take-clause-does : goal.returns-in_default-take-clause-does
+returns-in_default-take-clause-does g c = record {
   whole = search rules;
   keeps = search rules;
   life = search rules;
@@ -76,23 +50,13 @@ returns-in-Err-clause-does g c = record {
   frames = search rules;
   own = (let kept : KeepsCpu c.args.cpu.now c.refuse.new.self = search rules in own_of _ c.args.cpu.now c.refuse.new.self kept);
   works = search rules;
-  pool_stays = λ unused. refl;
+  pool_stays = rw c.requires.hypervisor (λ used. cc);
   refused =
       rw c.refuse.ensures.answer
-      (refused_call _ c.requires.hypervisor (rw c.refuse.ensures.cpu (refuses c.args.cpu.now c.load_page_in.new.gpr c.in-Err.code (let long = c.load_page_in.array_long in omega (arith, long)) c.load_page_in.ensures.rest)) (search rules, refl));
-  row = in_begins g.S.Seal.takes g.S.Seal.stands g.S.Seal.image c.args.guest.now _ c.args.cpu.now c.refuse.new.self c.args.pool.now c.args.pool.now c.refuse.result c.args.call.now c.requires.hypervisor
+      (refused_call _ c.requires.hypervisor (rw c.refuse.ensures.cpu (refuses c.args.cpu.now c.load_page_in.new.gpr UBusy (let long = c.load_page_in.array_long in omega (arith, long)) c.load_page_in.ensures.rest)) (search rules, search rules));
+  row = in_begins g.S.Seal.takes g.S.Seal.stands g.S.Seal.image c.args.guest.now _ c.args.cpu.now c.refuse.new.self c.args.pool.now c.take.new.self c.refuse.result c.args.call.now c.requires.hypervisor
       (λ plan guest part mark marked shows shows_cpu.
-      rw (c.refuse.ensures.answer, c.refuse.ensures.cpu)
-      (row_refused g.S.Seal.stands g.S.Seal.image plan guest part mark c.args.guest.now c.args.cpu.now c.args.call.now c.args.pool.now shows shows_cpu c.requires.hypervisor c.load_page_in.new.gpr (loads c.args.cpu.now.gpr c.load_page_in.new.gpr c.operands.result c.args.call.now c.load_page_in.ensures.gpr c.operands.ensures)
-      c.in-Err.code c.in-Err.ensures.code));
+      rw (c.refuse.ensures.answer, c.refuse.ensures.cpu, c.take.ensures.pool)
+      (row_busy g.S.Seal.stands g.S.Seal.image plan guest part mark c.args.guest.now c.args.cpu.now c.args.call.now c.args.pool.now shows shows_cpu c.requires.hypervisor c.load_page_in.new.gpr (loads c.args.cpu.now.gpr c.load_page_in.new.gpr c.operands.result c.args.call.now c.load_page_in.ensures.gpr c.operands.ensures)
+      (c.in-Ok.ensures.code plan guest.part) (c.in_default-take.ensures.none.0 refl)));
 }
-
--- A call that comes back changes the CPU alone.
-pub returns-in-Err-clause-refused : goal.returns-in-Err-clause-refused
-returns-in-Err-clause-refused g c =
-    rw (c.refuse.ensures.answer, c.refuse.ensures.cpu) (
-      rw (c.load_page_in.ensures.gpr, c.operands.ensures) refl,
-      refuses c.args.cpu.now c.load_page_in.new.gpr c.in-Err.code (let long = c.load_page_in.array_long in omega (arith, long)) c.load_page_in.ensures.rest,
-      record { rest = record { lpid = refl; shift = refl; normal = refl; secure = refl; phase = refl; generation = refl; pages = refl; sealer = refl }; vcpus = refl },
-      refl,
-    )

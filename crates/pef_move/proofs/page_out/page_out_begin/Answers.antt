@@ -5,10 +5,10 @@ use Rattle.pef_move.specs.declared.page_call.PageCall.{PageCall}
 use Rattle.pef_move.proofs.Begun.{whole, keeps, frames, movers, leaves, sealers}
 use Rattle.pef_move.proofs.BegunRows.{row_refused, row_begun}
 use Rattle.pef_frames.specs.Pool.{PoolState}
-use Rattle.pef_guest.specs.declared.guest.Guest.{Guest}
 use Rattle.pef_move.specs.PageOut.{KeepsCpu}
 use Rattle.pef_guest.proofs.Asked.{frames_stay}
-use Rattle.pef_move.proofs.Bundle.{own_of, out_begins}
+use Rattle.pef_move.proofs.Bundle.{own_of, out_begins, came_back, goes_on}
+use Rattle.pef_move.proofs.Codes.{code_is}
 use Rattle.pef_move.proofs.page_out.page_out_begin.Goals as goal
 
 -- the registers that the call loads
@@ -31,7 +31,7 @@ returns-in-Ok-clause-does g c pool = record {
       (λ plan whole part mark marked shows shows_cpu.
       rw c.begin.ensures.answer
       (row_begun g.S.Seal.stands g.S.Seal.image g.S.Seal.takes plan whole part mark c.args.guest.now c.args.cpu.now c.args.call.now shows shows_cpu c.requires.hypervisor c.load_page_out.new.gpr (loads c.args.cpu.now.gpr c.load_page_out.new.gpr c.operands.result c.args.call.now c.load_page_out.ensures.gpr c.operands.ensures)
-      c.begin.new.guest c.begin.new.cpu c.in-Ok.route c.requires.named marked c.requires.whole c.in-Ok.ensures.route c.begin.ensures.begun c.in-Ok.ensures.code));
+      c.begin.new.guest c.begin.new.cpu c.in-Ok.route c.requires.named marked c.requires.whole c.in-Ok.ensures.route c.begin.ensures.begun (c.in-Ok.ensures.code plan whole.part)));
 }
 
 pub returns-in-Ok-clause-sealer : goal.returns-in-Ok-clause-sealer
@@ -53,8 +53,17 @@ returns-in-Err-clause-does g c pool = record {
       (λ plan whole part mark marked shows shows_cpu.
       rw (c.refuse.ensures.answer, c.refuse.ensures.cpu)
       (row_refused g.S.Seal.stands g.S.Seal.image g.S.Seal.takes plan whole part mark c.args.guest.now c.args.cpu.now c.args.call.now shows shows_cpu c.requires.hypervisor c.load_page_out.new.gpr (loads c.args.cpu.now.gpr c.load_page_out.new.gpr c.operands.result c.args.call.now c.load_page_out.ensures.gpr c.operands.ensures)
-      c.in-Err.code c.in-Err.ensures.code));
+      c.in-Err.code (c.in-Err.ensures.code plan whole.part)));
 }
+
+-- The code is the model's.
+pub returns-in-Ok-clause-code : goal.returns-in-Ok-clause-code
+returns-in-Ok-clause-code g c plan whole shows code =
+    rw c.begin.ensures.answer (goes_on code _ (c.in-Ok.ensures.code plan whole.part ∙ code_is g.S.Seal.stands g.S.Seal.image plan c.args.guest.now whole c.args.call.now shows))
+
+pub returns-in-Err-clause-code : goal.returns-in-Err-clause-code
+returns-in-Err-clause-code g c plan whole shows code =
+    rw c.refuse.ensures.answer (came_back code c.in-Err.code _ (c.in-Err.ensures.code plan whole.part ∙ code_is g.S.Seal.stands g.S.Seal.image plan c.args.guest.now whole c.args.call.now shows))
 
 -- The same, for a caller that has no pool.
 any_pool : PoolState

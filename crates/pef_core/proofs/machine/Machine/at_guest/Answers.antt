@@ -1,4 +1,4 @@
-use Rattle.std.proofs.Common.{rules, ◌-◌, ap, sym, subst, ◌∙◌}
+use Rattle.std.proofs.Common.{rules, ◌-◌, ap, subst}
 use Rattle.std.specs.Prelude.{slice_set}
 use Rattle.pef_core.specs.State.{State}
 use Rattle.pef_core.specs.Does.{DoesStep}
@@ -16,10 +16,15 @@ index_mut-guest-requires g c =
     search (rules, below)
 
 -- the machine keeps what the step needs
+pub needs-requires : goal.needs-requires
+needs-requires g c =
+    let a = aimed_site g.S.Seal.takes (state_of c.self.inside) c.args.self.now c.args.cpu c.self.view_is c.self.invariant c.index_mut-own.result.now c.index_mut-own.ensures.value c.args.cmd.now c.args.lpid c.index_mut-guest.result.now c.requires c.index_mut-guest.ensures.value in
+    ready_for g.S.Seal.takes (state_of c.self.inside) c.args.cpu c.index_mut-own.result.now (c.args.lpid - 1) c.index_mut-guest.result.now a.found c.self.invariant c.args.cmd.now a.aims
+
 pub apply_guest-requires : goal.apply_guest-requires
 apply_guest-requires g c =
     let a = aimed_site g.S.Seal.takes (state_of c.self.inside) c.args.self.now c.args.cpu c.self.view_is c.self.invariant c.index_mut-own.result.now c.index_mut-own.ensures.value c.args.cmd.now c.args.lpid c.index_mut-guest.result.now c.requires c.index_mut-guest.ensures.value in
-    record { ready = ready_for g.S.Seal.takes (state_of c.self.inside) c.args.cpu c.index_mut-own.result.now (c.args.lpid - 1) c.index_mut-guest.result.now a.found c.self.invariant c.args.cmd.now a.aims; lent = sym c.needs.ensures ∙ ap is_pool c.in-Nothing.is }
+    record { ready = ready_for g.S.Seal.takes (state_of c.self.inside) c.args.cpu c.index_mut-own.result.now (c.args.lpid - 1) c.index_mut-guest.result.now a.found c.self.invariant c.args.cmd.now a.aims; lent = λ wants. (let pool = c.needs.ensures.here.1 wants in let none = ap is_pool c.in-Nothing.is in cc) }
 
 pub apply_guest-requires-in-Pool-clause-ready : goal.apply_guest-requires-in-Pool-clause-ready
 apply_guest-requires-in-Pool-clause-ready g c =
@@ -29,7 +34,7 @@ apply_guest-requires-in-Pool-clause-ready g c =
 pub apply_guest-requires-in-Pool-clause-lent : goal.apply_guest-requires-in-Pool-clause-lent
 apply_guest-requires-in-Pool-clause-lent g c =
     let a = aimed_site g.S.Seal.takes (state_of c.self.inside) c.args.self.now c.args.cpu c.self.view_is c.self.invariant c.index_mut-own.result.now c.index_mut-own.ensures.value c.args.cmd.now c.args.lpid c.index_mut-guest.result.now c.requires c.index_mut-guest.ensures.value in
-    (sym c.needs.ensures ∙ ap is_pool c.in-Pool.is, ready_pool g.S.Seal.takes (state_of c.self.inside) c.args.cpu c.index_mut-own.result.now (c.args.lpid - 1) c.index_mut-guest.result.now a.found c.self.invariant c.args.cmd.now a.aims)
+    (c.needs.ensures.here.0 (ap is_pool c.in-Pool.is), ready_pool g.S.Seal.takes (state_of c.self.inside) c.args.cpu c.index_mut-own.result.now (c.args.lpid - 1) c.index_mut-guest.result.now a.found c.self.invariant c.args.cmd.now a.aims)
 
 -- it stays whole
 pub invariant_of-self : goal.invariant_of-self

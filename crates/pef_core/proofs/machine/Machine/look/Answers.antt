@@ -36,8 +36,8 @@ index-guest-requires g c =
     let there = (range g.S.Seal.takes g.S.Seal.stands g.S.Seal.image (state_of c.self.inside) c.args.cpu c.self.invariant below c.index-own.result.now (search rules) c.args.cmd.now c.in-Guest.lpid targets).1 in
     search (rules, there)
 
-pub touches_pool-requires : goal.touches_pool-requires
-touches_pool-requires g c =
+pub needs-requires : goal.needs-requires
+needs-requires g c =
     let below = subst (λ (m : State _). c.args.cpu < length m.cpus) (sym c.self.view_is) c.requires.cpu in
     let targets = subst (Targets (length c.self.inside.guests.items) c.self.inside.normal c.index-own.result.now c.args.cmd.now) (ap target_shown c.in-Guest.is) (subst (λ (k : ℕ). Targets k c.self.inside.normal c.index-own.result.now c.args.cmd.now (target_shown c.target_of.result)) (search rules) c.target_of.ensures) in
     let few = subst (λ (m : State _). m.steps < 2 ^ 63) (sym c.self.view_is) c.requires.count in
@@ -48,5 +48,5 @@ returns-in-Guest g c =
     let below = subst (λ (m : State _). c.args.cpu < length m.cpus) (sym c.self.view_is) c.requires.cpu in
     let targets = subst (Targets (length c.self.inside.guests.items) c.self.inside.normal c.index-own.result.now c.args.cmd.now) (ap target_shown c.in-Guest.is) (subst (λ (k : ℕ). Targets k c.self.inside.normal c.index-own.result.now c.args.cmd.now (target_shown c.target_of.result)) (search rules) c.target_of.ensures) in
     subst (λ m. LooksAt g.S.Seal.stands g.S.Seal.image m c.args.cpu c.args.cmd.now c.look_of-in-Guest.result) c.self.view_is
-    (subst (LooksAt g.S.Seal.stands g.S.Seal.image (state_of c.self.inside) c.args.cpu c.args.cmd.now) (sym c.look_of-in-Guest.ensures)
-    (let few = subst (λ (m : State _). m.steps < 2 ^ 63) (sym c.self.view_is) c.requires.count in looks_at_guest g.S.Seal.takes g.S.Seal.stands g.S.Seal.image (state_of c.self.inside) c.args.cpu c.self.invariant below c.index-own.result.now (search rules) c.args.cmd.now c.in-Guest.lpid targets c.index-guest.result.now c.index-guest.ensures few c.touches_pool.result c.touches_pool.ensures))
+    (rw (c.look_of-in-Guest.ensures, c.is_pool.ensures)
+    (let few = subst (λ (m : State _). m.steps < 2 ^ 63) (sym c.self.view_is) c.requires.count in looks_at_guest g.S.Seal.takes g.S.Seal.stands g.S.Seal.image (state_of c.self.inside) c.args.cpu c.self.invariant below c.index-own.result.now (search rules) c.args.cmd.now c.in-Guest.lpid targets c.index-guest.result.now c.index-guest.ensures few c.needs.result c.needs.ensures.touches))

@@ -1,9 +1,6 @@
-use Rattle.std.proofs.Common.{rules, ◌≡◌, ℕ, ◌<◌, List, Some, length, ap, sym, subst, ◌∙◌}
+use Rattle.std.proofs.Common.{◌≡◌, ℕ, ◌<◌, Some, length, ap, sym, subst, ◌∙◌}
 use Rattle.std.specs.Prelude.{slice_get}
-use Rattle.pef_model.specs.declared.entry.PoolSaw.{PoolSaw}
 use Rattle.pef_core.specs.State.{State}
-use Rattle.pef_core.specs.Did.{pool_seen, Tells}
-use Rattle.pef_core.proofs.Sites.{state_of}
 use Rattle.pef_core.proofs.Places.{read_at}
 use Rattle.pef_core.proofs.Seeing.{tells}
 use Rattle.pef_core.proofs.machine.Machine.step_seen.Goals as goal
