@@ -1,42 +1,51 @@
 //! A call loads its values into R0, R2, R3 and R4 to R12; a guest's command moves on to the next instruction.
 
-ghost use Rattle.std.specs.Prelude.{◌≡◌, ◌≢◌, ℕ, slice_index, slice_set};
-ghost use Rattle.pef_model.specs.Registers.{load_return, load_call, with_code, number_of};
+ghost use Rattle.std.specs.Prelude.{◌≡◌, ◌≢◌, ◌≤◌, ℕ, length, Some, slice_index, slice_set};
+ghost use Rattle.pef_model.specs.Registers.{with_call, loaded, with_code, number_of};
 ghost use Rattle.pef_model.specs.Guest.{at_next_instruction, entered_at};
 ghost use Rattle.pef_guest.specs.Loads.{LoadsCall};
 
-use pef_model::{Code, Reg, Regs, UV_PAGE_IN, UV_PAGE_OUT, UV_RETURN};
+use pef_model::{Cmd, Code, Reg, Regs, UV_PAGE_IN, UV_PAGE_OUT, UV_RETURN};
 
-/// Loads what a caller of UV_RETURN loads: the call's number into R3, its values into R0, R2 and R4 to R12.
+/// Loads what the caller of an ultracall loads: the call's number into R3, and its operands into R4 and the registers after it;
+/// UV_RETURN alone has two values more, in R0 and R2. A command that is no ultracall loads nothing.
 #[tactic(auto, using(crate::proofs::Loading::loads_call))]
-pub fn load_return(gpr: &mut [u64; 32], r0: u64, r2: u64, outs: &[u64; 9])
-    ensures gpr { gpr.new ≡ load_return gpr.old r0 r2 outs.now }
+pub fn load(gpr: &mut [u64; 32], cmd: &Cmd)
+    ensures gpr { gpr.new ≡ loaded gpr.old cmd.now }
     ensures rest { LoadsCall gpr.old gpr.new }
 {
-    gpr[0] = r0;
-    gpr[2] = r2;
-    gpr[3] = UV_RETURN;
-    gpr[4..13].copy_from_slice(outs);
+    cmd.numbers_fit();
+    match cmd {
+        Cmd::UPagein {
+            lpid,
+            src,
+            gpa,
+            flags,
+            order,
+        } => put(gpr, UV_PAGE_IN, &[*lpid, *src, *gpa, *flags, *order]),
+        Cmd::UPageout {
+            lpid,
+            dest,
+            gpa,
+            flags,
+            order,
+        } => put(gpr, UV_PAGE_OUT, &[*lpid, *dest, *gpa, *flags, *order]),
+        Cmd::UReturn { r0, r2, outs } => {
+            gpr[0] = *r0;
+            gpr[2] = *r2;
+            put(gpr, UV_RETURN, outs);
+        }
+        _ => {}
+    }
 }
 
-/// Loads what a caller of UV_PAGE_IN loads: the call's number into R3, its operands into R4 to R8.
-#[tactic(auto, using(crate::proofs::Loading::loads_five))]
-pub fn load_page_in(gpr: &mut [u64; 32], operands: [u64; 5])
-    ensures gpr { gpr.new ≡ load_call gpr.old UV_PAGE_IN operands }
-    ensures rest { LoadsCall gpr.old gpr.new }
+/// Puts a call's number into R3, and its operands into R4 and the registers after it.
+fn put(gpr: &mut [u64; 32], number: u64, operands: &[u64])
+    requires { length operands.now ≤ 9 }
+    ensures { gpr.new ≡ with_call gpr.old (Some (record { number = number; operands = operands.now })) }
 {
-    gpr[3] = UV_PAGE_IN;
-    gpr[4..9].copy_from_slice(&operands);
-}
-
-/// Loads what a caller of UV_PAGE_OUT loads: the call's number into R3, its operands into R4 to R8.
-#[tactic(auto, using(crate::proofs::Loading::loads_five))]
-pub fn load_page_out(gpr: &mut [u64; 32], operands: [u64; 5])
-    ensures gpr { gpr.new ≡ load_call gpr.old UV_PAGE_OUT operands }
-    ensures rest { LoadsCall gpr.old gpr.new }
-{
-    gpr[3] = UV_PAGE_OUT;
-    gpr[4..9].copy_from_slice(&operands);
+    gpr[3] = number;
+    gpr[4..4 + operands.len()].copy_from_slice(operands);
 }
 
 /// The value of a register.

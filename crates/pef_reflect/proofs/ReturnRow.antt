@@ -10,7 +10,7 @@ use Rattle.pef_model.specs.declared.command.Code.TheVariants.{UInvalid}
 use Rattle.pef_model.specs.declared.entry.Answer.TheVariants.{Enter, Ret}
 use Rattle.pef_model.specs.Plan.{Plan}
 use Rattle.pef_model.specs.Event.{Mark}
-use Rattle.pef_model.specs.Registers.{load_return, with_code}
+use Rattle.pef_model.specs.Registers.{loaded, with_code}
 use Rattle.pef_model.specs.Cpu.{CpuPart}
 use Rattle.pef_model.specs.Target.{Ask}
 use Rattle.pef_model.specs.GuestPart.{GuestPart, with_running_vcpu}
@@ -45,12 +45,12 @@ module _ {S : Type 0} (stands : S → Tag → List ℕ → List ℕ → Type 0) 
   pub enter_row : (mark : Mark) (r0 r2 : ℕ) (outs : List ℕ) → mark.cpu ≡ cpu.number → may_return_in old.phase ≡ true → is_waiting (vcpu_at old cpu.vid).state ≡ true →
       Row stands image plan g c (entry_of (ask_hypervisor c) mark (UReturn r0 r2 outs) (deed_return g.part (ask_hypervisor c)))
       (with_step old old.pages cpu.vid (record { state = Running cpu.number; generation = old.generation; regs = entered_at (vcpu_at old cpu.vid).regs r2 }))
-      (record cpu { ctx = ctx.Guest (record { lpid = cpu.lpid; vid = cpu.vid; generation = old.generation }); gpr = load_return cpu.gpr r0 r2 outs; last = Enter }) Enter
+      (record cpu { ctx = ctx.Guest (record { lpid = cpu.lpid; vid = cpu.vid; generation = old.generation }); gpr = loaded cpu.gpr (UReturn r0 r2 outs); last = Enter }) Enter
   enter_row mark r0 r2 outs number may waits =
       let after : Guest S = with_step old old.pages cpu.vid (record { state = Running cpu.number; generation = old.generation; regs = entered_at (vcpu_at old cpu.vid).regs r2 }) in
       let deed : Deed = record (answering (ask_hypervisor c) Enter) { after = ctx.Guest (record { lpid = c.lpid; vid = c.vid; generation = g.part.generation }) } in
       subst (λ (b : Bool). Row stands image plan g c (entry_of (ask_hypervisor c) mark (UReturn r0 r2 outs) (if b then deed else answering (ask_hypervisor c) (Ret UInvalid))) after
-      (record cpu { ctx = ctx.Guest (record { lpid = cpu.lpid; vid = cpu.vid; generation = old.generation }); gpr = load_return cpu.gpr r0 r2 outs; last = Enter }) Enter) (sym (taken_up may waits))
+      (record cpu { ctx = ctx.Guest (record { lpid = cpu.lpid; vid = cpu.vid; generation = old.generation }); gpr = loaded cpu.gpr (UReturn r0 r2 outs); last = Enter }) Enter) (sym (taken_up may waits))
       (record {
         answered = refl;
         guest = subst (λ (n : ℕ). Shows stands image plan after (stepped g c.vid (with_running_vcpu g.part c.vid n) g.content (entered_at (g.registers c.vid) r2) (g.clean && true))) (sym number)
@@ -58,7 +58,7 @@ module _ {S : Type 0} (stands : S → Tag → List ℕ → List ℕ → Type 0) 
             (shows_running stands image plan old g cpu.vid shows below cpu.number r2));
         cpu_is = record {
           ctx = λ i. ctx.Guest (record { lpid = shows_cpu.lpid i; vid = shows_cpu.vid i; generation = shows.generation i });
-          own = ap (λ (own : List ℕ). load_return own r0 r2 outs) shows_cpu.own;
+          own = ap (λ (own : List ℕ). loaded own (UReturn r0 r2 outs)) shows_cpu.own;
           lpid = shows_cpu.lpid;
           vid = shows_cpu.vid;
           last = refl;
@@ -84,17 +84,17 @@ module _ {S : Type 0} (stands : S → Tag → List ℕ → List ℕ → Type 0) 
   -- a UV_RETURN that is refused leaves the guest
   pub refuse_row : (after : Guest S) → Shows stands image plan after (record g { clean = g.clean && true }) → (mark : Mark) (r0 r2 : ℕ) (outs : List ℕ) → cpu.ctx ≡ ctx.Hv → (may_return_in old.phase && is_waiting (vcpu_at old cpu.vid).state) ≡ false →
       Row stands image plan g c (entry_of (ask_hypervisor c) mark (UReturn r0 r2 outs) (deed_return g.part (ask_hypervisor c))) after
-      (record cpu { gpr = with_code (load_return cpu.gpr r0 r2 outs) UInvalid; last = Ret UInvalid }) (Ret UInvalid)
+      (record cpu { gpr = with_code (loaded cpu.gpr (UReturn r0 r2 outs)) UInvalid; last = Ret UInvalid }) (Ret UInvalid)
   refuse_row after shows_after mark r0 r2 outs runs none =
       let deed : Deed = record (answering (ask_hypervisor c) Enter) { after = ctx.Guest (record { lpid = c.lpid; vid = c.vid; generation = g.part.generation }) } in
       subst (λ (b : Bool). Row stands image plan g c (entry_of (ask_hypervisor c) mark (UReturn r0 r2 outs) (if b then deed else answering (ask_hypervisor c) (Ret UInvalid))) after
-      (record cpu { gpr = with_code (load_return cpu.gpr r0 r2 outs) UInvalid; last = Ret UInvalid }) (Ret UInvalid)) (sym (refused none))
+      (record cpu { gpr = with_code (loaded cpu.gpr (UReturn r0 r2 outs)) UInvalid; last = Ret UInvalid }) (Ret UInvalid)) (sym (refused none))
       (record {
         answered = refl;
         guest = shows_after;
         cpu_is = record {
           ctx = runs;
-          own = ap (λ (own : List ℕ). with_code (load_return own r0 r2 outs) UInvalid) shows_cpu.own;
+          own = ap (λ (own : List ℕ). with_code (loaded own (UReturn r0 r2 outs)) UInvalid) shows_cpu.own;
           lpid = shows_cpu.lpid;
           vid = shows_cpu.vid;
           last = refl;

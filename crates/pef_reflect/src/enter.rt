@@ -1,13 +1,12 @@
 //! The hypervisor takes up a vCPU that waits.
 
 ghost use Rattle.std.specs.Prelude.{◌≡◌, ◌^◌, ◌<◌, length};
-ghost use Rattle.pef_model.specs.declared.command.Cmd.{Cmd};
 ghost use Rattle.pef_frames.specs.Pool.{PoolState};
 ghost use Rattle.pef_guest.specs.Whole.{IsWhole};
 ghost use Rattle.pef_guest.specs.Does.{DoesRow};
 
 use pef_guest::{Cpu, Guest, registers};
-use pef_model::{Answer, Code, Ctx};
+use pef_model::{Answer, Cmd, Code, Ctx};
 use pef_seal::Seal;
 
 /// UV_RETURN of the hypervisor: the selected vCPU runs from now on. U_INVALID where its guest is neither Starting nor Secure,
@@ -27,7 +26,7 @@ pub fn uv_return<S: Seal>(
     ensures { (pool : PoolState) → DoesRow S.takes S.stands S.image (Cmd.UReturn r0 r2 outs.now) guest.old guest.new cpu.old cpu.new pool pool result }
 {
     guest.steps += 1;
-    registers::load_return(&mut cpu.gpr, r0, r2, outs);
+    registers::load(&mut cpu.gpr, &Cmd::UReturn { r0, r2, outs: *outs });
     if !guest.may_return() {
         return cpu.refuse(Code::UInvalid);
     }

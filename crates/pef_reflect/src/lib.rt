@@ -7,4 +7,4 @@ mod own;
 
 pub use enter::uv_return;
 pub use leave::{gone, interrupt};
-pub use own::{load_immediate, refuse_page_in, refuse_page_out, refuse_return};
+pub use own::{load_immediate, refuse_call};

@@ -31,7 +31,7 @@ returns g c pool =
       refused = rw c.requires.hypervisor tt;
       row = makes_hypervisor g.S.Seal.takes g.S.Seal.stands g.S.Seal.image (UReturn c.args.r0 c.args.r2 c.args.outs.now) c.args.guest.now _ c.args.cpu.now _ pool pool _ c.requires.hypervisor
           (λ plan whole found part mark number shows shows_cpu. record {
-            row = rw (c.take_up.ensures, vcpu, c.load_return.ensures.gpr)
+            row = rw (c.take_up.ensures, vcpu, c.load.ensures.gpr)
                 (enter_row g.S.Seal.stands g.S.Seal.image plan c.args.guest.now whole c.args.cpu.now part shows shows_cpu c.requires.vcpu mark c.args.r0 c.args.r2 c.args.outs.now number may waits);
             pool = ap (pool_with (length pool.free)) (sym (return_unpooled whole.part (ask_hypervisor part)));
           });
@@ -49,10 +49,10 @@ returns-then-not-may_return g c pool =
       own = rw c.refuse.ensures.cpu (record { number = refl; hand = refl; selects = inl (refl, refl) });
       works = rw c.refuse.ensures.cpu (rw c.requires.hypervisor tt);
       pool_stays = λ unused. refl;
-      refused = refused_call _ c.requires.hypervisor (rw c.refuse.ensures.cpu (refuses c.args.cpu.now c.load_return.new.gpr UInvalid (let long = c.load_return.array_long in omega (arith, long)) c.load_return.ensures.rest)) (search rules, refl);
+      refused = refused_call _ c.requires.hypervisor (rw c.refuse.ensures.cpu (refuses c.args.cpu.now c.load.new.gpr UInvalid (let long = c.load.array_long in omega (arith, long)) c.load.ensures.rest)) (search rules, refl);
       row = makes_hypervisor g.S.Seal.takes g.S.Seal.stands g.S.Seal.image (UReturn c.args.r0 c.args.r2 c.args.outs.now) c.args.guest.now _ c.args.cpu.now _ pool pool _ c.requires.hypervisor
           (λ plan whole found part mark number shows shows_cpu. record {
-            row = rw (c.refuse.ensures.cpu, c.load_return.ensures.gpr)
+            row = rw (c.refuse.ensures.cpu, c.load.ensures.gpr)
                 (refuse_row g.S.Seal.stands g.S.Seal.image plan c.args.guest.now whole c.args.cpu.now part shows shows_cpu c.requires.vcpu _
                 (left_before g.S.Seal.stands g.S.Seal.image plan c.args.guest.now whole c.args.cpu.now part shows shows_cpu c.requires.vcpu) mark c.args.r0 c.args.r2 c.args.outs.now c.requires.hypervisor
                 (ap (λ (may : Bool). may && is_waiting (vcpu_at c.args.guest.now c.args.cpu.now.vid).state) (sym c.may_return.ensures ∙ c.if-not-may_return.true)));
@@ -73,11 +73,11 @@ returns-then-not-is_waiting g c pool =
       own = rw c.refuse-then-not-is_waiting.ensures.cpu (record { number = refl; hand = refl; selects = inl (refl, refl) });
       works = rw c.refuse-then-not-is_waiting.ensures.cpu (rw c.requires.hypervisor tt);
       pool_stays = λ unused. refl;
-      refused = refused_call _ c.requires.hypervisor (rw c.refuse-then-not-is_waiting.ensures.cpu (refuses c.args.cpu.now c.load_return.new.gpr UInvalid (let long = c.load_return.array_long in omega (arith, long)) c.load_return.ensures.rest))
+      refused = refused_call _ c.requires.hypervisor (rw c.refuse-then-not-is_waiting.ensures.cpu (refuses c.args.cpu.now c.load.new.gpr UInvalid (let long = c.load.array_long in omega (arith, long)) c.load.ensures.rest))
           (same_guest c.args.guest.now c.args.cpu.now.vid c.index_mut-vcpu.result.now c.index_mut-vcpu.ensures.value, refl);
       row = makes_hypervisor g.S.Seal.takes g.S.Seal.stands g.S.Seal.image (UReturn c.args.r0 c.args.r2 c.args.outs.now) c.args.guest.now _ c.args.cpu.now _ pool pool _ c.requires.hypervisor
           (λ plan whole found part mark number shows shows_cpu. record {
-            row = rw (c.refuse-then-not-is_waiting.ensures.cpu, c.load_return.ensures.gpr, vcpu)
+            row = rw (c.refuse-then-not-is_waiting.ensures.cpu, c.load.ensures.gpr, vcpu)
                 (refuse_row g.S.Seal.stands g.S.Seal.image plan c.args.guest.now whole c.args.cpu.now part shows shows_cpu c.requires.vcpu _
                 (left_after g.S.Seal.stands g.S.Seal.image plan c.args.guest.now whole c.args.cpu.now part shows shows_cpu c.requires.vcpu) mark c.args.r0 c.args.r2 c.args.outs.now c.requires.hypervisor
                 (ap (λ (may : Bool). may && is_waiting (vcpu_at c.args.guest.now c.args.cpu.now.vid).state) (sym c.may_return.ensures ∙ c.if-not-may_return.false) ∙ waits));
