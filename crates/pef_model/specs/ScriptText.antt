@@ -69,7 +69,7 @@ words_text words = join_with_byte 32 words ++ codes "\n"
 abbrev pub script_text : Bool → Script → List ℕ
 script_text hex script = flat_map words_text (header_words hex script.config ++ map (line_words hex) script.lines)
 
--- a command that returns nothing in R4 to R12
+-- a command that a line can say: its numbers are in their ranges, and it returns nothing in R4 to R12
 abbrev pub CanBeWritten : Cmd → Type 0
 CanBeWritten (UReturn r0 r2 outs) = (r0 < 2 ^ 64) × (r2 < 2 ^ 64) × (outs ≡ replicate 9 0)
 CanBeWritten cmd = IsCommand cmd
