@@ -1,4 +1,4 @@
--- Which commands there are.
+-- Which commands a history can have.
 use Rattle.std.specs.Prelude.{◌≡◌, ℕ, ◌^◌, ◌<◌, length}
 use Rattle.std.specs.List.{AllByRecursion}
 use Rattle.pef_model.specs.declared.command.Cmd.{Cmd}

@@ -101,7 +101,7 @@ next_entry_by plan past ask mark cmd = entry_of ask mark cmd (deed_after plan pa
 abbrev pub next_entry : Plan → List Event → Mark → Cmd → Event
 next_entry plan past mark cmd = next_entry_by plan past (ask_of (cpu_after plan mark.cpu past) cmd) mark cmd
 
--- an entry extends a history: its CPU is one of the machine's, its command is one, and it is the one that its step adds
+-- an entry extends a history: its CPU is one of the machine's, its command's numbers are in their ranges, and it is the one that its step adds
 pub record Extends (plan : Plan) (past : List Event) (e : Event) : Type 0 where
   pub cpu : e.trace.cpu < plan.cpus
   pub command : IsCommand e.trace.cmd

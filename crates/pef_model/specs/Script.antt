@@ -26,7 +26,7 @@ abbrev pub first_command : Directive → Cmd
 first_command (Once cmd) = cmd
 first_command GoAll = Go
 
--- a script's configuration is in its ranges, its line numbers rise strictly, and each line's CPU is one of the machine's and its command is one
+-- a script's configuration is in its ranges, its line numbers rise strictly, each line's CPU is one of the machine's, and the numbers of its command are in their ranges
 pub record IsScript (script : Script) : Type 0 where
   pub config : IsInRange script.config
   pub rises : IsStrictlyIncreasing (map (λ (line : Line). line.number) script.lines)
