@@ -49,7 +49,7 @@ MayBeAtNone (aim.Guest lpid) = ⊥
 MayBeAtNone (aim.Move move) = ⊥
 MayBeAtNone other = Unit {0}
 
--- a command of the hypervisor may aim at nothing; every other command is one of another context where it does
+-- a command may aim at nothing: one of the hypervisor where its aim may be, and elsewhere each
 abbrev pub MayAimAtNone : Ctx → ℕ → Cmd → Type 0
 MayAimAtNone ctx.Hv lpid cmd = MayBeAtNone (aim_in ctx.Hv lpid cmd)
 MayAimAtNone before lpid cmd = Unit {0}
