@@ -66,7 +66,7 @@ fn apply_keystream(key: &[u8; 32], tag: Tag, bytes: &[u8], out: &mut [u8])
     requires blocks { length bytes.now % 32 ≡ 0 }
     ensures { out.new ≡ stream_image key.now tag bytes.now }
 {
-    let mut keystream = Keystream::build(key, tag);
+    let keystream = Keystream::build(key, tag);
     for number in 0..bytes.len() / 32 {
         let start = 32 * number;
         let block = keystream.block(number as u64);
