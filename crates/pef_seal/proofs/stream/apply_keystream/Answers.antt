@@ -7,13 +7,13 @@ pub loop-number-preserved : goal.loop-number-preserved
 loop-number-preserved c =
     let key = c.args.key.now in
     let tag = c.args.tag in
-    let bytes = c.args.bytes.now in
+    let bytes = c.loop-number.bytes in
     let n = c.loop-number.number in
-    let block = c.block-block.ensures key tag c.build-keystream.ensures in
-    masked-more key tag bytes c.loop-number.out c.put_xor.new.out n (32 * n + 32 - 32 * n) (omega arith) (omega arith) (omega arith)
-    (λ i within. c.put_xor.ensures i within ∙ ap (λ (xs : List ℕ). bit_xor (slice_index (take (32 * n + 32 - 32 * n) (drop (32 * n) bytes)) i) (slice_index xs i)) block)
+    let block = c.block.ensures key tag c.build-keystream.ensures in
+    masked-more key tag c.args.bytes.now bytes c.apply_block.new.bytes n (32 * n + 32 - 32 * n) (omega arith) (omega arith) (omega arith)
+    (λ i within. c.apply_block.ensures i within ∙ ap (λ (xs : List ℕ). bit_xor (slice_index (take (32 * n + 32 - 32 * n) (drop (32 * n) bytes)) i) (slice_index xs i)) block)
     c.loop-number.invariant
 
 -- the blocks are all of the page
 pub returns : goal.returns
-returns c = masked-all c.args.key.now c.args.tag c.args.bytes.now c.loop-number.out (omega arith) (λ i below. c.loop-number.invariant i (omega arith))
+returns c = masked-all c.args.key.now c.args.tag c.args.bytes.now c.loop-number.bytes (32 * c.loop-number.number) (omega arith) (omega arith) c.loop-number.invariant
