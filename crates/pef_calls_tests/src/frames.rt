@@ -1,9 +1,6 @@
-//! Each secure frame is taken once and comes back zeroed, and a normal frame is its bytes.
-
-ghost use Rattle.std.specs.Prelude.{◌≡◌, length, IfOk};
+//! A secure frame comes back zeroed, and a normal frame is its bytes.
 
 use pef_frames::{NormalFrame, Pool, SecFrame};
-use std::alloc::{AllocError, Global};
 use std::process::Abort;
 use std::test::Fail;
 
@@ -48,24 +45,6 @@ fn counts(rt: &impl Abort, pool: &Pool, count: u32, free: u32, room: u32) {
 }
 
 #[test]
-fn each_frame_is_taken_once(rt: HostRuntime) -> Result<(), Fail> {
-    let mut pool = Pool::build(rt.alloc(), 2, 256)?;
-    counts(&rt, &pool, 2, 2, 0);
-    let _first = take(&rt, &mut pool, 0);
-    let _second = take(&rt, &mut pool, 1);
-    counts(&rt, &pool, 2, 0, 2);
-    Ok(())
-}
-
-#[test]
-fn an_empty_pool_gives_none(rt: HostRuntime) -> Result<(), Fail> {
-    let mut pool = Pool::build(rt.alloc(), 0, 256)?;
-    assert!(rt; pool.take().is_none());
-    counts(&rt, &pool, 0, 0, 0);
-    Ok(())
-}
-
-#[test]
 fn a_frame_comes_back_zeroed(rt: HostRuntime) -> Result<(), Fail> {
     let mut pool = Pool::build(rt.alloc(), 2, 256)?;
     let mut frame = take(&rt, &mut pool, 0);
@@ -76,46 +55,23 @@ fn a_frame_comes_back_zeroed(rt: HostRuntime) -> Result<(), Fail> {
     Ok(())
 }
 
-// A normal frame of 256 bytes with a doubleword stored at 0.
-fn written(alloc: Global) -> Result<NormalFrame, AllocError>
-    ensures { IfOk result (λ frame. length frame ≡ 256) }
-{
-    let mut frame = NormalFrame::build(alloc, 256)?;
-    frame.store(0, 0x0102_0304_0506_0708);
-    Ok(frame)
-}
-
-#[test]
-fn a_normal_frame_begins_with_zeros(rt: HostRuntime) -> Result<(), Fail> {
-    let frame = NormalFrame::build(rt.alloc(), 256)?;
-    assert!(rt; frame.size() == 256);
-    assert!(rt; frame.bytes() == [0; 256].as_slice());
-    Ok(())
-}
-
 #[test]
 fn a_normal_frame_is_stored_and_loaded(rt: HostRuntime) -> Result<(), Fail> {
-    let frame = written(rt.alloc())?;
+    let mut frame = NormalFrame::build(rt.alloc(), 256)?;
+    assert!(rt; frame.size() == 256);
+    frame.store(0, 0x0102_0304_0506_0708);
     assert!(rt; frame.bytes() == stored().as_slice());
-    assert!(rt; frame.load(0) == 0x0102_0304_0506_0708);
     assert!(rt; frame.load(4) == 0x0506_0708_0000_0000);
     Ok(())
 }
 
 #[test]
-fn a_normal_frame_is_copied_from(rt: HostRuntime) -> Result<(), Fail> {
-    let frame = written(rt.alloc())?;
+fn a_normal_frame_is_copied_both_ways_and_zeroed(rt: HostRuntime) -> Result<(), Fail> {
+    let mut frame = NormalFrame::build(rt.alloc(), 256)?;
     let mut hand = [0xff; 256];
+    frame.copy_from(&stored());
     frame.copy_to(&mut hand);
     assert!(rt; hand == stored());
-    Ok(())
-}
-
-#[test]
-fn a_normal_frame_is_copied_to_and_zeroed(rt: HostRuntime) -> Result<(), Fail> {
-    let mut frame = NormalFrame::build(rt.alloc(), 256)?;
-    frame.copy_from(&stored());
-    assert!(rt; frame.bytes() == stored().as_slice());
     frame.zero();
     assert!(rt; frame.bytes() == [0; 256].as_slice());
     Ok(())

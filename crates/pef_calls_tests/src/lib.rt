@@ -1,5 +1,5 @@
-//! The happy path of each public call of doublewords, frames, pages and sealers and of a machine's step, and one call for each
-//! refusal.
+//! The happy path of each public call of doublewords, frames, pages and sealers and of a machine's step, and two guests on four
+//! CPUs.
 #![tactic(auto)]
 
 #[cfg(test)]

@@ -1,9 +1,9 @@
-//! Secure guests store and load, leave for an interrupt and go on, and what may not be done is refused.
+//! A secure guest stores and loads, and so does the hypervisor.
 
 ghost use Rattle.std.specs.Prelude.{◌≡◌, ◌<◌, length, IfOk};
 
 use pef_core::Machine;
-use pef_model::{Answer, Cmd, Code, Config, Exit, Reg};
+use pef_model::{Answer, Cmd, Config, Reg};
 use pef_seal::StreamSeal;
 use pef_top::stream_sealers;
 use std::alloc::{AllocError, Global};
@@ -18,15 +18,6 @@ fn register(number: u8) -> Reg
         Some(register) => register,
         None => unreachable!(),
     }
-}
-
-/// A machine with two CPUs, whose guest 1 is not secure.
-fn normal_machine(alloc: Global) -> Result<Machine<StreamSeal>, AllocError>
-    ensures { IfOk result (λ machine. length machine.cpus ≡ 2) }
-{
-    let mut config = Config::with_defaults(alloc);
-    config.cpus = 2;
-    Machine::build(alloc, &config, stream_sealers(alloc, &config)?)
 }
 
 /// A machine with two CPUs, whose guest 1 is secure from the start.
@@ -115,106 +106,8 @@ fn stores_and_loads(rt: HostRuntime) -> Result<(), Fail> {
 }
 
 #[test]
-fn refuses(rt: HostRuntime) -> Result<(), Fail> {
-    let mut machine = secure_machine(rt.alloc())?;
-    run(
-        &rt,
-        &mut machine,
-        &[
-            (0, load(0), Answer::Context),
-            (0, Cmd::GIrq, Answer::Context),
-            (0, u_return(), Answer::Enter),
-            (0, u_return(), Answer::Ret(Code::UInvalid)),
-            (0, load(4), Answer::Hole),
-            // The guest has 16 pages of 64 KiB.
-            (0, load(0x10_0000), Answer::Hole),
-            (0, store(0x10_0000), Answer::Hole),
-        ],
-    );
-    counts(&rt, &machine, 16, 7);
-    Ok(())
-}
-
-#[test]
-fn an_interrupted_guest_goes_on_where_it_was(rt: HostRuntime) -> Result<(), Fail> {
-    let mut machine = secure_machine(rt.alloc())?;
-    run(
-        &rt,
-        &mut machine,
-        &[
-            (0, u_return(), Answer::Enter),
-            (0, immediate(7), Answer::Done),
-            (0, Cmd::GIrq, Answer::Exit(Exit::Irq)),
-            // The hypervisor runs, and has its own commands and no guest's.
-            (0, store(8), Answer::Context),
-            (0, Cmd::HLd { ra: 0 }, Answer::Val(0)),
-            (0, u_return(), Answer::Enter),
-            // The guest still has the value in its register.
-            (0, store(8), Answer::Done),
-            (0, load(8), Answer::Val(7)),
-            (0, Cmd::HLd { ra: 0 }, Answer::Context),
-        ],
-    );
-    Ok(())
-}
-
-#[test]
-fn two_cpus_store_and_load_one_page_in_turn(rt: HostRuntime) -> Result<(), Fail> {
-    let mut machine = secure_machine(rt.alloc())?;
-    run(
-        &rt,
-        &mut machine,
-        &[
-            (0, u_return(), Answer::Enter),
-            (0, immediate(7), Answer::Done),
-            (0, store(0), Answer::Done),
-            (0, Cmd::GIrq, Answer::Exit(Exit::Irq)),
-            (1, u_return(), Answer::Enter),
-            (1, load(0), Answer::Val(7)),
-            (1, immediate(8), Answer::Done),
-            (1, store(8), Answer::Done),
-            (1, Cmd::GIrq, Answer::Exit(Exit::Irq)),
-            (0, u_return(), Answer::Enter),
-            (0, load(0), Answer::Val(7)),
-            (0, load(8), Answer::Val(8)),
-        ],
-    );
-    // Both CPUs reached one page.
-    counts(&rt, &machine, 15, 12);
-    Ok(())
-}
-
-#[test]
-fn a_cpu_takes_no_vcpu_that_runs_elsewhere(rt: HostRuntime) -> Result<(), Fail> {
-    let mut machine = secure_machine(rt.alloc())?;
-    run(
-        &rt,
-        &mut machine,
-        &[
-            (0, u_return(), Answer::Enter),
-            (1, u_return(), Answer::Ret(Code::UInvalid)),
-            // The hypervisor still runs on CPU 1, and the guest on CPU 0.
-            (1, load(0), Answer::Context),
-            (0, load(0), Answer::Val(0)),
-        ],
-    );
-    Ok(())
-}
-
-#[test]
-fn keeps_a_guest_out_that_is_not_born_secure(rt: HostRuntime) -> Result<(), Fail> {
-    let mut machine = normal_machine(rt.alloc())?;
-    run(
-        &rt,
-        &mut machine,
-        &[(0, u_return(), Answer::Ret(Code::UInvalid))],
-    );
-    Ok(())
-}
-
-#[test]
 fn loads_what_the_hypervisor_stored(rt: HostRuntime) -> Result<(), Fail> {
-    let mut machine = normal_machine(rt.alloc())?;
+    let mut machine = secure_machine(rt.alloc())?;
     let value = 0x0102_0304_0506_0708;
     run(
         &rt,
@@ -234,34 +127,5 @@ fn loads_what_the_hypervisor_stored(rt: HostRuntime) -> Result<(), Fail> {
         &[0, 0, 0, 0, 0, 0, 0, 0, 1, 2, 3, 4, 5, 6, 7, 8],
     );
     begins(&rt, &machine, 1, &[]);
-    Ok(())
-}
-
-#[test]
-fn refuses_a_real_address_with_no_place(rt: HostRuntime) -> Result<(), Fail> {
-    let mut machine = secure_machine(rt.alloc())?;
-    run(
-        &rt,
-        &mut machine,
-        &[
-            (0, Cmd::HLd { ra: 4 }, Answer::Hole),
-            (0, Cmd::HSt { ra: 4, value: 7 }, Answer::Hole),
-            // There are 16 normal frames of 64 KiB.
-            (0, Cmd::HLd { ra: 0x10_0000 }, Answer::Hole),
-            (
-                0,
-                Cmd::HSt {
-                    ra: 0x10_0000,
-                    value: 7,
-                },
-                Answer::Hole,
-            ),
-            (0, u_return(), Answer::Enter),
-            // A guest has no such command.
-            (0, Cmd::HLd { ra: 0 }, Answer::Context),
-            (0, Cmd::HSt { ra: 0, value: 7 }, Answer::Context),
-        ],
-    );
-    counts(&rt, &machine, 16, 7);
     Ok(())
 }

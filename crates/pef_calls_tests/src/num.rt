@@ -1,4 +1,4 @@
-//! A doubleword is put and read, and an address has its frame and its place, or none.
+//! A doubleword is put and read, and an address has its frame and its place.
 
 use pef_num::{Place, dw_at, frame_of, place_of, put_dw};
 
@@ -23,13 +23,6 @@ fn a_frame_begins_at_its_address(rt: HostRuntime) {
 }
 
 #[test]
-fn no_frame_begins_elsewhere(rt: HostRuntime) {
-    // The first is no multiple of the frame's size, and the second frame's number has 33 bits.
-    assert_eq!(rt; frame_of(0x308, 8), None);
-    assert_eq!(rt; frame_of(0x1_0000_0000_0000, 16), None);
-}
-
-#[test]
 fn a_doubleword_has_a_place(rt: HostRuntime) {
     assert_eq!(rt; place_of(0x3f8, 8), Some(Place { page: 3, off: 0xf8 }));
     assert_eq!(rt;
@@ -39,11 +32,4 @@ fn a_doubleword_has_a_place(rt: HostRuntime) {
             off: 0xfff8
         })
     );
-}
-
-#[test]
-fn no_doubleword_has_a_place_elsewhere(rt: HostRuntime) {
-    // The first is no multiple of 8, and the second page's number has 33 bits.
-    assert_eq!(rt; place_of(0x3fc, 8), None);
-    assert_eq!(rt; place_of(0x1_0000_0000_0000, 16), None);
 }

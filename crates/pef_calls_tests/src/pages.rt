@@ -1,4 +1,4 @@
-//! A page is backed by a frame of the pool, goes out and comes in, and its frame goes back to the pool.
+//! A page is backed by a frame of the pool, goes out and comes in, or gives its frame away.
 
 use pef_frames::{Pool, SecFrame};
 use pef_model::{Digest32, Kind, Mover, Way};
@@ -67,10 +67,11 @@ fn begin_in(rt: &impl Abort, pages: &mut Pages<SecFrame>, frame: SecFrame) {
     pages.begin_in(0, 4, frame);
 }
 
-fn end_in(rt: &impl Abort, pages: &mut Pages<SecFrame>, accepted: bool) -> Option<SecFrame> {
+// What came for page 0 is accepted.
+fn end_in(rt: &impl Abort, pages: &mut Pages<SecFrame>) -> Option<SecFrame> {
     assert!(rt; pages.count() > 0);
     assert_eq!(rt; pages.mover(0), Some(INWARD));
-    pages.end_in(0, accepted)
+    pages.end_in(0, true)
 }
 
 // A guest's pages, none of which has anything.
@@ -143,70 +144,22 @@ fn reset(rt: &impl Abort, pages: &mut Pages<SecFrame>) {
     pages.reset();
 }
 
-// Page 0 becomes Out, and its frame is back in the pool.
-fn out(rt: &impl Abort, pages: &mut Pages<SecFrame>, pool: &mut Pool) {
-    let frame = take(rt, pool);
-    back(rt, pages, 0, frame);
-    assert_eq!(rt; begin_out(rt, pages), 1);
-    let frame = end_out(rt, pages);
-    give(rt, pool, frame);
-}
-
 #[test]
-fn a_page_begins_with_nothing(rt: HostRuntime) -> Result<(), Fail> {
-    let pages = pages_of(rt.alloc(), 1)?;
-    has(&rt, &pages, 0, Kind::Invalid, 0, None, None);
-    counts(&rt, &pages, 1, 0, None);
-    Ok(())
-}
-
-#[test]
-fn a_page_that_moves_outward_stays_secure_and_then_is_out(rt: HostRuntime) -> Result<(), Fail> {
+fn a_page_is_written_goes_out_and_comes_in_again(rt: HostRuntime) -> Result<(), Fail> {
     let mut pool = pool_of(rt.alloc(), 1)?;
     let mut pages = pages_of(rt.alloc(), 1)?;
     back(&rt, &mut pages, 0, take(&rt, &mut pool));
+    fill(&rt, &mut pages, 0, 7);
+    assert!(rt; is_full(&rt, &pages, 0, 7));
     has(&rt, &pages, 0, Kind::Secure, 0, None, Some(0));
     counts(&rt, &pages, 1, 0, Some(0));
     assert!(rt; begin_out(&rt, &mut pages) == 1);
-    has(&rt, &pages, 0, Kind::Secure, 1, None, Some(0));
     counts(&rt, &pages, 1, 1, None);
     give(&rt, &mut pool, end_out(&rt, &mut pages));
     has(&rt, &pages, 0, Kind::Out, 1, Some(SEALED), None);
-    Ok(())
-}
-
-#[test]
-fn a_page_out_comes_in_again(rt: HostRuntime) -> Result<(), Fail> {
-    let mut pool = pool_of(rt.alloc(), 1)?;
-    let mut pages = pages_of(rt.alloc(), 1)?;
-    out(&rt, &mut pages, &mut pool);
     begin_in(&rt, &mut pages, take(&rt, &mut pool));
-    assert!(rt; end_in(&rt, &mut pages, true).is_none());
+    assert!(rt; end_in(&rt, &mut pages).is_none());
     has(&rt, &pages, 0, Kind::Secure, 1, None, Some(0));
-    Ok(())
-}
-
-#[test]
-fn a_page_that_is_refused_stays_out_and_its_frame_goes_back(rt: HostRuntime) -> Result<(), Fail> {
-    let mut pool = pool_of(rt.alloc(), 1)?;
-    let mut pages = pages_of(rt.alloc(), 1)?;
-    out(&rt, &mut pages, &mut pool);
-    begin_in(&rt, &mut pages, take(&rt, &mut pool));
-    let frame = end_in(&rt, &mut pages, false).expect(&rt, "the page gives its frame away");
-    give(&rt, &mut pool, frame);
-    has(&rt, &pages, 0, Kind::Out, 1, Some(SEALED), None);
-    Ok(())
-}
-
-#[test]
-fn a_frame_is_written_in_its_page(rt: HostRuntime) -> Result<(), Fail> {
-    let mut pool = pool_of(rt.alloc(), 1)?;
-    let mut pages = pages_of(rt.alloc(), 2)?;
-    back(&rt, &mut pages, 0, take(&rt, &mut pool));
-    fill(&rt, &mut pages, 0, 7);
-    fill(&rt, &mut pages, 1, 7);
-    assert!(rt; is_full(&rt, &pages, 0, 7));
-    has(&rt, &pages, 1, Kind::Invalid, 0, None, None);
     Ok(())
 }
 
@@ -222,16 +175,15 @@ fn a_page_that_becomes_shared_or_invalid_gives_its_frame_away(rt: HostRuntime) -
     assert!(rt; dropped.number() == 1);
     has(&rt, &pages, 0, SHARED, 0, None, None);
     has(&rt, &pages, 1, Kind::Invalid, 0, None, None);
-    assert!(rt; drop_to_invalid(&rt, &mut pages, 0).is_none());
     Ok(())
 }
 
 #[test]
 fn a_reset_guest_is_as_it_was_built(rt: HostRuntime) -> Result<(), Fail> {
-    let mut pool = pool_of(rt.alloc(), 1)?;
     let mut pages = pages_of(rt.alloc(), 1)?;
-    out(&rt, &mut pages, &mut pool);
+    assert!(rt; share(&rt, &mut pages).is_none());
     reset(&rt, &mut pages);
     has(&rt, &pages, 0, Kind::Invalid, 0, None, None);
+    counts(&rt, &pages, 1, 0, None);
     Ok(())
 }

@@ -15,33 +15,44 @@ keystream-late key tag n i late below =
     let place : i - 32 * n ≡ i % 32 = omega arith in
     ap (λ (k : ℕ). slice_index (keystream_block key tag n) k) place ∙ ap (λ (m : ℕ). slice_index (keystream_block key tag m) (i % 32)) block
 
--- the bytes before a place are masked
-abbrev pub IsMasked : List ℕ → Tag → List ℕ → List ℕ → ℕ → Type 0
-IsMasked key tag bytes out end = (i : ℕ) → i < end → slice_index out i ≡ bit_xor (slice_index bytes i) (keystream key tag i)
+-- the bytes before a place are masked, and the others are as they were
+pub record IsMasked (key : List ℕ) (tag : Tag) (bytes out : List ℕ) (end : ℕ) : Type 0 where
+  pub before : (i : ℕ) → i < end → slice_index out i ≡ bit_xor (slice_index bytes i) (keystream key tag i)
+  pub after : (i : ℕ) → end ≤ i → slice_index out i ≡ slice_index bytes i
 
--- the bytes of one more block are masked
-pub masked-more : (key : List ℕ) (tag : Tag) (bytes out written : List ℕ) (n size : ℕ) → 32 * n + 32 ≤ length out → 32 ≤ size → length written ≡ 32 →
-    ((i : ℕ) → i < length written → slice_index written i ≡ bit_xor (slice_index (take size (drop (32 * n) bytes)) i) (slice_index (keystream_block key tag n) i)) →
+-- one more block is masked
+pub masked-more : (key : List ℕ) (tag : Tag) (bytes out written : List ℕ) (n size : ℕ) → 32 * n + 32 ≤ length out → size ≡ 32 → length written ≡ 32 →
+    ((i : ℕ) → i < 32 → slice_index written i ≡ bit_xor (slice_index (take size (drop (32 * n) out)) i) (slice_index (keystream_block key tag n) i)) →
     IsMasked key tag bytes out (32 * n) → IsMasked key tag bytes (put_mid (32 * n) size out written) (32 * (n + 1))
-masked-more key tag bytes out written n size room whole long masked before i below =
+masked-more key tag bytes out written n size room whole long masked so_far =
     let front : length (take (32 * n) out) ≡ 32 * n = omega (arith, length-take (32 * n) out) in
     let rest = drop size (drop (32 * n) out) in
-    elim (cases_lt i (32 * n)) [
-      | inl early ↦
-          get_or_append_left (take (32 * n) out) (written ++ rest) 0 i (omega arith) ∙ get_or-take (32 * n) out i 0 early ∙ before i early
-      | inr late ↦
-          let k = i - 32 * n in
-          let inside : k < 32 = omega arith in
-          get_or-append_right (take (32 * n) out) (written ++ rest) (32 * n) i 0 front late
-          ∙ get_or_append_left written rest 0 k (omega arith)
-          ∙ masked k (omega arith)
-          ∙ ap (λ (b : ℕ). bit_xor b (slice_index (keystream_block key tag n) k)) (get_or-take size (drop (32 * n) bytes) k 0 (omega arith) ∙ get_or-drop (32 * n) bytes k 0 ∙ ap (slice_index bytes) (omega arith))
-          ∙ ap (bit_xor (slice_index bytes i)) (keystream-late key tag n i late (omega arith))
-    ]
+    record {
+      before = λ i below. elim (cases_lt i (32 * n)) [
+        | inl early ↦
+            get_or_append_left (take (32 * n) out) (written ++ rest) 0 i (omega arith) ∙ get_or-take (32 * n) out i 0 early ∙ so_far.before i early
+        | inr late ↦
+            let k = i - 32 * n in
+            let inside : k < 32 = omega arith in
+            get_or-append_right (take (32 * n) out) (written ++ rest) (32 * n) i 0 front late
+            ∙ get_or_append_left written rest 0 k (omega arith)
+            ∙ masked k inside
+            ∙ ap (λ (b : ℕ). bit_xor b (slice_index (keystream_block key tag n) k))
+            (get_or-take size (drop (32 * n) out) k 0 (omega arith) ∙ get_or-drop (32 * n) out k 0 ∙ so_far.after (32 * n + k) (omega arith) ∙ ap (slice_index bytes) (omega arith))
+            ∙ ap (bit_xor (slice_index bytes i)) (keystream-late key tag n i late (omega arith))
+      ];
+      after = λ i late.
+          get_or-append_right (take (32 * n) out) (written ++ rest) (32 * n) i 0 front (omega arith)
+          ∙ get_or-append_right written rest 32 (i - 32 * n) 0 long (omega arith)
+          ∙ get_or-drop size (drop (32 * n) out) (i - 32 * n - 32) 0
+          ∙ get_or-drop (32 * n) out (size + (i - 32 * n - 32)) 0
+          ∙ ap (slice_index out) (omega arith)
+          ∙ so_far.after i (omega arith);
+    }
 
 -- masked to its end it is the sealed page
-pub masked-all : (key : List ℕ) (tag : Tag) (bytes out : List ℕ) → length out ≡ length bytes → IsMasked key tag bytes out (length bytes) → out ≡ stream_image key tag bytes
-masked-all key tag bytes out long masked =
-    fill_by_all (λ (i : ℕ). bit_xor (slice_index bytes i) (keystream key tag i)) out (length bytes) 0 long masked
+pub masked-all : (key : List ℕ) (tag : Tag) (bytes out : List ℕ) (end : ℕ) → length out ≡ length bytes → length bytes ≤ end → IsMasked key tag bytes out end → out ≡ stream_image key tag bytes
+masked-all key tag bytes out end long whole masked =
+    fill_by_all (λ (i : ℕ). bit_xor (slice_index bytes i) (keystream key tag i)) out (length bytes) 0 long (λ i below. masked.before i (omega arith))
 
 pub ruleset twice = stream_image-twice

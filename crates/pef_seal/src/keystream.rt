@@ -1,47 +1,42 @@
 //! A keystream is computed block by block, each from the key, the tag and its own number.
 
-ghost use Rattle.std.specs.Prelude.{◌≡◌, ◌++◌};
-ghost use Rattle.byteorder.specs.Endian.{big_bytes};
-ghost use Rattle.pef_model.specs.Seal.{tag_bytes};
-ghost use Rattle.sha2.specs.Sha256.{sha256};
+ghost use Rattle.std.specs.Prelude.{◌≡◌, ◌++◌, List, ℕ};
+ghost use Rattle.pef_model.specs.Seal.{keystream_block, tag_bytes};
+ghost use Rattle.pef_model.specs.declared.state.Tag.{Tag};
+ghost use Rattle.sha2.specs.Hashers.{Holds256};
 
 use crate::Tag;
 use crate::tag::write_tag;
 use sha2::{Digest, Sha256};
-use std::marker::Model;
 
-/// What the blocks of a keystream are the digests of, seen as what all have in common: the key and the tag.
+/// What the blocks of a keystream have in common.
 #[derive(Drop)]
 pub struct Keystream {
-    /// The key, the tag, and the number of the last block.
-    message: [u8; 72],
-}
-
-impl Model for Keystream {
-    ghost use Rattle.std.specs.Prelude.{ℕ, List, take};
-
-    ghost Value = { List ℕ };
-
-    ghost view = { λ k. take 64 k.message };
+    /// It has taken the key and the tag. They are one block of SHA-256, so that each block of the keystream is one more.
+    begun: Sha256,
 }
 
 impl Keystream {
     /// The keystream of a key and a tag.
     pub fn build(key: &[u8; 32], tag: Tag) -> Keystream
-        ensures { result ≡ key.now ++ tag_bytes tag }
+        ensures { Holds256 result.begun (key.now ++ tag_bytes tag) }
     {
-        let mut message = [0; 72];
-        message[..32].copy_from_slice(key);
-        write_tag(tag, &mut message[32..64]);
-        Keystream { message }
+        let mut bytes = [0; 32];
+        write_tag(tag, &mut bytes);
+        let mut begun = Sha256::new();
+        begun.update(key);
+        begun.update(&bytes);
+        Keystream { begun }
     }
 
     /// The block of a number, from 0.
-    pub fn block(&mut self, number: u64) -> [u8; 32]
-        ensures block { result ≡ sha256 (self.old ++ big_bytes 8 number) }
-        ensures same { self.new ≡ self.old }
+    pub fn block(&self, number: u64) -> [u8; 32]
+        ensures { (key : List ℕ) (tag : Tag) → Holds256 self.now.begun (key ++ tag_bytes tag) → result ≡ keystream_block key tag number }
     {
-        self.message[64..].copy_from_slice(&number.to_be_bytes());
-        Sha256::digest(&self.message)
+        let Ok(mut hasher) = self.begun.clone() else {
+            unreachable!()
+        };
+        hasher.update(&number.to_be_bytes());
+        hasher.finalize()
     }
 }

@@ -51,40 +51,38 @@ impl Seal for StreamSeal {
 
     #[tactic(auto, using(crate::proofs::Sizes::page_is_blocks))]
     fn seal(&mut self, tag: Tag, plain: &[u8], out: &mut [u8]) {
-        apply_keystream(&self.key, tag, plain, out);
+        out.copy_from_slice(plain);
+        apply_keystream(&self.key, tag, out);
     }
 
     #[tactic(auto, using(crate::proofs::Sizes::page_is_blocks, crate::proofs::Masks::twice))]
     fn unseal(&self, tag: Tag, sealed: &[u8], out: &mut [u8]) {
-        apply_keystream(&self.key, tag, sealed, out);
+        out.copy_from_slice(sealed);
+        apply_keystream(&self.key, tag, out);
     }
 }
 
-/// Writes the exclusive-or of each byte with the keystream's at its place.
-fn apply_keystream(key: &[u8; 32], tag: Tag, bytes: &[u8], out: &mut [u8])
-    requires lengths { length bytes.now ≡ length out.old }
-    requires blocks { length bytes.now % 32 ≡ 0 }
-    ensures { out.new ≡ stream_image key.now tag bytes.now }
+/// Each byte becomes its exclusive-or with the keystream's at its place.
+fn apply_keystream(key: &[u8; 32], tag: Tag, bytes: &mut [u8])
+    requires { length bytes.old % 32 ≡ 0 }
+    ensures { bytes.new ≡ stream_image key.now tag bytes.old }
 {
-    let mut keystream = Keystream::build(key, tag);
+    let keystream = Keystream::build(key, tag);
     for number in 0..bytes.len() / 32 {
         let start = 32 * number;
-        let block = keystream.block(number as u64);
-        put_xor(
-            &mut out[start..start + 32],
-            &bytes[start..start + 32],
-            &block,
+        apply_block(
+            &mut bytes[start..start + 32],
+            &keystream.block(number as u64),
         );
     }
 }
 
-/// Writes the exclusive-or of the bytes of two slices.
-fn put_xor(out: &mut [u8], left: &[u8], right: &[u8])
-    requires left { length left.now ≡ length out.old }
-    requires right { length right.now ≡ length out.old }
-    ensures { (i : ℕ) → i < length out.new → slice_index out.new i ≡ bit_xor (slice_index left.now i) (slice_index right.now i) }
+/// Each byte becomes its exclusive-or with the block's at its place.
+fn apply_block(bytes: &mut [u8], block: &[u8; 32])
+    requires { length bytes.old ≡ 32 }
+    ensures { (i : ℕ) → i < 32 → slice_index bytes.new i ≡ bit_xor (slice_index bytes.old i) (slice_index block.now i) }
 {
-    for i in 0..out.len() {
-        out[i] = left[i] ^ right[i];
+    for i in 0..32 {
+        bytes[i] ^= block[i];
     }
 }

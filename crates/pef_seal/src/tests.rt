@@ -1,6 +1,6 @@
-//! Sealed pages that were computed elsewhere, and each call once.
+//! Digests and sealed pages that were computed elsewhere.
 
-ghost use Rattle.std.specs.Prelude.{◌≡◌, ◌+◌, ◌^◌, ◌<◌, ◌≤◌, length, IfOk};
+ghost use Rattle.std.specs.Prelude.{◌≡◌, ◌+◌, ◌^◌, ◌≤◌, length, IfOk};
 ghost use Rattle.pef_model.specs.Plan.{IsWithin};
 
 use super::*;
