@@ -9,3 +9,7 @@ mod Ranges
 pub mod ReadScripts
 mod WrittenWords
 mod WrittenLines
+mod WrittenText
+mod WrittenGuests
+mod WrittenHeader
+mod WrittenScript
