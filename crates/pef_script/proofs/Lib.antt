@@ -10,3 +10,7 @@ mod ReadOperands
 pub mod ReadScripts
 mod WrittenWords
 mod WrittenLines
+mod WrittenText
+mod WrittenGuests
+mod WrittenHeader
+mod WrittenScript

@@ -69,11 +69,11 @@ falls_not_push ns n rise most i j d first within =
     default_is (x ∷ xs) (suc i) d h = default_is xs i d (omega arith)
 
 -- the guest of an entropy word
-abbrev guest : EntropyWord → ℕ
+abbrev pub guest : EntropyWord → ℕ
 guest word = word.lpid
 
 -- how many words are a guest's
-abbrev count_of : ℕ → List EntropyWord → ℕ
+abbrev pub count_of : ℕ → List EntropyWord → ℕ
 count_of lpid words = count_by (λ (word : EntropyWord). word.lpid == lpid) words
 
 -- one more word counts where it is the guest's
@@ -148,7 +148,7 @@ words_are guests lpid (suc left) (token ∷ more) words all few within are e =
     (words_push guests lpid left words (record { lpid = lpid; left = pair.left; right = pair.right }) refl within are) rest)
 
 -- the guest at a place
-guest_at : (words : List EntropyWord) (k : ℕ) → guest_or_none (slice_get words k) ≡ slice_index (map guest words) k
+pub guest_at : (words : List EntropyWord) (k : ℕ) → guest_or_none (slice_get words k) ≡ slice_index (map guest words) k
 guest_at [] zero = refl
 guest_at [] (suc k) = refl
 guest_at (word ∷ words) zero = refl

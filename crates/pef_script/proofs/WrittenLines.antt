@@ -23,7 +23,8 @@ use Rattle.pef_script.specs.Table.{shape, word_named, no_operands}
 use Rattle.pef_script.specs.Token.{pair_in, pair_of}
 use Rattle.pef_script.specs.Written.{Operand, Number, Register, Pair, number_text, pair_text, operand_text, Fits, name_of, operands_of, line_words, CanBeWritten}
 use Rattle.pef_script.specs.WrittenLaw.{EachLineIsRead}
-use Rattle.pef_script.proofs.WrittenWords.{number_reads, register_reads}
+use Rattle.pef_model.proofs.Lists.{all_append}
+use Rattle.pef_script.proofs.WrittenWords.{IsWord, is_word, word_tested, more_bytes, number_word, register_word, number_reads, register_reads}
 
 -- digits have no |
 no_bar : (radix : ℕ) (ds : List ℕ) → radix ≤ 16 → AllDigits radix ds → AllByRecursion (λ d. (d == 124) ≡ false) ds
@@ -40,19 +41,38 @@ whole : (xs : List ℕ) → AllByRecursion (λ d. (d == 124) ≡ false) xs → s
 whole [] bare = refl
 whole (x ∷ xs) bare = rw (bare.0, whole xs bare.1) refl
 
-parted : (xs rest : List ℕ) → AllByRecursion (λ d. (d == 124) ≡ false) xs → slice_split (λ b. b == 124) (xs ++ codes "|" ++ rest) ≡ xs ∷ slice_split (λ b. b == 124) rest
+parted : (xs rest : List ℕ) → AllByRecursion (λ d. (d == 124) ≡ false) xs → slice_split (λ b. b == 124) (xs ++ (codes "|" ++ rest)) ≡ xs ∷ slice_split (λ b. b == 124) rest
 parted [] rest bare = refl
 parted (x ∷ xs) rest bare = rw (bare.0, parted xs rest bare.1) refl
 
 -- a pair is read again, also where one number is written
 pub pair_reads : (hex : Bool) (left right : ℕ) → left < 2 ^ 64 → right < 2 ^ 64 → pair_in (pair_text hex left right) ≡ Some (record { left = left; right = right })
 pair_reads hex left right one two = by_test (left == right) refl where
-  by_test : (same : Bool) → (left == right) ≡ same → pair_in (cond same (number_text hex left) (number_text hex left ++ codes "|" ++ number_text hex right)) ≡ Some (record { left = left; right = right })
+  by_test : (same : Bool) → (left == right) ≡ same → pair_in (cond same (number_text hex left) (number_text hex left ++ (codes "|" ++ number_text hex right))) ≡ Some (record { left = left; right = right })
   by_test true e =
       let is : left ≡ right = grind (arith, nat_tests, e) in
       rw (whole (number_text hex left) (number_bare hex left one), number_reads hex left one) (ap (λ (n : ℕ). Some (record { left = left; right = n })) is)
   by_test false e =
       rw (parted (number_text hex left) (number_text hex right) (number_bare hex left one), whole (number_text hex right) (number_bare hex right two), number_reads hex left one, number_reads hex right two) refl
+
+-- a pair is a word
+pub pair_word : (hex : Bool) (left right : ℕ) → left < 2 ^ 64 → right < 2 ^ 64 → IsWord (pair_text hex left right)
+pair_word hex left right one two = by_test (left == right) where
+  by_test : (same : Bool) → IsWord (cond same (number_text hex left) (number_text hex left ++ (codes "|" ++ number_text hex right)))
+  by_test true = number_word hex left one
+  by_test false =
+      let word = number_word hex left one in
+      (more_bytes (number_text hex left) (codes "|" ++ number_text hex right) word.0,
+      all_append (λ b. 35 < b) (number_text hex left) (codes "|" ++ number_text hex right) word.1 (omega arith, (number_word hex right two).1))
+
+operand_word : (hex : Bool) (operand : Operand) → Fits operand → IsWord (operand_text hex operand)
+operand_word hex (Number n) fits = number_word hex n fits
+operand_word hex (Register r) fits = register_word r fits
+operand_word hex (Pair left right) fits = pair_word hex left right fits.0 fits.1
+
+operand_words : (hex : Bool) (operands : List Operand) → AllByRecursion Fits operands → AllByRecursion IsWord (map (operand_text hex) operands)
+operand_words hex [] fit = tt
+operand_words hex (operand ∷ more) fit = (operand_word hex operand fit.0, operand_words hex more fit.1)
 
 -- the kind of an operand
 abbrev kind_is : Operand → Kind
@@ -91,20 +111,21 @@ operands_read hex place kinds (operand ∷ more) o are fit =
     ∙ ap (option_and_then (λ (o : Operands). operands_in (place + 1) (drop 1 kinds) o rest)) (one_reads hex place operand o fit.0)
     ∙ operands_read hex (place + 1) (drop 1 kinds) more (with_one place operand o) are.1 fit.1
 
--- a line of a number, a CPU, a directive and the right number of its pair
-abbrev IsRead : Bool → ℕ → ℕ → ℕ → ℕ → Directive → Type 0
-IsRead hex cpus number cpu right d =
-    let l : ReadLine = record { line = record { number = number; cpu = cpu; directive = d }; right = right } in
-    line_in cpus number (line_words hex l) ≡ Ok l
+-- a line of a number, a CPU, a directive and the right number of its pair is words, and is read again
+record IsRead (hex : Bool) (cpus number cpu right : ℕ) (d : Directive) : Type 0 where
+  reads : line_in cpus number (number_text hex cpu ∷ name_of d ∷ map (operand_text hex) (operands_of right d)) ≡ Ok (record { line = record { number = number; cpu = cpu; directive = d }; right = right })
+  words : AllByRecursion IsWord (number_text hex cpu ∷ name_of d ∷ map (operand_text hex) (operands_of right d))
 
 -- a directive by its name is read again
 by_word : (hex : Bool) (cpus number cpu right : ℕ) (d : Directive) (word : Word) → cpu < cpus → cpu < 2 ^ 64 → AllByRecursion Fits (operands_of right d) →
-    word_named (name_of d) ≡ Some word → AreOf (shape word).kinds (operands_of right d) →
+    is_word (name_of d) ≡ true → word_named (name_of d) ≡ Some word → AreOf (shape word).kinds (operands_of right d) →
     (counted (shape word) (length (map (operand_text hex) (operands_of right d))) ≡ Some (length (map (operand_text hex) (operands_of right d)))) →
     (shape word).make (with_all 0 (operands_of right d) no_operands) ≡ d → (with_all 0 (operands_of right d) no_operands).right ≡ right → IsRead hex cpus number cpu right d
 unfolding line_in
-by_word hex cpus number cpu right d word below fits fit named are count makes is =
-    rw (number_reads hex cpu fits, named, count, operands_read hex 0 (shape word).kinds (operands_of right d) no_operands are fit, lt-ltb cpu cpus below, makes, is) refl
+by_word hex cpus number cpu right d word below fits fit name named are count makes is = record {
+  reads = rw (number_reads hex cpu fits, named, count, operands_read hex 0 (shape word).kinds (operands_of right d) no_operands are fit, lt-ltb cpu cpus below, makes, is) refl;
+  words = (number_word hex cpu fits, (word_tested (name_of d) name, operand_words hex (operands_of right d) fit));
+}
 
 -- a fact of each list of so many numbers
 abbrev Each : ℕ → (List ℕ → Type 0) → Type 0
@@ -120,23 +141,27 @@ each_of (suc n) P all (x ∷ xs) size = each_of n (λ (xs : List ℕ). P (x ∷ 
 
 line_read : (hex : Bool) (cpus number cpu right : ℕ) (d : Directive) → cpu < cpus → cpu < 2 ^ 64 → CanBeWritten right d → IsRead hex cpus number cpu right d
 unfolding word_named
-line_read hex cpus number cpu right (Once (HLd ra)) below fits can = by_word hex cpus number cpu right (Once (HLd ra)) w.HLd below fits can.operands refl (refl, tt) refl refl (sym can.pair)
-line_read hex cpus number cpu right (Once (HSt ra value)) below fits can = by_word hex cpus number cpu right (Once (HSt ra value)) w.HSt below fits can.operands refl (refl, (refl, tt)) refl refl (sym can.pair)
+line_read hex cpus number cpu right (Once (HLd ra)) below fits can = by_word hex cpus number cpu right (Once (HLd ra)) w.HLd below fits can.operands refl refl (refl, tt) refl refl (sym can.pair)
+line_read hex cpus number cpu right (Once (HSt ra value)) below fits can = by_word hex cpus number cpu right (Once (HSt ra value)) w.HSt below fits can.operands refl refl (refl, (refl, tt)) refl refl (sym can.pair)
 line_read hex cpus number cpu right (Once (UPagein lpid src gpa flags order)) below fits can =
-    by_word hex cpus number cpu right (Once (UPagein lpid src gpa flags order)) w.UPagein below fits can.operands refl (refl, (refl, (refl, (refl, (refl, tt))))) refl refl (sym can.pair)
+    by_word hex cpus number cpu right (Once (UPagein lpid src gpa flags order)) w.UPagein below fits can.operands refl refl (refl, (refl, (refl, (refl, (refl, tt))))) refl refl (sym can.pair)
 line_read hex cpus number cpu right (Once (UPageout lpid dest gpa flags order)) below fits can =
-    by_word hex cpus number cpu right (Once (UPageout lpid dest gpa flags order)) w.UPageout below fits can.operands refl (refl, (refl, (refl, (refl, (refl, tt))))) refl refl (sym can.pair)
+    by_word hex cpus number cpu right (Once (UPageout lpid dest gpa flags order)) w.UPageout below fits can.operands refl refl (refl, (refl, (refl, (refl, (refl, tt))))) refl refl (sym can.pair)
 line_read hex cpus number cpu right (Once (UReturn r0 r2 outs)) below fits can =
     each_of 9 (λ (outs : List ℕ). AllByRecursion Fits (operands_of right (Once (UReturn r0 r2 outs))) → IsRead hex cpus number cpu right (Once (UReturn r0 r2 outs)))
     (λ a b c d e f g h i fit. by_word hex cpus number cpu right (Once (UReturn r0 r2 (a ∷ b ∷ c ∷ d ∷ e ∷ f ∷ g ∷ h ∷ i ∷ []))) w.UReturn below fits fit
-    refl (refl, (refl, (refl, (refl, (refl, (refl, (refl, (refl, (refl, (refl, (refl, tt))))))))))) refl refl (sym can.pair))
+    refl refl (refl, (refl, (refl, (refl, (refl, (refl, (refl, (refl, (refl, (refl, (refl, tt))))))))))) refl refl (sym can.pair))
     outs can.outputs can.operands
-line_read hex cpus number cpu right (Once (GLi rd value)) below fits can = by_word hex cpus number cpu right (Once (GLi rd value)) w.GLi below fits can.operands refl (refl, (refl, tt)) refl refl refl
-line_read hex cpus number cpu right (Once (GLd rd gpa)) below fits can = by_word hex cpus number cpu right (Once (GLd rd gpa)) w.GLd below fits can.operands refl (refl, (refl, tt)) refl refl (sym can.pair)
-line_read hex cpus number cpu right (Once (GSt rs gpa)) below fits can = by_word hex cpus number cpu right (Once (GSt rs gpa)) w.GSt below fits can.operands refl (refl, (refl, tt)) refl refl (sym can.pair)
-line_read hex cpus number cpu right (Once GIrq) below fits can = by_word hex cpus number cpu right (Once GIrq) w.GIrq below fits can.operands refl tt refl refl (sym can.pair)
-line_read hex cpus number cpu right (Once Go) below fits can = by_word hex cpus number cpu right (Once Go) w.Go below fits can.operands refl tt refl refl (sym can.pair)
-line_read hex cpus number cpu right GoAll below fits can = by_word hex cpus number cpu right GoAll w.GoAll below fits can.operands refl tt refl refl (sym can.pair)
+line_read hex cpus number cpu right (Once (GLi rd value)) below fits can = by_word hex cpus number cpu right (Once (GLi rd value)) w.GLi below fits can.operands refl refl (refl, (refl, tt)) refl refl refl
+line_read hex cpus number cpu right (Once (GLd rd gpa)) below fits can = by_word hex cpus number cpu right (Once (GLd rd gpa)) w.GLd below fits can.operands refl refl (refl, (refl, tt)) refl refl (sym can.pair)
+line_read hex cpus number cpu right (Once (GSt rs gpa)) below fits can = by_word hex cpus number cpu right (Once (GSt rs gpa)) w.GSt below fits can.operands refl refl (refl, (refl, tt)) refl refl (sym can.pair)
+line_read hex cpus number cpu right (Once GIrq) below fits can = by_word hex cpus number cpu right (Once GIrq) w.GIrq below fits can.operands refl refl tt refl refl (sym can.pair)
+line_read hex cpus number cpu right (Once Go) below fits can = by_word hex cpus number cpu right (Once Go) w.Go below fits can.operands refl refl tt refl refl (sym can.pair)
+line_read hex cpus number cpu right GoAll below fits can = by_word hex cpus number cpu right GoAll w.GoAll below fits can.operands refl refl tt refl refl (sym can.pair)
 
 pub each_line_is_read : EachLineIsRead
-each_line_is_read hex cpus l below fits can = line_read hex cpus l.line.number l.line.cpu l.right l.line.directive below fits can
+each_line_is_read hex cpus l below fits can = (line_read hex cpus l.line.number l.line.cpu l.right l.line.directive below fits can).reads
+
+-- and it is words
+pub line_is_words : (hex : Bool) (cpus : ℕ) (l : ReadLine) → l.line.cpu < cpus → l.line.cpu < 2 ^ 64 → CanBeWritten l.right l.line.directive → AllByRecursion IsWord (line_words hex l)
+line_is_words hex cpus l below fits can = (line_read hex cpus l.line.number l.line.cpu l.right l.line.directive below fits can).words

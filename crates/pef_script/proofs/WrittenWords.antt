@@ -1,16 +1,16 @@
--- Lemmas on words that are written: a number and a register are read again.
-use Rattle.std.proofs.Common.{◌≡◌, ◌≤◌, ◌<◌, ◌≢◌, ℕ, ◌+◌, ◌*◌, ◌/◌, ◌%◌, ◌^◌, Bool, true, false, cond, List, [], ◌∷◌, length, get_or, refl, sym, subst, arith, zero, suc}
-use Rattle.std.specs.Prelude.{Some, nat_eq, ◌==◌, codes}
-use Rattle.pef_model.specs.Plan.{IsWithin}
+-- Lemmas on words that are written: they are words, and a number and a register are read again.
+use Rattle.std.proofs.Common.{◌≡◌, ◌≤◌, ◌<◌, ◌≢◌, ℕ, ◌+◌, ◌*◌, ◌/◌, ◌%◌, ◌^◌, Bool, true, false, cond, ◌&&◌, List, [], ◌∷◌, ◌++◌, length, get_or, refl, sym, subst, arith, zero, suc}
+use Rattle.std.specs.Prelude.{Some, nat_eq, nat_lt, ◌==◌, codes}
 use Rattle.std.specs.Char.{digit_value, is_digit}
 use Rattle.std.specs.Fmt.{digits, decimal, digit_glyph, digits_onto}
-use Rattle.std.specs.List.{list_all, starts_with}
+use Rattle.std.specs.List.{list_all, starts_with, AllByRecursion}
 use Rattle.std.specs.Str.Parse.{AllDigits, digits_value}
-use Rattle.std.proofs.lemmas.Bool.{and_right, le-leb, lt-ltb, ne_eqb}
+use Rattle.std.proofs.lemmas.Bool.{and_parts, and_right, le-leb, lt-ltb, ltb-true, ltb-false, ne_eqb}
 use Rattle.std.proofs.lemmas.Bool.Decides.{nat_tests}
 use Rattle.std.proofs.lemmas.Nat.{div_below}
 use Rattle.std.proofs.lemmas.Fmt.{digits_is_IsNumeral, decimal_is_IsNumeral, length-decimal-le, decimal_digit, first_decimal}
-use Rattle.pef_model.specs.Words.{numeral_in, number_in, number_within, number_below, has_leading_zero, register_in}
+use Rattle.pef_model.specs.Words.{numeral_in, number_in, has_leading_zero, register_in}
+use Rattle.pef_script.specs.Token.{has_bytes}
 use Rattle.pef_script.specs.Written.{number_text, register_text}
 
 -- numbers of m + 1 hexadecimal digits are below this
@@ -88,10 +88,58 @@ pub register_reads : (r : ℕ) → r < 32 → register_in (register_text r) ≡ 
 register_reads r h =
     rw (no_leading_zero r h, decimal_reads 2 r (omega arith) (omega arith) (omega arith), lt-ltb r 32 h) refl
 
--- a number in its range is read again
-pub number_within_reads : (hex : Bool) (least greatest n : ℕ) → n < 2 ^ 64 → IsWithin least greatest n → number_within least greatest (number_text hex n) ≡ Some n
-number_within_reads hex least greatest n fits within = rw (number_reads hex n fits, le-leb least n within.0, le-leb n greatest within.1) refl
+-- each byte is above this one
+abbrev pub AllAbove : ℕ → List ℕ → Type 0
+AllAbove low xs = AllByRecursion (λ b. low < b) xs
 
--- a number below a limit is read again
-pub number_below_reads : (hex : Bool) (limit n : ℕ) → n < 2 ^ 64 → n < limit → number_below limit (number_text hex n) ≡ Some n
-number_below_reads hex limit n fits below = rw (number_reads hex n fits, lt-ltb n limit below) refl
+-- a word: it has a byte, and none is #, a space or an LF, since each is above #
+abbrev pub IsWord : List ℕ → Type 0
+IsWord word = (has_bytes word ≡ true) × AllAbove 35 word
+
+-- each byte is above one that a test finds below each
+pub above_tested : (low : ℕ) (xs : List ℕ) → list_all (λ b. nat_lt low b) xs ≡ true → AllAbove low xs
+above_tested low [] e = tt
+above_tested low (x ∷ xs) e =
+    let parts = and_parts (nat_lt low x) (list_all (λ b. nat_lt low b) xs) e in
+    (ltb-true low x parts.0, above_tested low xs parts.1)
+
+-- whether a text is a word
+abbrev pub is_word : List ℕ → Bool
+is_word word = has_bytes word && list_all (λ b. nat_lt 35 b) word
+
+pub word_tested : (word : List ℕ) → is_word word ≡ true → IsWord word
+word_tested word e =
+    let parts = and_parts (has_bytes word) (list_all (λ b. nat_lt 35 b) word) e in
+    (parts.0, above_tested 35 word parts.1)
+
+some_bytes : (xs : List ℕ) → 0 < length xs → has_bytes xs ≡ true
+some_bytes [] h = absurd (omega arith)
+some_bytes (x ∷ xs) h = refl
+
+-- more behind a word's bytes
+pub more_bytes : (xs ys : List ℕ) → has_bytes xs ≡ true → has_bytes (xs ++ ys) ≡ true
+more_bytes [] ys h = absurd (cc)
+more_bytes (x ∷ xs) ys h = refl
+
+digit_above_test : (test : Bool) (c other : ℕ) → test ≡ nat_lt c 48 → cond test 36 other < 36 → 35 < c
+digit_above_test true c other e h = absurd (omega arith)
+digit_above_test false c other e h = omega (arith, ltb-false c 48 (sym e))
+
+-- digits are above #
+digits_above : (radix : ℕ) (ds : List ℕ) → radix ≤ 36 → AllDigits radix ds → AllAbove 35 ds
+digits_above radix [] le h = tt
+digits_above radix (d ∷ ds) le h =
+    let less : digit_value d < 36 = omega (arith, h.0) in
+    (digit_above_test (nat_lt d 48) d _ refl less, digits_above radix ds le h.1)
+
+-- a number is a word
+pub number_word : (hex : Bool) (n : ℕ) → n < 2 ^ 64 → IsWord (number_text hex n)
+number_word true n fits =
+    (refl, (omega arith, (omega arith, digits_above 16 (digits 16 false n) (omega arith) (digits_is_IsNumeral 16 false (omega arith) (omega arith) n (omega arith)).0.1)))
+number_word false n fits =
+    let numeral = decimal_is_IsNumeral n fits in
+    (some_bytes (decimal n) numeral.0.0, digits_above 10 (decimal n) (omega arith) numeral.0.1)
+
+-- and so is a register
+pub register_word : (r : ℕ) → r < 32 → IsWord (register_text r)
+register_word r h = (refl, (omega arith, digits_above 10 (decimal r) (omega arith) (decimal_is_IsNumeral r (omega arith)).0.1))

@@ -1,5 +1,5 @@
 -- How a script is written: each line is its words, parted by one space, and ends in LF.
-use Rattle.std.specs.Prelude.{◌≡◌, ℕ, ◌^◌, ◌<◌, ◌==◌, Bool, false, if◌then◌else◌, List, [], ◌∷◌, ◌++◌, length, map, codes}
+use Rattle.std.specs.Prelude.{◌≡◌, ℕ, ◌+◌, ◌^◌, ◌<◌, ◌==◌, Bool, false, if◌then◌else◌, List, [], ◌∷◌, ◌++◌, length, map, codes}
 use Rattle.std.specs.List.{AllByRecursion, flat_map, join_with_byte}
 use Rattle.std.specs.Fmt.{digits, decimal}
 use Rattle.hex.specs.Hex.{IsBytes, encode_lower}
@@ -24,7 +24,7 @@ register_text r = codes "r" ++ decimal r
 
 -- a pair, whose number is written once where both are the same
 abbrev pub pair_text : Bool → ℕ → ℕ → List ℕ
-pair_text hex left right = if left == right then number_text hex left else number_text hex left ++ codes "|" ++ number_text hex right
+pair_text hex left right = if left == right then number_text hex left else number_text hex left ++ (codes "|" ++ number_text hex right)
 
 -- an operand of a command
 pub data Operand : Type 0 where
@@ -85,3 +85,70 @@ pub record CanBeWritten (right : ℕ) (d : Directive) : Type 0 where
 -- a command line's words: its CPU, the directive's name, its operands
 abbrev pub line_words : Bool → ReadLine → List (List ℕ)
 line_words hex l = number_text hex l.line.cpu ∷ name_of l.line.directive ∷ map (operand_text hex) (operands_of l.right l.line.directive)
+
+-- a seal by its name
+abbrev pub seal_text : Bool → List ℕ
+seal_text vault = if vault then codes "vault" else codes "stream"
+
+-- the entropy words of a guest
+pub record GuestWords : Type 0 where
+  pub lpid : ℕ
+  pub words : List EntropyWord
+
+-- a word in front of those of guests: it is with those of its guest, where they come first
+abbrev pub onto_guests : EntropyWord → List GuestWords → List GuestWords
+onto_guests word [] = record { lpid = word.lpid; words = word ∷ [] } ∷ []
+onto_guests word (g ∷ more) =
+    if g.lpid == word.lpid
+    then record { lpid = g.lpid; words = word ∷ g.words } ∷ more
+    else record { lpid = word.lpid; words = word ∷ [] } ∷ g ∷ more
+
+-- the words of each guest that has some
+abbrev pub by_guest : List EntropyWord → List GuestWords
+by_guest [] = []
+by_guest (word ∷ words) = onto_guests word (by_guest words)
+
+-- the words of the line of a guest that is secure from the start
+abbrev pub born_words : Bool → ℕ → List (List ℕ)
+born_words hex lpid = codes "born" ∷ number_text hex lpid ∷ []
+
+-- and of that of a guest's entropy words
+abbrev pub entropy_words : Bool → GuestWords → List (List ℕ)
+entropy_words hex g = codes "entropy" ∷ number_text hex g.lpid ∷ map (λ (word : EntropyWord). pair_text hex word.left word.right) g.words
+
+-- the words of the lines before the commands: the first line, each configuration line, `begin`
+abbrev pub header_words : Bool → Config → List (List (List ℕ))
+header_words hex config =
+    (codes "pef" ∷ codes "1" ∷ [])
+    ∷ (codes "shift" ∷ number_text hex config.shift ∷ [])
+    ∷ (codes "normal" ∷ number_text hex config.normal ∷ [])
+    ∷ (codes "secure" ∷ number_text hex config.secure ∷ [])
+    ∷ (codes "cpus" ∷ number_text hex config.cpus ∷ [])
+    ∷ (codes "guests" ∷ number_text hex config.guests ∷ [])
+    ∷ (codes "vcpus" ∷ number_text hex config.vcpus ∷ [])
+    ∷ (codes "pages" ∷ number_text hex config.pages ∷ [])
+    ∷ (codes "seal" ∷ seal_text config.vault ∷ [])
+    ∷ (codes "key" ∷ encode_lower config.key ∷ [])
+    ∷ (map (born_words hex) config.born ++ (map (entropy_words hex) (by_guest config.entropy) ++ (codes "begin" ∷ []) ∷ []))
+
+-- the text of a line's words
+abbrev pub words_text : List (List ℕ) → List ℕ
+words_text words = join_with_byte 32 words ++ codes "\n"
+
+-- the text of a script
+abbrev pub script_text : Bool → ReadScript → List ℕ
+script_text hex s = flat_map words_text (header_words hex s.config ++ map (line_words hex) s.lines)
+
+-- the lines' numbers count up from this one
+abbrev pub CountsFrom : ℕ → List ReadLine → Type 0
+CountsFrom number [] = Unit {0}
+CountsFrom number (l ∷ more) = (l.line.number ≡ number) × CountsFrom (number + 1) more
+
+-- a script that can be written: its configuration is in its ranges, with a key of 32 bytes and entropy words below 2^64, and its lines follow one another behind `begin`, each one of a CPU with a directive that can be written
+pub record IsWritable (hex : Bool) (s : ReadScript) : Type 0 where
+  pub range : IsInRange s.config
+  pub key : (length s.config.key ≡ 32) × IsBytes s.config.key
+  pub words : AllByRecursion (λ (word : EntropyWord). (word.left < 2 ^ 64) × (word.right < 2 ^ 64)) s.config.entropy
+  pub counts : CountsFrom (length (header_words hex s.config) + 1) s.lines
+  pub cpus : AllByRecursion (λ (l : ReadLine). l.line.cpu < s.config.cpus) s.lines
+  pub directives : AllByRecursion (λ (l : ReadLine). CanBeWritten l.right l.line.directive) s.lines

@@ -2,7 +2,7 @@
 
 ghost use Rattle.pef_script.specs.FaultLaw.{SomeFaults};
 ghost use Rattle.pef_script.specs.Script.{FaultWhereNothingReads, ReadsScripts};
-ghost use Rattle.pef_script.specs.WrittenLaw.{EachLineIsRead};
+ghost use Rattle.pef_script.specs.WrittenLaw.{EachLineIsRead, ReadsWhatIsWritten};
 
 /// A text has a faulty line exactly where it reads as nothing.
 pub fn fault_where_nothing_reads()
@@ -22,4 +22,9 @@ pub fn reads_scripts()
 /// The words that are written for a command line are read as it, with numbers in decimal or hexadecimal.
 pub fn each_line_is_read()
     ensures { EachLineIsRead }
+{}
+
+/// The text that is written for a script reads as it, with numbers in decimal or hexadecimal.
+pub fn reads_what_is_written()
+    ensures { ReadsWhatIsWritten }
 {}
