@@ -40,7 +40,6 @@ use Rattle.pef_core.specs.Steps.{Continues}
 use Rattle.pef_core.specs.Refused.{OnCpu, ChangesGuest, RefusesPage, LeavesRest}
 use Rattle.pef_core.specs.Does.{Targets, DoesStep}
 use Rattle.pef_core.proofs.Entries.{entry_at}
-use Rattle.pef_core.proofs.Touching.{share_guest}
 use Rattle.pef_core.proofs.Continuing.{mark_at, makes_at_guest}
 use Rattle.pef_core.proofs.Places.{get_set, guest_below, vcpu_below, phase_lets, sized}
 use Rattle.pef_core.proofs.WholeAfter.{whole_guest, once_stays, vcpu_stays}
@@ -237,8 +236,9 @@ module _ {S : Type 0} (takes : S → ℕ → ℕ → Type 0) (old : State S) (n 
         let is : next_entry plan past mark cmd ≡ e =
         entry_at plan past mark cmd (ask_of c cmd) (AtGuest (i + 1)) refl aimed ∙ ap (λ (free : ℕ). entry_of (ask_of c cmd) mark cmd (deed_guest plan g found (nat_lt 0 free) (ask_of c cmd) cmd)) (sym fits.free) in
         let clear : clashes g.part e ≡ false = ap (clashes_at (λ lpid. (guest_after plan lpid past).part) e) (sym aimed) ∙ ap (is_clash plan past) (sym is) ∙ clean in
+        let row = does.row plan g found c mark (sym s.is_cpu.number) (fits.guests i guest s.here) shows tt clear in
         makes_at_guest stands image old n below cpu s.there plan past line place stamp fits cmd e is command new_cpu i guest new_guest pool a s.here (λ lpid. ap (is_guest lpid) aimed)
-        (share_guest plan g found (is_any_free old.pool) (ask_of c cmd) c.ctx cmd).0 (does.row plan g found c mark (sym s.is_cpu.number) (fits.guests i guest s.here) shows clear)
+        row.1 row.0
 
     -- its CPU alone changes, and counts of steps
     cpu_only : (P : Cpu → Cpu → Type 0) → P cpu new_cpu → SameGuest guest new_guest → pool ≡ old.pool → OnCpu n P old.cpus (slice_set old.cpus n new_cpu) old.guests (slice_set old.guests i new_guest) old.pool pool old.normal old.normal

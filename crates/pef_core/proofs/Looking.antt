@@ -19,7 +19,7 @@ use Rattle.pef_core.specs.Steps.{Fits}
 use Rattle.pef_core.specs.Does.{Targets}
 use Rattle.pef_core.specs.Did.{pool_seen, LooksAt}
 use Rattle.pef_core.proofs.Continuing.{mark_at}
-use Rattle.pef_core.proofs.Touching.{IsShareOf}
+use Rattle.pef_guest.proofs.Deeds.{IsShareOf}
 
 -- what a step did with the pool is told by the numbers of free frames before and after it
 pub told_by_numbers : (free free_new : ℕ) (o : Option PoolSaw) → IsShareOf (nat_lt 0 free) o → free_new ≡ pool_with free o → pool_seen (is_some o) free free_new ≡ o

@@ -35,7 +35,7 @@ use Rattle.pef_core.proofs.Moving.{Site}
 use Rattle.pef_core.proofs.AtGuest.{named, in_range, ready_for}
 use Rattle.pef_core.proofs.OtherAims.{unpooled, framed}
 use Rattle.pef_core.proofs.Looking.{told_by_numbers, looks_at}
-use Rattle.pef_core.proofs.Touching.{IsShareOf, share_guest}
+use Rattle.pef_guest.proofs.Deeds.{IsShareOf, share_guest}
 
 -- what a step at a guest needs is no normal frame
 no_frame : (wanted : Want) → None ≡ frame_wanted wanted

@@ -1,5 +1,5 @@
 -- What the rows of steps at a guest have in common.
-use Rattle.std.proofs.Common.{◌≡◌, ℕ, ◌+◌, ◌<◌, ◌==◌, Bool, true, false, if◌then◌else◌, List, [], length, refl, ap, sym, subst, ◌∙◌, inl, arith}
+use Rattle.std.proofs.Common.{◌≡◌, ℕ, ◌+◌, ◌<◌, ◌==◌, Bool, true, false, if◌then◌else◌, List, [], length, None, refl, ap, sym, subst, ◌∙◌, inl, arith}
 use Rattle.std.proofs.lemmas.Bool.Decides.{nat_tests}
 use Rattle.pef_model.specs.declared.state.Run.{Run}
 use Rattle.pef_model.specs.declared.state.Tag.{Tag}
@@ -27,7 +27,8 @@ use Rattle.pef_guest.specs.Ready.{IsRunning, KeepsOwn, WorksAt}
 use Rattle.pef_guest.specs.Refused.{RefusesCpu, ChangesNothing, Refuses}
 use Rattle.pef_guest.specs.Rows.{RowWithPool, ask_hypervisor, ask_running, entry_running}
 use Rattle.pef_guest.specs.Shows.{ShowsCpu, Shows}
-use Rattle.pef_guest.specs.Does.{is_any_free, MakesEntry, DoesRow}
+use Rattle.pef_guest.specs.Does.{is_any_free, entry_at_guest, MakesEntry, DoesRow}
+use Rattle.pef_guest.proofs.Deeds.{share_guest}
 use Rattle.pef_guest.proofs.OneVcpu.{with_step, keeps_guest, whole_vcpu}
 
 -- what a step learns of a CPU on which the hypervisor runs
@@ -54,11 +55,16 @@ module _ {S : Type 0} (takes : S → ℕ → ℕ → Type 0) (stands : S → Tag
   RowAsked plan g found c mark ask =
       RowWithPool stands image plan g c (entry_of ask mark cmd (deed_guest plan g found (is_any_free pool) ask cmd)) new cpu_new (length pool.free) (length pool_new.free) a
 
+  -- no step at a guest touches a normal frame
+  pub tells_none : (plan : Plan) (g : GuestWhole) (found : ℕ → ℕ → ℕ) (c : CpuPart) (mark : Mark) → (entry_at_guest plan g found (is_any_free pool) c mark cmd).saw.frame ≡ None
+  tells_none plan g found c mark = (share_guest plan g found (is_any_free pool) (ask_of c cmd) c.ctx cmd).0
+
   -- a command of the hypervisor
   pub makes_hypervisor : cpu.ctx ≡ ctx.Hv →
       ((plan : Plan) (g : GuestWhole) (found : ℕ → ℕ → ℕ) (c : CpuPart) (mark : Mark) → mark.cpu ≡ cpu.number → Shows stands image plan old g → ShowsCpu cpu c → RowAsked plan g found c mark (ask_hypervisor c)) →
       MakesEntry takes stands image cmd old new cpu cpu_new pool pool_new a
-  makes_hypervisor hv does plan g found c mark marked shows shows_cpu clean = subst (RowAsked plan g found c mark) (sym (ask_in_hypervisor c cmd (sym shows_cpu.ctx ∙ hv))) (does plan g found c mark marked shows shows_cpu)
+  makes_hypervisor hv does plan g found c mark marked shows shows_cpu none clean =
+      (subst (RowAsked plan g found c mark) (sym (ask_in_hypervisor c cmd (sym shows_cpu.ctx ∙ hv))) (does plan g found c mark marked shows shows_cpu), tells_none plan g found c mark)
 
   module _ (run : Run) (running : cpu.ctx ≡ ctx.Guest run) where
     -- a command of a vCPU, by whether it is in its guest's generation
@@ -70,9 +76,11 @@ module _ {S : Type 0} (takes : S → ℕ → ℕ → Type 0) (stands : S → Tag
     makes_in : (b : Bool) → ((life : ℕ) → old.generation ≡ life → (run.generation == life) ≡ b) →
         ((plan : Plan) (g : GuestWhole) (found : ℕ → ℕ → ℕ) (c : CpuPart) (mark : Mark) → Shows stands image plan old g → ShowsCpu cpu c → RowIn plan g found c mark b) →
         MakesEntry takes stands image cmd old new cpu cpu_new pool pool_new a
-    makes_in b test does plan g found c mark marked shows shows_cpu clean =
-        subst (RowAsked plan g found c mark) (sym (ask_in_guest c run cmd (sym shows_cpu.ctx ∙ running)))
-        (subst (RowIn plan g found c mark) (sym (test g.part.generation shows.generation)) (does plan g found c mark shows shows_cpu))
+    makes_in b test does plan g found c mark marked shows shows_cpu none clean = (
+      subst (RowAsked plan g found c mark) (sym (ask_in_guest c run cmd (sym shows_cpu.ctx ∙ running)))
+          (subst (RowIn plan g found c mark) (sym (test g.part.generation shows.generation)) (does plan g found c mark shows shows_cpu)),
+      tells_none plan g found c mark,
+    )
 
     pub makes_running : run.generation ≡ old.generation →
         ((plan : Plan) (g : GuestWhole) (found : ℕ → ℕ → ℕ) (c : CpuPart) (mark : Mark) → Shows stands image plan old g → ShowsCpu cpu c →

@@ -2,4 +2,5 @@ pub mod Loading
 pub mod OnePage
 pub mod Wholes
 pub mod OneVcpu
+pub mod Deeds
 pub mod Asked

@@ -28,7 +28,7 @@ use Rattle.pef_guest.specs.Rows.{ask_hypervisor, ask_inward, ask_outward}
 use Rattle.pef_guest.specs.Ready.{KeepsOwn, WorksAt}
 use Rattle.pef_guest.specs.Refused.{BackWith}
 use Rattle.pef_guest.specs.Does.{is_any_free, entry_at_guest, MakesEntry}
-use Rattle.pef_guest.proofs.Asked.{RowAsked, makes_hypervisor}
+use Rattle.pef_guest.proofs.Asked.{RowAsked, tells_none, makes_hypervisor}
 use Rattle.pef_move.specs.declared.page_call.PageCall.{PageCall}
 use Rattle.pef_move.specs.PageOut.{KeepsCpu, BeginsPageOut, EndsPageOut}
 use Rattle.pef_move.specs.PageIn.{BeginsPageIn, EndsPageIn}
@@ -97,11 +97,15 @@ module _ {S : Type 0} (takes : S → ℕ → ℕ → Type 0) (stands : S → Tag
   in_begins call hv does = makes_hypervisor takes stands image (UPagein call.lpid call.ra call.gpa call.flags call.order) old new cpu cpu_new pool pool_new a hv (λ plan g found c mark marked shows shows_cpu. does plan g c mark marked shows shows_cpu)
 
   pub out_ends : (move : Move) → cpu.ctx ≡ ctx.Uv (Outward move) → EndsPageOut stands image move old new cpu cpu_new pool pool_new a → MakesEntry takes stands image Go old new cpu cpu_new pool pool_new a
-  out_ends move working does plan g found c mark marked shows shows_cpu clean =
-      subst (RowAsked takes stands image Go old new cpu cpu_new pool pool_new a plan g found c mark) (sym (ask_in_outward c move (sym shows_cpu.ctx ∙ working))) (does plan g c mark shows shows_cpu)
+  out_ends move working does plan g found c mark marked shows shows_cpu none clean = (
+    subst (RowAsked takes stands image Go old new cpu cpu_new pool pool_new a plan g found c mark) (sym (ask_in_outward c move (sym shows_cpu.ctx ∙ working))) (does plan g c mark shows shows_cpu),
+    tells_none takes stands image Go old new cpu cpu_new pool pool_new a plan g found c mark,
+  )
 
   pub in_ends : (move : Move) → cpu.ctx ≡ ctx.Uv (Inward move) → move.copied ≡ true → EndsPageIn stands image move old new cpu cpu_new pool pool_new a → MakesEntry takes stands image Go old new cpu cpu_new pool pool_new a
-  in_ends move working copied does plan g found c mark marked shows shows_cpu clean =
-      let is = sym shows_cpu.ctx ∙ working in
-      subst (RowAsked takes stands image Go old new cpu cpu_new pool pool_new a plan g found c mark) (sym (ask_in_inward c move is copied))
-      (does plan g c mark shows shows_cpu (clean_end plan g found (is_any_free pool) c mark move is copied clean))
+  in_ends move working copied does plan g found c mark marked shows shows_cpu none clean =
+      let is = sym shows_cpu.ctx ∙ working in (
+        subst (RowAsked takes stands image Go old new cpu cpu_new pool pool_new a plan g found c mark) (sym (ask_in_inward c move is copied))
+            (does plan g c mark shows shows_cpu (clean_end plan g found (is_any_free pool) c mark move is copied clean)),
+        tells_none takes stands image Go old new cpu cpu_new pool pool_new a plan g found c mark,
+      )

@@ -1,6 +1,7 @@
 use Rattle.std.proofs.Common.{◌∙◌}
 use Rattle.pef_model.specs.History.{ask_of}
-use Rattle.pef_core.proofs.Touching.{share_guest, wants_uses}
+use Rattle.pef_guest.proofs.Deeds.{share_guest}
+use Rattle.pef_core.proofs.Touching.{wants_uses}
 use Rattle.pef_core.proofs.lent.needs.Goals as goal
 
 -- no step at a guest touches a normal frame
