@@ -13,7 +13,7 @@ use Rattle.pef_model.specs.declared.entry.Answer.{Answer}
 use Rattle.pef_model.specs.declared.entry.Answer.TheVariants as answer
 use Rattle.pef_model.specs.Plan.{Plan}
 use Rattle.pef_model.specs.Event.{Mark}
-use Rattle.pef_model.specs.Registers.{load_page_out, with_code}
+use Rattle.pef_model.specs.Registers.{loaded, with_code}
 use Rattle.pef_model.specs.Target.{frame_of}
 use Rattle.pef_model.specs.Cpu.{CpuPart}
 use Rattle.pef_model.specs.GuestPart.{page_of, begun_out, with_page_leaving}
@@ -40,14 +40,14 @@ use Rattle.pef_move.proofs.Begun.{page, cell_is, guest_is}
 
 module _ {S : Type 0} (stands : S → Tag → List ℕ → List ℕ → Type 0) (image : S → Tag → List ℕ → List ℕ) (takes : S → ℕ → ℕ → Type 0) (plan : Plan) (g : GuestWhole) (c : CpuPart) (mark : Mark) (old : Guest S) (cpu : Cpu) (call : PageCall)
     (shows : Shows stands image plan old g) (shows_cpu : ShowsCpu cpu c) (runs : cpu.ctx ≡ ctx.Hv) (gpr : List ℕ)
-    (loads : gpr ≡ load_page_out cpu.gpr call.lpid call.ra call.gpa call.flags call.order) where
+    (loads : gpr ≡ loaded cpu.gpr (UPageout call.lpid call.ra call.gpa call.flags call.order)) where
   -- the command
   abbrev command : Cmd
   command = UPageout call.lpid call.ra call.gpa call.flags call.order
 
   -- the registers that the call loads
-  abbrev loaded : List ℕ → List ℕ
-  loaded own = load_page_out own call.lpid call.ra call.gpa call.flags call.order
+  abbrev loads_into : List ℕ → List ℕ
+  loads_into own = loaded own (UPageout call.lpid call.ra call.gpa call.flags call.order)
 
   -- the row of the call, by its code
   abbrev RowBy : Option Code → Guest S → Cpu → Answer → Type 0
@@ -68,7 +68,7 @@ module _ {S : Type 0} (stands : S → Tag → List ℕ → List ℕ → Type 0) 
         guest = shows_counted stands image plan old g (old.steps + 1) shows;
         cpu_is = record {
           ctx = runs;
-          own = ap (λ (own : List ℕ). with_code own one) (loads ∙ ap loaded shows_cpu.own);
+          own = ap (λ (own : List ℕ). with_code own one) (loads ∙ ap loads_into shows_cpu.own);
           lpid = shows_cpu.lpid;
           vid = shows_cpu.vid;
           last = refl;
@@ -161,7 +161,7 @@ module _ {S : Type 0} (stands : S → Tag → List ℕ → List ℕ → Type 0) 
               old.pages.order g.part.order new.sealer (old.steps + 1) _ shows is.below shown));
           cpu_is = record {
             ctx = ap (λ (one : Cpu). one.ctx) begun.cpu_is ∙ (λ i. ctx.Uv (Outward (record { lpid = sym named i; generation = shows.generation i; gfn = gfn_is i; frame = frame_is i; copied = false })));
-            own = ap (λ (one : Cpu). one.gpr) begun.cpu_is ∙ loads ∙ ap loaded shows_cpu.own;
+            own = ap (λ (one : Cpu). one.gpr) begun.cpu_is ∙ loads ∙ ap loads_into shows_cpu.own;
             lpid = ap (λ (one : Cpu). one.lpid) begun.cpu_is ∙ shows_cpu.lpid;
             vid = ap (λ (one : Cpu). one.vid) begun.cpu_is ∙ shows_cpu.vid;
             last = ap (λ (one : Cpu). one.last) begun.cpu_is;

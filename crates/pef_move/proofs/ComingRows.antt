@@ -13,7 +13,7 @@ use Rattle.pef_model.specs.declared.entry.Answer.{Answer}
 use Rattle.pef_model.specs.declared.entry.Answer.TheVariants as answer
 use Rattle.pef_model.specs.Plan.{Plan}
 use Rattle.pef_model.specs.Event.{Mark}
-use Rattle.pef_model.specs.Registers.{load_page_in, with_code}
+use Rattle.pef_model.specs.Registers.{loaded, with_code}
 use Rattle.pef_model.specs.Target.{frame_of}
 use Rattle.pef_model.specs.Cpu.{CpuPart}
 use Rattle.pef_model.specs.GuestPart.{page_of, begun_in, with_page_coming}
@@ -38,14 +38,14 @@ use Rattle.pef_move.proofs.Coming.{page, out, cell_is, coming, first_is}
 
 module _ {S : Type 0} (stands : S → Tag → List ℕ → List ℕ → Type 0) (image : S → Tag → List ℕ → List ℕ) (plan : Plan) (g : GuestWhole) (c : CpuPart) (mark : Mark) (old : Guest S) (cpu : Cpu) (call : PageCall) (pool : PoolState)
     (shows : Shows stands image plan old g) (shows_cpu : ShowsCpu cpu c) (runs : cpu.ctx ≡ ctx.Hv) (gpr : List ℕ)
-    (loads : gpr ≡ load_page_in cpu.gpr call.lpid call.ra call.gpa call.flags call.order) where
+    (loads : gpr ≡ loaded cpu.gpr (UPagein call.lpid call.ra call.gpa call.flags call.order)) where
   -- the command
   abbrev command : Cmd
   command = UPagein call.lpid call.ra call.gpa call.flags call.order
 
   -- the registers that the call loads
-  abbrev loaded : List ℕ → List ℕ
-  loaded own = load_page_in own call.lpid call.ra call.gpa call.flags call.order
+  abbrev loads_into : List ℕ → List ℕ
+  loads_into own = loaded own (UPagein call.lpid call.ra call.gpa call.flags call.order)
 
   -- the row of the call, by the code of its operands and by whether a frame is free
   abbrev RowBy : Option Code → Bool → Guest S → Cpu → ℕ → Answer → Type 0
@@ -77,10 +77,10 @@ module _ {S : Type 0} (stands : S → Tag → List ℕ → List ℕ → Type 0) 
   shows_same = shows_counted stands image plan old g (old.steps + 1) shows
 
   -- it shows the model's
-  shows_back : (one : Code) → ShowsCpu (cpu_back one) (record c { ctx = ctx.Hv; own = with_code (loaded c.own) one; last = answer.Ret one })
+  shows_back : (one : Code) → ShowsCpu (cpu_back one) (record c { ctx = ctx.Hv; own = with_code (loads_into c.own) one; last = answer.Ret one })
   shows_back one = record {
     ctx = runs;
-    own = ap (λ (own : List ℕ). with_code own one) (loads ∙ ap loaded shows_cpu.own);
+    own = ap (λ (own : List ℕ). with_code own one) (loads ∙ ap loads_into shows_cpu.own);
     lpid = shows_cpu.lpid;
     vid = shows_cpu.vid;
     last = refl;
@@ -157,7 +157,7 @@ module _ {S : Type 0} (stands : S → Tag → List ℕ → List ℕ → Type 0) 
                 old.pages.order g.part.order old.sealer (old.steps + 1) _ shows is.below shown);
             cpu_is = record {
               ctx = λ i. ctx.Uv (Inward (record { lpid = sym named i; generation = shows.generation i; gfn = gfn_is i; frame = frame_is i; copied = false }));
-              own = loads ∙ ap loaded shows_cpu.own;
+              own = loads ∙ ap loads_into shows_cpu.own;
               lpid = shows_cpu.lpid;
               vid = shows_cpu.vid;
               last = refl;

@@ -7,7 +7,7 @@ use Rattle.pef_model.specs.declared.entry.Answer.{Answer}
 use Rattle.pef_model.specs.declared.entry.Answer.TheVariants as answer
 use Rattle.pef_model.specs.Plan.{Plan}
 use Rattle.pef_model.specs.Event.{Event, Mark}
-use Rattle.pef_model.specs.Registers.{load_page_in, with_code}
+use Rattle.pef_model.specs.Registers.{loaded, with_code}
 use Rattle.pef_model.specs.Cpu.{CpuPart, next_cpu}
 use Rattle.pef_model.specs.Guest.{Guest as GuestWhole}
 use Rattle.pef_model.specs.Deed.{deed_page_in, deed_page_in_copy, deed_page_in_end}
@@ -25,7 +25,7 @@ use Rattle.pef_move.specs.declared.page_call.PageCall.{PageCall}
 -- a call that comes back at once changes its caller's registers and last answer, and nothing else but a count of steps
 abbrev pub RefusesPageIn : {S : Type 0} → PageCall → Guest S → Guest S → Cpu → Cpu → PoolState → PoolState → Answer → Type 0
 RefusesPageIn call old new cpu cpu_new pool pool_new (answer.Ret code) =
-    (cpu_new ≡ record cpu { gpr = with_code (load_page_in cpu.gpr call.lpid call.ra call.gpa call.flags call.order) code; last = answer.Ret code }) × RefusesCpu cpu cpu_new code × SameGuest old new × (pool_new ≡ pool)
+    (cpu_new ≡ record cpu { gpr = with_code (loaded cpu.gpr (UPagein call.lpid call.ra call.gpa call.flags call.order)) code; last = answer.Ret code }) × RefusesCpu cpu cpu_new code × SameGuest old new × (pool_new ≡ pool)
 RefusesPageIn call old new cpu cpu_new pool pool_new answer.Step = Unit {0}
 RefusesPageIn call old new cpu cpu_new pool pool_new other = ⊥
 

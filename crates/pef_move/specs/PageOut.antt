@@ -7,7 +7,7 @@ use Rattle.pef_model.specs.declared.entry.Answer.{Answer}
 use Rattle.pef_model.specs.declared.entry.Answer.TheVariants as answer
 use Rattle.pef_model.specs.Plan.{Plan}
 use Rattle.pef_model.specs.Event.{Event, Mark}
-use Rattle.pef_model.specs.Registers.{load_page_out, with_code}
+use Rattle.pef_model.specs.Registers.{loaded, with_code}
 use Rattle.pef_model.specs.Cpu.{CpuPart, next_cpu}
 use Rattle.pef_model.specs.Guest.{Guest as GuestWhole}
 use Rattle.pef_model.specs.Memory.{next_frame}
@@ -34,7 +34,7 @@ pub record KeepsCpu (old new : Cpu) : Type 0 where
 -- a call that comes back at once changes its caller's registers and last answer, and nothing else but a count of steps
 abbrev pub RefusesCall : {S : Type 0} → PageCall → Guest S → Guest S → Cpu → Cpu → Answer → Type 0
 RefusesCall call old new cpu cpu_new (answer.Ret code) =
-    (cpu_new ≡ record cpu { gpr = with_code (load_page_out cpu.gpr call.lpid call.ra call.gpa call.flags call.order) code; last = answer.Ret code }) × RefusesCpu cpu cpu_new code × SameGuest old new
+    (cpu_new ≡ record cpu { gpr = with_code (loaded cpu.gpr (UPageout call.lpid call.ra call.gpa call.flags call.order)) code; last = answer.Ret code }) × RefusesCpu cpu cpu_new code × SameGuest old new
 RefusesCall call old new cpu cpu_new answer.Step = Unit {0}
 RefusesCall call old new cpu cpu_new other = ⊥
 

@@ -11,7 +11,5 @@ mod route;
 pub use asks::{asks_for_frame, gives_frame_back, refuses_page};
 pub use late::{end_late, is_late};
 pub use page_call::PageCall;
-pub use page_in::{
-    page_in_begin, page_in_copy, page_in_end, page_in_end_refused, page_in_of_none, page_in_refused,
-};
-pub use page_out::{page_out_begin, page_out_copy, page_out_end, page_out_of_none};
+pub use page_in::{page_in_begin, page_in_copy, page_in_end, page_in_end_refused, page_in_refused};
+pub use page_out::{page_out_begin, page_out_copy, page_out_end};

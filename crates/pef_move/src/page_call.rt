@@ -1,6 +1,8 @@
 //! A call that moves a page has five operands.
 
-ghost use Rattle.std.specs.Prelude.{◌≡◌, ◌∷◌, []};
+ghost use Rattle.std.specs.Prelude.{◌≡◌};
+
+use pef_model::Cmd;
 
 /// The operands of a call that moves a page.
 #[derive(Clone, Copy, Debug, PartialEq, Eq)]
@@ -17,10 +19,29 @@ pub struct PageCall {
 }
 
 impl PageCall {
-    /// The operands, in the order of their registers.
-    pub(crate) fn operands(&self) -> [u64; 5]
-        ensures { result ≡ self.now.lpid ∷ self.now.ra ∷ self.now.gpa ∷ self.now.flags ∷ self.now.order ∷ [] }
+    /// UV_PAGE_IN with these operands.
+    pub(crate) fn page_in(&self) -> Cmd
+        ensures { result ≡ Cmd.UPagein self.now.lpid self.now.ra self.now.gpa self.now.flags self.now.order }
     {
-        [self.lpid, self.ra, self.gpa, self.flags, self.order]
+        Cmd::UPagein {
+            lpid: self.lpid,
+            src: self.ra,
+            gpa: self.gpa,
+            flags: self.flags,
+            order: self.order,
+        }
+    }
+
+    /// UV_PAGE_OUT with these operands.
+    pub(crate) fn page_out(&self) -> Cmd
+        ensures { result ≡ Cmd.UPageout self.now.lpid self.now.ra self.now.gpa self.now.flags self.now.order }
+    {
+        Cmd::UPageout {
+            lpid: self.lpid,
+            dest: self.ra,
+            gpa: self.gpa,
+            flags: self.flags,
+            order: self.order,
+        }
     }
 }

@@ -9,8 +9,7 @@ ghost use Rattle.pef_model.specs.PageIn.{page_in_operands};
 ghost use Rattle.pef_pages.specs.Cells.{way_of};
 ghost use Rattle.pef_pages.specs.Pages.{mover_at, frame_at, digest_at};
 ghost use Rattle.pef_guest.specs.Shows.{Shows, digest_by};
-ghost use Rattle.pef_model.specs.Registers.{load_page_in, with_code};
-ghost use Rattle.pef_guest.specs.Refused.{RefusesCpu, BackWith, PutsBack};
+ghost use Rattle.pef_guest.specs.Refused.{BackWith, PutsBack};
 ghost use Rattle.pef_guest.specs.Does.{DoesRow};
 ghost use Rattle.pef_model.specs.declared.command.Cmd.{Cmd};
 ghost use Rattle.pef_guest.specs.Whole.{IsFrameOf, IsWhole};
@@ -53,7 +52,7 @@ pub fn page_in_begin<S: Seal>(
     ensures refused { RefusesPageIn call.now guest.old guest.new cpu.old cpu.new pool.old pool.new result }
 {
     guest.steps += 1;
-    registers::load_page_in(&mut cpu.gpr, call.operands());
+    registers::load(&mut cpu.gpr, &call.page_in());
     let Ok(route) = route_in(guest, call) else {
         unreachable!()
     };
@@ -86,21 +85,11 @@ pub fn page_in_refused<S: Seal>(guest: &mut Guest<S>, cpu: &mut Cpu, call: &Page
     ensures refused { (pool : PoolState) → RefusesPageIn call.now guest.old guest.new cpu.old cpu.new pool pool result }
 {
     guest.steps += 1;
-    registers::load_page_in(&mut cpu.gpr, call.operands());
+    registers::load(&mut cpu.gpr, &call.page_in());
     match route_in(guest, call) {
         Ok(_route) => unreachable!(),
         Err(code) => cpu.refuse(code),
     }
-}
-
-/// UV_PAGE_IN of the hypervisor where the first operand is the number of no guest: it comes back with U_PARAMETER.
-pub fn page_in_of_none(cpu: &mut Cpu, call: &PageCall) -> Answer
-    ensures answer { result ≡ Answer.Ret Code.UParameter }
-    ensures cpu { cpu.new ≡ record cpu.old { gpr = with_code (load_page_in cpu.old.gpr call.now.lpid call.now.ra call.now.gpa call.now.flags call.now.order) Code.UParameter; last = Answer.Ret Code.UParameter } }
-    ensures refused { RefusesCpu cpu.old cpu.new Code.UParameter }
-{
-    registers::load_page_in(&mut cpu.gpr, call.operands());
-    cpu.refuse(Code::UParameter)
 }
 
 /// The copy: what the normal frame holds goes into the CPU's hand, once.

@@ -2,7 +2,6 @@
 
 ghost use Rattle.std.specs.Prelude.{◌≡◌, ◌≢◌, ◌↔◌, ◌/◌, ◌^◌, ◌<◌, true, ℕ, List, length, Some};
 ghost use Rattle.pef_model.specs.declared.state.Tag.{Tag};
-ghost use Rattle.pef_model.specs.Registers.{load_page_out, with_code};
 ghost use Rattle.pef_num.specs.DoublewordLaw.{AreBytes};
 ghost use Rattle.pef_guest.specs.Whole.{IsWhole};
 ghost use Rattle.pef_guest.specs.Keeps.{IsPoolOf, KeepsGuest};
@@ -10,7 +9,7 @@ ghost use Rattle.pef_guest.specs.Shows.{Shows};
 ghost use Rattle.pef_model.specs.Plan.{Plan};
 ghost use Rattle.pef_model.specs.Guest.{Guest as GuestWhole};
 ghost use Rattle.pef_model.specs.PageOut.{page_out_code};
-ghost use Rattle.pef_guest.specs.Refused.{RefusesCpu, BackWith};
+ghost use Rattle.pef_guest.specs.Refused.{BackWith};
 ghost use Rattle.pef_guest.specs.Does.{DoesRow};
 ghost use Rattle.pef_frames.specs.Pool.{PoolState};
 ghost use Rattle.pef_model.specs.declared.command.Cmd.{Cmd};
@@ -54,21 +53,11 @@ pub fn page_out_begin<S: Seal>(guest: &mut Guest<S>, cpu: &mut Cpu, call: &PageC
     ensures refused { RefusesCall call.now guest.old guest.new cpu.old cpu.new result }
 {
     guest.steps += 1;
-    registers::load_page_out(&mut cpu.gpr, call.operands());
+    registers::load(&mut cpu.gpr, &call.page_out());
     match route_of(guest, call) {
         Ok(route) => begin(guest, cpu, route),
         Err(code) => cpu.refuse(code),
     }
-}
-
-/// UV_PAGE_OUT of the hypervisor where the first operand is the number of no guest: it comes back with U_PARAMETER.
-pub fn page_out_of_none(cpu: &mut Cpu, call: &PageCall) -> Answer
-    ensures answer { result ≡ Answer.Ret Code.UParameter }
-    ensures cpu { cpu.new ≡ record cpu.old { gpr = with_code (load_page_out cpu.old.gpr call.now.lpid call.now.ra call.now.gpa call.now.flags call.now.order) Code.UParameter; last = Answer.Ret Code.UParameter } }
-    ensures refused { RefusesCpu cpu.old cpu.new Code.UParameter }
-{
-    registers::load_page_out(&mut cpu.gpr, call.operands());
-    cpu.refuse(Code::UParameter)
 }
 
 /// The copy: all the bytes in the CPU's hand are written into the normal frame, whatever has become of the guest. It answers

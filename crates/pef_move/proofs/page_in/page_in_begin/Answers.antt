@@ -1,6 +1,6 @@
 use Rattle.std.proofs.Common.{rules, ◌≡◌, ℕ, ◌<◌, List, [], ◌∷◌, arith, refl, ap, sym, subst, ◌∙◌}
 use Rattle.pef_model.specs.declared.command.TheConstants.{UV_PAGE_IN}
-use Rattle.pef_model.specs.Registers.{load_call, load_page_in}
+use Rattle.pef_model.specs.Registers.{loaded}
 use Rattle.pef_frames.specs.Pool.{PoolState}
 use Rattle.pef_model.specs.declared.command.Code.TheVariants.{UBusy}
 use Rattle.pef_move.specs.declared.page_call.PageCall.{PageCall}
@@ -13,9 +13,6 @@ use Rattle.pef_move.proofs.Bundle.{own_of, in_begins}
 use Rattle.pef_move.proofs.page_in.page_in_begin.Goals as goal
 
 -- the registers that the call loads
-loads : (gpr gpr_new operands : List ℕ) (call : PageCall) → gpr_new ≡ load_call gpr UV_PAGE_IN operands → operands ≡ call.lpid ∷ call.ra ∷ call.gpa ∷ call.flags ∷ call.order ∷ [] → gpr_new ≡ load_page_in gpr call.lpid call.ra call.gpa call.flags call.order
-loads gpr gpr_new operands call loaded are = loaded ∙ ap (load_call gpr UV_PAGE_IN) are
-
 -- A page that begins to come in has the frame that was taken.
 pub returns-clause-does : goal.returns-clause-does
 returns-clause-does g c =
@@ -36,7 +33,7 @@ returns-clause-does g c =
       row = in_begins g.S.Seal.takes g.S.Seal.stands g.S.Seal.image c.args.guest.now _ c.args.cpu.now c.begin.new.self c.args.pool.now c.take.new.self c.begin.result c.args.call.now c.requires.hypervisor
           (λ plan guest part mark marked shows shows_cpu.
           rw (c.begin.ensures.answer, c.begin.ensures.cpu, c.begin_in.ensures, c.take.ensures.pool)
-          (row_begun g.S.Seal.stands g.S.Seal.image plan guest part mark c.args.guest.now c.args.cpu.now c.args.call.now c.args.pool.now shows shows_cpu c.requires.hypervisor c.load_page_in.new.gpr (loads c.args.cpu.now.gpr c.load_page_in.new.gpr c.operands.result c.args.call.now c.load_page_in.ensures.gpr c.operands.ensures)
+          (row_begun g.S.Seal.stands g.S.Seal.image plan guest part mark c.args.guest.now c.args.cpu.now c.args.call.now c.args.pool.now shows shows_cpu c.requires.hypervisor c.load.new.gpr (c.load.ensures.gpr ∙ ap (loaded c.args.cpu.now.gpr) c.page_in.ensures)
           c.in-Ok.route c.in-Some.frame c.requires.named marked c.in-Ok.ensures.route first (c.in-Ok.ensures.code plan guest.part)));
     }
 
@@ -53,10 +50,10 @@ returns-in_default-take-clause-does g c = record {
   pool_stays = rw c.requires.hypervisor (λ used. cc);
   refused =
       rw c.refuse.ensures.answer
-      (refused_call _ c.requires.hypervisor (rw c.refuse.ensures.cpu (refuses c.args.cpu.now c.load_page_in.new.gpr UBusy (let long = c.load_page_in.array_long in omega (arith, long)) c.load_page_in.ensures.rest)) (search rules, search rules));
+      (refused_call _ c.requires.hypervisor (rw c.refuse.ensures.cpu (refuses c.args.cpu.now c.load.new.gpr UBusy (let long = c.load.array_long in omega (arith, long)) c.load.ensures.rest)) (search rules, search rules));
   row = in_begins g.S.Seal.takes g.S.Seal.stands g.S.Seal.image c.args.guest.now _ c.args.cpu.now c.refuse.new.self c.args.pool.now c.take.new.self c.refuse.result c.args.call.now c.requires.hypervisor
       (λ plan guest part mark marked shows shows_cpu.
       rw (c.refuse.ensures.answer, c.refuse.ensures.cpu, c.take.ensures.pool)
-      (row_busy g.S.Seal.stands g.S.Seal.image plan guest part mark c.args.guest.now c.args.cpu.now c.args.call.now c.args.pool.now shows shows_cpu c.requires.hypervisor c.load_page_in.new.gpr (loads c.args.cpu.now.gpr c.load_page_in.new.gpr c.operands.result c.args.call.now c.load_page_in.ensures.gpr c.operands.ensures)
+      (row_busy g.S.Seal.stands g.S.Seal.image plan guest part mark c.args.guest.now c.args.cpu.now c.args.call.now c.args.pool.now shows shows_cpu c.requires.hypervisor c.load.new.gpr (c.load.ensures.gpr ∙ ap (loaded c.args.cpu.now.gpr) c.page_in.ensures)
       (c.in-Ok.ensures.code plan guest.part) (c.in_default-take.ensures.none.0 refl)));
 }

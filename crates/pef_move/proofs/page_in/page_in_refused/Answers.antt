@@ -1,6 +1,6 @@
 use Rattle.std.proofs.Common.{rules, ◌≡◌, ℕ, List, [], ◌∷◌, arith, refl, ap, ◌∙◌}
 use Rattle.pef_model.specs.declared.command.TheConstants.{UV_PAGE_IN}
-use Rattle.pef_model.specs.Registers.{load_call, load_page_in}
+use Rattle.pef_model.specs.Registers.{loaded}
 use Rattle.pef_move.specs.declared.page_call.PageCall.{PageCall}
 use Rattle.pef_move.proofs.Codes.{operands_are}
 use Rattle.pef_move.proofs.ComingRows.{row_refused}
@@ -11,9 +11,6 @@ use Rattle.pef_move.proofs.Bundle.{own_of, in_begins, came_back}
 use Rattle.pef_move.proofs.page_in.page_in_refused.Goals as goal
 
 -- the registers that the call loads
-loads : (gpr gpr_new operands : List ℕ) (call : PageCall) → gpr_new ≡ load_call gpr UV_PAGE_IN operands → operands ≡ call.lpid ∷ call.ra ∷ call.gpa ∷ call.flags ∷ call.order ∷ [] → gpr_new ≡ load_page_in gpr call.lpid call.ra call.gpa call.flags call.order
-loads gpr gpr_new operands call loaded are = loaded ∙ ap (load_call gpr UV_PAGE_IN) are
-
 pub returns-clause-does : goal.returns-clause-does
 returns-clause-does g c pool = record {
   whole = search rules;
@@ -26,11 +23,11 @@ returns-clause-does g c pool = record {
   pool_stays = λ unused. refl;
   refused =
       rw c.refuse.ensures.answer
-      (refused_call _ c.requires.hypervisor (rw c.refuse.ensures.cpu (refuses c.args.cpu.now c.load_page_in.new.gpr c.in-Err.code (let long = c.load_page_in.array_long in omega (arith, long)) c.load_page_in.ensures.rest)) (search rules, refl));
+      (refused_call _ c.requires.hypervisor (rw c.refuse.ensures.cpu (refuses c.args.cpu.now c.load.new.gpr c.in-Err.code (let long = c.load.array_long in omega (arith, long)) c.load.ensures.rest)) (search rules, refl));
   row = in_begins g.S.Seal.takes g.S.Seal.stands g.S.Seal.image c.args.guest.now _ c.args.cpu.now c.refuse.new.self pool pool c.refuse.result c.args.call.now c.requires.hypervisor
       (λ plan guest part mark marked shows shows_cpu.
       rw (c.refuse.ensures.answer, c.refuse.ensures.cpu)
-      (row_refused g.S.Seal.stands g.S.Seal.image plan guest part mark c.args.guest.now c.args.cpu.now c.args.call.now pool shows shows_cpu c.requires.hypervisor c.load_page_in.new.gpr (loads c.args.cpu.now.gpr c.load_page_in.new.gpr c.operands.result c.args.call.now c.load_page_in.ensures.gpr c.operands.ensures)
+      (row_refused g.S.Seal.stands g.S.Seal.image plan guest part mark c.args.guest.now c.args.cpu.now c.args.call.now pool shows shows_cpu c.requires.hypervisor c.load.new.gpr (c.load.ensures.gpr ∙ ap (loaded c.args.cpu.now.gpr) c.page_in.ensures)
       c.in-Err.code (c.in-Err.ensures.code plan guest.part)));
 }
 
@@ -43,8 +40,8 @@ returns-clause-code g c plan guest shows code =
 pub returns-clause-refused : goal.returns-clause-refused
 returns-clause-refused g c pool =
     rw (c.refuse.ensures.answer, c.refuse.ensures.cpu) (
-      rw (c.load_page_in.ensures.gpr, c.operands.ensures) refl,
-      refuses c.args.cpu.now c.load_page_in.new.gpr c.in-Err.code (let long = c.load_page_in.array_long in omega (arith, long)) c.load_page_in.ensures.rest,
+      rw (c.load.ensures.gpr, c.page_in.ensures) refl,
+      refuses c.args.cpu.now c.load.new.gpr c.in-Err.code (let long = c.load.array_long in omega (arith, long)) c.load.ensures.rest,
       record { rest = record { lpid = refl; shift = refl; normal = refl; secure = refl; phase = refl; generation = refl; pages = refl; sealer = refl }; vcpus = refl },
       refl,
     )

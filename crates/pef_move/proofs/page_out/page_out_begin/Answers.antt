@@ -1,6 +1,6 @@
 use Rattle.std.proofs.Common.{rules, ◌≡◌, ℕ, List, [], ◌∷◌, ap, refl, ◌∙◌}
 use Rattle.pef_model.specs.declared.command.TheConstants.{UV_PAGE_OUT}
-use Rattle.pef_model.specs.Registers.{load_call, load_page_out}
+use Rattle.pef_model.specs.Registers.{loaded}
 use Rattle.pef_move.specs.declared.page_call.PageCall.{PageCall}
 use Rattle.pef_move.proofs.Begun.{whole, keeps, frames, movers, leaves, sealers}
 use Rattle.pef_move.proofs.BegunRows.{row_refused, row_begun}
@@ -12,30 +12,27 @@ use Rattle.pef_move.proofs.Codes.{code_is}
 use Rattle.pef_move.proofs.page_out.page_out_begin.Goals as goal
 
 -- the registers that the call loads
-loads : (gpr gpr_new operands : List ℕ) (call : PageCall) → gpr_new ≡ load_call gpr UV_PAGE_OUT operands → operands ≡ call.lpid ∷ call.ra ∷ call.gpa ∷ call.flags ∷ call.order ∷ [] → gpr_new ≡ load_page_out gpr call.lpid call.ra call.gpa call.flags call.order
-loads gpr gpr_new operands call loaded are = loaded ∙ ap (load_call gpr UV_PAGE_OUT) are
-
 -- One page changes, and it keeps its frame; what is sealed is what the model seals.
 pub returns-in-Ok-clause-does : goal.returns-in-Ok-clause-does
 returns-in-Ok-clause-does g c pool = record {
-  whole = whole g.S.Seal.stands g.S.Seal.image g.S.Seal.takes c.args.guest.now c.begin.new.guest c.args.cpu.now c.begin.new.cpu c.load_page_out.new.gpr c.args.call.now c.in-Ok.route c.in-Ok.ensures.route c.begin.ensures.begun c.requires.whole;
-  keeps = keeps g.S.Seal.stands g.S.Seal.image g.S.Seal.takes c.args.guest.now c.begin.new.guest c.args.cpu.now c.begin.new.cpu c.load_page_out.new.gpr c.args.call.now c.in-Ok.route c.in-Ok.ensures.route c.begin.ensures.begun;
+  whole = whole g.S.Seal.stands g.S.Seal.image g.S.Seal.takes c.args.guest.now c.begin.new.guest c.args.cpu.now c.begin.new.cpu c.load.new.gpr c.args.call.now c.in-Ok.route c.in-Ok.ensures.route c.begin.ensures.begun c.requires.whole;
+  keeps = keeps g.S.Seal.stands g.S.Seal.image g.S.Seal.takes c.args.guest.now c.begin.new.guest c.args.cpu.now c.begin.new.cpu c.load.new.gpr c.args.call.now c.in-Ok.route c.in-Ok.ensures.route c.begin.ensures.begun;
   life = search rules;
-  movers = movers g.S.Seal.stands g.S.Seal.image g.S.Seal.takes c.args.guest.now c.begin.new.guest c.args.cpu.now c.begin.new.cpu c.load_page_out.new.gpr c.args.call.now c.in-Ok.route c.in-Ok.ensures.route c.begin.ensures.begun;
-  frames = frames_stay c.args.guest.now c.begin.new.guest pool (frames g.S.Seal.stands g.S.Seal.image g.S.Seal.takes c.args.guest.now c.begin.new.guest c.args.cpu.now c.begin.new.cpu c.load_page_out.new.gpr c.args.call.now c.in-Ok.route c.in-Ok.ensures.route c.begin.ensures.begun);
+  movers = movers g.S.Seal.stands g.S.Seal.image g.S.Seal.takes c.args.guest.now c.begin.new.guest c.args.cpu.now c.begin.new.cpu c.load.new.gpr c.args.call.now c.in-Ok.route c.in-Ok.ensures.route c.begin.ensures.begun;
+  frames = frames_stay c.args.guest.now c.begin.new.guest pool (frames g.S.Seal.stands g.S.Seal.image g.S.Seal.takes c.args.guest.now c.begin.new.guest c.args.cpu.now c.begin.new.cpu c.load.new.gpr c.args.call.now c.in-Ok.route c.in-Ok.ensures.route c.begin.ensures.begun);
   own = (let kept : KeepsCpu c.args.cpu.now c.begin.new.cpu = search rules in own_of c.begin.new.guest c.args.cpu.now c.begin.new.cpu kept);
-  works = leaves g.S.Seal.stands g.S.Seal.image g.S.Seal.takes c.args.guest.now c.begin.new.guest c.args.cpu.now c.begin.new.cpu c.load_page_out.new.gpr c.args.call.now c.in-Ok.route c.in-Ok.ensures.route c.begin.ensures.begun;
+  works = leaves g.S.Seal.stands g.S.Seal.image g.S.Seal.takes c.args.guest.now c.begin.new.guest c.args.cpu.now c.begin.new.cpu c.load.new.gpr c.args.call.now c.in-Ok.route c.in-Ok.ensures.route c.begin.ensures.begun;
   pool_stays = λ unused. refl;
   refused = rw (c.requires.hypervisor, c.begin.ensures.answer) tt;
   row = out_begins g.S.Seal.takes g.S.Seal.stands g.S.Seal.image c.args.guest.now c.begin.new.guest c.args.cpu.now c.begin.new.cpu pool pool c.begin.result c.args.call.now c.requires.hypervisor refl
       (λ plan whole part mark marked shows shows_cpu.
       rw c.begin.ensures.answer
-      (row_begun g.S.Seal.stands g.S.Seal.image g.S.Seal.takes plan whole part mark c.args.guest.now c.args.cpu.now c.args.call.now shows shows_cpu c.requires.hypervisor c.load_page_out.new.gpr (loads c.args.cpu.now.gpr c.load_page_out.new.gpr c.operands.result c.args.call.now c.load_page_out.ensures.gpr c.operands.ensures)
+      (row_begun g.S.Seal.stands g.S.Seal.image g.S.Seal.takes plan whole part mark c.args.guest.now c.args.cpu.now c.args.call.now shows shows_cpu c.requires.hypervisor c.load.new.gpr (c.load.ensures.gpr ∙ ap (loaded c.args.cpu.now.gpr) c.page_out.ensures)
       c.begin.new.guest c.begin.new.cpu c.in-Ok.route c.requires.named marked c.requires.whole c.in-Ok.ensures.route c.begin.ensures.begun (c.in-Ok.ensures.code plan whole.part)));
 }
 
 pub returns-in-Ok-clause-sealer : goal.returns-in-Ok-clause-sealer
-returns-in-Ok-clause-sealer g c = sealers g.S.Seal.stands g.S.Seal.image g.S.Seal.takes c.args.guest.now c.begin.new.guest c.args.cpu.now c.begin.new.cpu c.load_page_out.new.gpr c.args.call.now c.in-Ok.route c.in-Ok.ensures.route c.begin.ensures.begun
+returns-in-Ok-clause-sealer g c = sealers g.S.Seal.stands g.S.Seal.image g.S.Seal.takes c.args.guest.now c.begin.new.guest c.args.cpu.now c.begin.new.cpu c.load.new.gpr c.args.call.now c.in-Ok.route c.in-Ok.ensures.route c.begin.ensures.begun
 
 -- A call that comes back at once changes the CPU alone.
 pub returns-in-Err-clause-does : goal.returns-in-Err-clause-does
@@ -52,7 +49,7 @@ returns-in-Err-clause-does g c pool = record {
   row = out_begins g.S.Seal.takes g.S.Seal.stands g.S.Seal.image c.args.guest.now _ c.args.cpu.now c.refuse.new.self pool pool c.refuse.result c.args.call.now c.requires.hypervisor refl
       (λ plan whole part mark marked shows shows_cpu.
       rw (c.refuse.ensures.answer, c.refuse.ensures.cpu)
-      (row_refused g.S.Seal.stands g.S.Seal.image g.S.Seal.takes plan whole part mark c.args.guest.now c.args.cpu.now c.args.call.now shows shows_cpu c.requires.hypervisor c.load_page_out.new.gpr (loads c.args.cpu.now.gpr c.load_page_out.new.gpr c.operands.result c.args.call.now c.load_page_out.ensures.gpr c.operands.ensures)
+      (row_refused g.S.Seal.stands g.S.Seal.image g.S.Seal.takes plan whole part mark c.args.guest.now c.args.cpu.now c.args.call.now shows shows_cpu c.requires.hypervisor c.load.new.gpr (c.load.ensures.gpr ∙ ap (loaded c.args.cpu.now.gpr) c.page_out.ensures)
       c.in-Err.code (c.in-Err.ensures.code plan whole.part)));
 }
 
