@@ -1,5 +1,5 @@
 -- What a step at a guest is lent beside the guest and its CPU.
-use Rattle.std.specs.Prelude.{◌≡◌, ℕ, Bool, true, false, List, Option, None, ◌⊎◌}
+use Rattle.std.specs.Prelude.{◌≡◌, ℕ, Bool, true, false, List, [], Option, Some, None, ◌⊎◌}
 use Rattle.std.proofs.Common.{inl, inr}
 use Rattle.std.specs.Borrow.{MutBor}
 use Rattle.pef_model.specs.declared.state.Work.TheVariants.{Inward, Outward}
@@ -19,7 +19,7 @@ use Rattle.pef_guest.specs.declared.cpu.Cpu.{Cpu}
 use Rattle.pef_guest.specs.declared.guest.Guest.{Guest}
 use Rattle.pef_guest.specs.Shows.{ShowsCpu, Shows}
 use Rattle.pef_guest.specs.Ready.{IsReadyPool}
-use Rattle.pef_guest.specs.Does.{entry_at_guest}
+use Rattle.pef_guest.specs.Does.{NormalPart, entry_at_guest}
 use Rattle.pef_move.specs.Route.{are_right_in}
 use Rattle.pef_move.specs.PageIn.{IsRefusedIn}
 use Rattle.pef_access.specs.Access.{asks_at}
@@ -73,11 +73,11 @@ Touches stands image guest cpu cmd wanted =
 abbrev pub pool_of : PoolState → Inner → PoolState
 pool_of pool Nothing = pool
 pool_of pool (Pool p) = p.now
-pool_of pool (Frame f) = pool
+pool_of pool (Frame number f) = pool
 
 -- what is lent, at the return
 abbrev pub Left : Type 0
-Left = Unit {0} ⊎ ((MutBor PoolState × Unit {0}) ⊎ ((MutBor (List ℕ) × Unit {0}) ⊎ ⊥))
+Left = Unit {0} ⊎ ((MutBor PoolState × Unit {0}) ⊎ ((ℕ × (MutBor (List ℕ) × Unit {0})) ⊎ ⊥))
 
 -- the pool after the step
 abbrev pub pool_left : PoolState → Left → PoolState
@@ -85,8 +85,20 @@ pool_left pool (inl u) = pool
 pool_left pool (inr (inl p)) = p.0.now
 pool_left pool (inr (inr f)) = pool
 
+-- the normal frame before the step, and its bytes after it, where one is lent
+abbrev pub frame_of : Inner → Option NormalPart
+frame_of Nothing = None
+frame_of (Pool p) = None
+frame_of (Frame number f) = Some (record { number = number; bytes = f.now })
+
+abbrev pub frame_left : Left → List ℕ
+frame_left (inl u) = []
+frame_left (inr (inl p)) = []
+frame_left (inr (inr (inl f))) = f.1.0.now
+frame_left (inr (inr (inr f))) = []
+
 -- a step is lent what it needs, the pool in the state in which it needs it
 abbrev pub IsLent : {S : Type 0} → Guest S → Cpu → Cmd → Inner → Type 0
 IsLent guest cpu cmd Nothing = WantsPool guest cpu cpu.ctx cmd → ⊥
 IsLent guest cpu cmd (Pool p) = WantsPool guest cpu cpu.ctx cmd × IsReadyPool guest cpu p.now
-IsLent guest cpu cmd (Frame f) = ⊥
+IsLent guest cpu cmd (Frame number f) = ⊥

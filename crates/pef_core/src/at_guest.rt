@@ -3,8 +3,8 @@
 ghost use Rattle.std.specs.Prelude.{◌≡◌, true, false};
 ghost use Rattle.pef_frames.specs.Pool.{PoolState};
 ghost use Rattle.pef_guest.specs.Ready.{IsReadyFor, IsReadyPool, IsRunning};
-ghost use Rattle.pef_guest.specs.Does.{DoesRow};
-ghost use Rattle.pef_core.specs.Lent.{IsLent, WantsPool, call_asks, command_asks, pool_of, pool_left};
+ghost use Rattle.pef_guest.specs.Does.{DoesLent, DoesRow};
+ghost use Rattle.pef_core.specs.Lent.{IsLent, WantsPool, call_asks, command_asks, pool_of, pool_left, frame_of, frame_left};
 
 use crate::lent::Inner;
 use pef_frames::Pool;
@@ -22,12 +22,12 @@ pub fn apply_guest<S: Seal>(
 ) -> Answer
     requires ready { IsReadyFor S.takes cmd.now guest.old cpu.old }
     requires lent { IsLent guest.old cpu.old cmd.now inner }
-    ensures { (pool : PoolState) → DoesRow S.takes S.stands S.image cmd.now guest.old guest.new cpu.old cpu.new (pool_of pool inner.entry) (pool_left pool inner.exit) result }
+    ensures { (pool : PoolState) → DoesLent S.takes S.stands S.image cmd.now guest.old guest.new cpu.old cpu.new (pool_of pool inner.entry) (pool_left pool inner.exit) (frame_of inner.entry) (frame_left inner.exit) result }
 {
     match inner {
         Inner::Nothing => without_pool(guest, cpu, cmd),
         Inner::Pool(pool) => with_pool(guest, cpu, pool, cmd),
-        Inner::Frame(_) => unreachable!(),
+        Inner::Frame(..) => unreachable!(),
     }
 }
 

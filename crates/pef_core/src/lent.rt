@@ -43,8 +43,8 @@ pub enum Inner<'a> {
     Nothing,
     /// The pool.
     Pool(&'a mut Pool),
-    /// A normal frame.
-    Frame(&'a mut NormalFrame),
+    /// A normal frame, by its number.
+    Frame(u32, &'a mut NormalFrame),
 }
 
 /// What a command of a CPU needs at the guest at which it aims: it is what the step touches beside the guest.
