@@ -7,5 +7,8 @@ pub mod Setting
 pub mod Script
 pub mod Checked
 pub mod FaultLaw
+pub mod WordLaw
+pub mod SettingLaw
+pub mod LineLaw
 pub mod Written
 pub mod WrittenLaw

@@ -1,7 +1,10 @@
 //! The laws of the grammar: each is the contract of a function that does nothing.
 
 ghost use Rattle.pef_script.specs.FaultLaw.{SomeFaults};
+ghost use Rattle.pef_script.specs.LineLaw.{LinesAtTheEdge};
 ghost use Rattle.pef_script.specs.Script.{FaultWhereNothingReads, ReadsScripts};
+ghost use Rattle.pef_script.specs.SettingLaw.{SettingsAtTheEdge};
+ghost use Rattle.pef_script.specs.WordLaw.{WordsAtTheEdge};
 ghost use Rattle.pef_script.specs.WrittenLaw.{EachLineIsRead, ReadsWhatIsWritten};
 
 /// A text has a faulty line exactly where it reads as nothing.
@@ -12,6 +15,21 @@ pub fn fault_where_nothing_reads()
 /// Texts and their first faults, computed from the definitions.
 pub fn some_faults()
     ensures { SomeFaults }
+{}
+
+/// Numbers, registers and pairs at the edge of the grammar.
+pub fn words_at_the_edge()
+    ensures { WordsAtTheEdge }
+{}
+
+/// The lines before the commands at the edge: each size, what is out of order, what stands twice.
+pub fn settings_at_the_edge()
+    ensures { SettingsAtTheEdge }
+{}
+
+/// Command lines at the edge: each command, with an operand more and one less.
+pub fn lines_at_the_edge()
+    ensures { LinesAtTheEdge }
 {}
 
 /// What is read is a script: its sizes are in their ranges, its lines are in their order, and each has one of its CPUs.
