@@ -168,23 +168,9 @@ fn command<S: Seal>(guest: &mut Guest<S>, cpu: &mut Cpu, run: Run, cmd: &Cmd) ->
     ensures { (pool : PoolState) → DoesRow S.takes S.stands S.image cmd.now guest.old guest.new cpu.old cpu.new pool pool result }
 {
     match cmd {
-        Cmd::UPagein {
-            lpid,
-            src,
-            gpa,
-            flags,
-            order,
-        } => pef_reflect::refuse_page_in(guest, cpu, run, [*lpid, *src, *gpa, *flags, *order]),
-        Cmd::UPageout {
-            lpid,
-            dest,
-            gpa,
-            flags,
-            order,
-        } => pef_reflect::refuse_page_out(guest, cpu, run, [*lpid, *dest, *gpa, *flags, *order]),
-        Cmd::UReturn { r0, r2, outs } => pef_reflect::refuse_return(
-            guest, cpu, run, *r0, *r2, outs,
-        ),
+        Cmd::UPagein { .. } | Cmd::UPageout { .. } | Cmd::UReturn { .. } => {
+            pef_reflect::refuse_call(guest, cpu, run, cmd)
+        }
         Cmd::GLi { rd, value } => pef_reflect::load_immediate(guest, cpu, run, *rd, *value),
         Cmd::GLd { rd, gpa } => pef_access::load(guest, cpu, run, *rd, *gpa),
         Cmd::GSt { rs, gpa } => pef_access::store(guest, cpu, run, *rs, *gpa),
