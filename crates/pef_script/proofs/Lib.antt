@@ -5,7 +5,9 @@ mod Pairs
 mod Settings
 mod ScriptLines
 mod Results
+mod ReadWords
 mod Ranges
+mod ReadCommands
 pub mod ReadScripts
 mod WrittenWords
 mod WrittenLines
