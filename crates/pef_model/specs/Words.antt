@@ -1,5 +1,5 @@
 -- The words of a script: numbers and registers.
-use Rattle.std.specs.Prelude.{ℕ, ◌^◌, nat_eq, nat_lt, nat_le, Bool, not, ◌&&◌, if◌then◌else◌, List, length, drop, codes, Option, Some, None, option_and_then}
+use Rattle.std.specs.Prelude.{ℕ, ◌^◌, nat_eq, nat_lt, nat_le, Bool, not, ◌&&◌, if◌then◌else◌, List, length, drop, codes, Option, Some, None}
 use Rattle.std.specs.List.{starts_with, list_all}
 use Rattle.std.specs.Char.{is_digit}
 use Rattle.std.specs.Str.Parse.{digits_value}
@@ -14,14 +14,6 @@ numeral_in radix most digits =
 -- a number: 0x and 1 to 16 hexadecimal digits of either case, or 1 to 20 decimal digits
 abbrev pub number_in : List ℕ → Option ℕ
 number_in word = if starts_with nat_eq word (codes "0x") then numeral_in 16 16 (drop 2 word) else numeral_in 10 20 word
-
--- a number from a least one to a greatest one
-abbrev pub number_within : ℕ → ℕ → List ℕ → Option ℕ
-number_within least greatest word = option_and_then (λ n. if nat_le least n && nat_le n greatest then Some n else None) (number_in word)
-
--- a number below a limit
-abbrev pub number_below : ℕ → List ℕ → Option ℕ
-number_below limit word = option_and_then (λ n. if nat_lt n limit then Some n else None) (number_in word)
 
 -- digits that begin with a zero which isn't the only one
 abbrev pub has_leading_zero : List ℕ → Bool

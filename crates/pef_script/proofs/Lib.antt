@@ -5,8 +5,10 @@ mod Pairs
 mod Settings
 mod ScriptLines
 mod Results
+mod ReadWords
 mod Ranges
-mod ReadOperands
+mod ReadCommands
+mod Commands
 pub mod ReadScripts
 mod WrittenWords
 mod WrittenLines

@@ -1,7 +1,7 @@
 -- What the configuration lines set is in its ranges.
-use Rattle.std.proofs.Common.{◌≡◌, inl, inr, option_and_then, ℕ, zero, suc, ◌+◌, ◌-◌, ◌<◌, ◌≤◌, ◌==◌, Bool, true, false, cond, List, [], ◌∷◌, ◌++◌, length, map, drop, get_or, refl, ap, sym, subst, ◌∙◌, arith, Option, Some, None, Result, Ok, Err, rules}
+use Rattle.std.proofs.Common.{◌≡◌, inl, inr, option_and_then, ℕ, zero, suc, ◌+◌, ◌-◌, ◌*◌, ◌^◌, ◌<◌, ◌≤◌, ◌==◌, Bool, true, false, cond, List, [], ◌∷◌, ◌++◌, length, map, drop, replicate, get_or, refl, ap, sym, subst, ◌∙◌, arith, Some, None, Ok, rules}
 use Rattle.std.specs.Prelude.{slice_get, slice_index, nat_lt, All, if◌then◌else◌}
-use Rattle.std.specs.List.{find, count_by}
+use Rattle.std.specs.List.{find, count_by, AllByRecursion}
 use Rattle.std.specs.List.Sorted.{IsStrictlyIncreasing, IsNonDecreasing}
 use Rattle.std.proofs.lemmas.Bool.{ltb-true, cases_lt, ne_eqb}
 use Rattle.std.proofs.lemmas.Bool.Decides.{nat_tests}
@@ -10,20 +10,23 @@ use Rattle.std.proofs.Math.Seq.{get_or-append_seam}
 use Rattle.std.proofs.lemmas.List.Elements.{All-push, All-nil}
 use Rattle.std.proofs.lemmas.List.Sums.{sum_by-cons, sum_by-append}
 use Rattle.std.proofs.lemmas.Option.{cond_some, option_and_then_some}
+use Rattle.hex.specs.Hex.{IsBytes, decode_sized}
+use Rattle.hex.proofs.HexLemmas.{decode_sized-ok, decode_sized-twice, decode_of-ok}
 use Rattle.pef_model.specs.declared.config.Config.{Config}
 use Rattle.pef_model.specs.declared.config.EntropyWord.{EntropyWord}
 use Rattle.pef_model.specs.Plan.{IsWithin, IsInRange, default_config}
 use Rattle.pef_model.specs.Words.{number_in}
-use Rattle.pef_script.specs.declared.fault.Cause.{Cause}
+use Rattle.pef_model.proofs.Lists.{all_append}
 use Rattle.pef_script.specs.declared.fault.Cause.TheVariants as cause
 use Rattle.pef_script.specs.declared.setting.Setting.{Setting}
 use Rattle.pef_script.specs.declared.setting.Setting.TheVariants as s
-use Rattle.pef_script.specs.declared.token.Pair.{Pair}
 use Rattle.pef_script.specs.declared.setting.Header.{Header}
 use Rattle.pef_script.specs.Cause.{◌>>=◌, or_fault, first}
 use Rattle.pef_script.specs.Token.{pair_in}
 use Rattle.pef_script.specs.Setting.{Form, form, form_of, settings, setting_from, setting_in, size_in, rises, born_set, vault_in, seal_set, key_in, key_set, entropy_set, all_pairs, guest_or_none, last_guest, words_in, within}
-use Rattle.pef_script.proofs.Results.{bind_ok, or_ok, same_Ok, within_is, within_same, option_map_some}
+use Rattle.pef_script.specs.Written.{AreSecrets}
+use Rattle.pef_script.proofs.Results.{bind_ok, or_ok, ok_is, same_Ok, within_is, within_same, option_map_some}
+use Rattle.pef_script.proofs.ReadWords.{pair_fits}
 
 -- a number that a line sets is in its range
 pub size_within : (least greatest n : ℕ) (operands : List (List ℕ)) → size_in least greatest operands ≡ Ok n → IsWithin least greatest n
@@ -67,6 +70,10 @@ falls_not_push ns n rise most i j d first within =
     default_is [] i d h = absurd (omega arith)
     default_is (x ∷ xs) zero d h = refl
     default_is (x ∷ xs) (suc i) d h = default_is xs i d (omega arith)
+
+-- an entropy word whose numbers are below 2^64
+abbrev WordFits : EntropyWord → Type 0
+WordFits word = (word.left < 2 ^ 64) × (word.right < 2 ^ 64)
 
 -- the guest of an entropy word
 abbrev pub guest : EntropyWord → ℕ
@@ -168,10 +175,16 @@ none_of lpid (word ∷ words) below =
 pub record IsSettled (place : ℕ) (config : Config) : Type 0 where
   pub range : IsInRange config
   pub none : place ≤ 4 → (config.born ≡ []) × (config.entropy ≡ [])
+  pub secrets : AreSecrets config.key config.entropy
+
+zeros : (n i : ℕ) → get_or (replicate n 0) i 0 < 256
+zeros zero i = omega arith
+zeros (suc n) zero = omega arith
+zeros (suc n) (suc i) = zeros n i
 
 -- at first
 pub first_settled : IsSettled 0 default_config
-first_settled = record { range = search rules; none = λ early. (refl, refl) }
+first_settled = record { range = search rules; none = λ early. (refl, refl); secrets = record { size = refl; bytes = zeros 32; fit = tt } }
 
 -- the place of a line
 abbrev pub index : Setting → ℕ
@@ -219,9 +232,9 @@ sized_settles next least greatest set config after operands settles e =
     bind_ok (size_in least greatest operands) _ after e (λ n is tested. subst (IsSettled next) (same_Ok _ _ tested) (settles n (size_within least greatest n operands is)))
 
 -- the line `born`
-born_settles : (config after : Config) (operands : List (List ℕ)) → IsInRange config → born_set config operands ≡ Ok after → IsSettled 9 after
+born_settles : (config after : Config) (operands : List (List ℕ)) → IsInRange config → AreSecrets config.key config.entropy → born_set config operands ≡ Ok after → IsSettled 9 after
 unfolding born_set
-born_settles config after operands range e =
+born_settles config after operands range secrets e =
     bind_ok (size_in 1 config.guests operands) _ after e (λ n is tested.
     bind_ok (or_fault cause.Range (if rises config.born n then Some n else None)) _ after tested (λ lpid above set.
     let found = cond_some (rises config.born n) n lpid (or_ok cause.Range _ lpid above) in
@@ -229,23 +242,33 @@ born_settles config after operands range e =
     let last : slice_index config.born (length config.born - 1) < lpid = subst (λ (m : ℕ). slice_index config.born (length config.born - 1) < m) found.1 (ltb-true _ n found.0) in
     let born = All-push (IsWithin 1 config.guests) config.born lpid range.born within in
     let rises = rises_push config.born lpid range.rises last in
-    let settled : IsSettled 9 (record config { born = config.born ++ lpid ∷ [] }) = record { range = assumption; none = λ early. absurd (omega (arith, early)) } in
+    let settled : IsSettled 9 (record config { born = config.born ++ lpid ∷ [] }) = record { range = assumption; none = λ early. absurd (omega (arith, early)); secrets = secrets } in
     subst (IsSettled 9) (same_Ok _ _ set) settled))
 
 -- the line `seal`
-seal_settles : (config after : Config) (operands : List (List ℕ)) → IsInRange config → seal_set config operands ≡ Ok after → IsSettled 8 after
-seal_settles config after operands range e =
+seal_settles : (config after : Config) (operands : List (List ℕ)) → IsInRange config → AreSecrets config.key config.entropy → seal_set config operands ≡ Ok after → IsSettled 8 after
+seal_settles config after operands range secrets e =
     bind_ok (or_fault cause.Word (option_and_then vault_in (first operands))) _ after e (λ vault is set.
-    let settled : IsSettled 8 (record config { vault = vault }) = record { range = assumption; none = λ early. absurd (omega (arith, early)) } in
+    let settled : IsSettled 8 (record config { vault = vault }) = record { range = assumption; none = λ early. absurd (omega (arith, early)); secrets = secrets } in
     subst (IsSettled 8) (same_Ok _ _ set) settled)
 
+-- a key that is read has 32 bytes
+key_bytes : (token key : List ℕ) → decode_sized token 32 ≡ Ok key → (length key ≡ 32) × IsBytes key
+key_bytes token key e =
+    let size : length token ≡ 2 * 32 = decode_sized-ok token 32 key e in
+    let facts = decode_of-ok token key (sym (decode_sized-twice token 32 size) ∙ e) in
+    let twice : length token ≡ 2 * length key = facts.2 in
+    (omega (arith, size, twice), facts.3)
+
 -- the line `key`
-key_settles : (config after : Config) (operands : List (List ℕ)) → IsInRange config → key_set config operands ≡ Ok after → IsSettled 9 after
+key_settles : (config after : Config) (operands : List (List ℕ)) → IsInRange config → AreSecrets config.key config.entropy → key_set config operands ≡ Ok after → IsSettled 9 after
 unfolding key_set
-key_settles config after operands range e =
-    bind_ok (or_fault cause.Number (option_and_then key_in (first operands))) _ after e (λ key is set.
-    let settled : IsSettled 9 (record config { key = key }) = record { range = assumption; none = λ early. absurd (omega (arith, early)) } in
-    subst (IsSettled 9) (same_Ok _ _ set) settled)
+key_settles config after operands range secrets e =
+    bind_ok (or_fault cause.Number (option_and_then key_in (first operands))) _ after e (λ (key : List ℕ) is set.
+    option_and_then_some key_in (first operands) key (or_ok cause.Number _ key is) (λ token given found.
+    let bytes = key_bytes token key (ok_is (decode_sized token 32) key found) in
+    let settled : IsSettled 9 (record config { key = key }) = record { range = assumption; none = λ early. absurd (omega (arith, early)); secrets = record { size = bytes.0; bytes = bytes.1; fit = secrets.fit } } in
+    subst (IsSettled 9) (same_Ok _ _ set) settled))
 
 -- the words before a line of a guest above all that have words
 words_before : (config : Config) (lpid : ℕ) → IsInRange config → last_guest config.entropy < lpid → AreWords config.guests lpid 64 config.entropy
@@ -264,10 +287,18 @@ words_before config lpid range last = record {
         let most = range.words_rise k (length config.entropy - 1) 0 (omega (arith, h)) (omega (arith, h, size)) in
         omega (arith, top, most, last)
 
+-- the numbers of words that are read
+words_fit : (lpid : ℕ) (tokens : List (List ℕ)) (words all : List EntropyWord) → AllByRecursion WordFits words → words_in words lpid tokens ≡ Ok all → AllByRecursion WordFits all
+words_fit lpid [] words all fit e = subst (AllByRecursion WordFits) (same_Ok words all e) fit
+words_fit lpid (token ∷ more) words all fit e =
+    bind_ok (or_fault cause.Number (pair_in token)) _ all e (λ pair is rest.
+    let small = pair_fits token pair (or_ok cause.Number _ pair is) in
+    words_fit lpid more (words ++ record { lpid = lpid; left = pair.left; right = pair.right } ∷ []) all (all_append WordFits words _ fit (small, tt)) rest)
+
 -- the line `entropy`
-entropy_settles : (config after : Config) (operands : List (List ℕ)) → length operands ≤ 65 → IsInRange config → entropy_set config operands ≡ Ok after → IsSettled 10 after
+entropy_settles : (config after : Config) (operands : List (List ℕ)) → length operands ≤ 65 → IsInRange config → AreSecrets config.key config.entropy → entropy_set config operands ≡ Ok after → IsSettled 10 after
 unfolding entropy_set
-entropy_settles config after operands few range e =
+entropy_settles config after operands few range secrets e =
     bind_ok (or_fault cause.Number (option_and_then number_in (first operands))) _ after e (λ n named e1.
     bind_ok (or_fault cause.Number (if all_pairs (drop 1 operands) then Some n else None)) _ after e1 (λ m all e2.
     bind_ok (or_fault cause.Range (within 1 config.guests n)) _ after e2 (λ own within e3.
@@ -280,35 +311,35 @@ entropy_settles config after operands few range e =
     let entropy = are.within in
     let words_rise = are.rise in
     let counts = are.few in
-    let settled : IsSettled 10 (record config { entropy = words }) = record { range = assumption; none = λ early. absurd (omega (arith, early)) } in
+    let settled : IsSettled 10 (record config { entropy = words }) = record { range = assumption; none = λ early. absurd (omega (arith, early)); secrets = record { size = secrets.size; bytes = secrets.bytes; fit = words_fit lpid (drop 1 operands) config.entropy words secrets.fit read } } in
     subst (IsSettled 10) (same_Ok _ _ set) settled)))))
 
 -- what a line sets leaves a configuration in its ranges
 pub set_settles : (setting : Setting) (place : ℕ) (config after : Config) (operands : List (List ℕ)) → place ≤ index setting → length operands ≤ (form setting).many → IsSettled place config →
     (form setting).set config operands ≡ Ok after → IsSettled (form setting).next after
 set_settles s.Shift place config after operands at few settled e =
-    sized_settles 1 8 16 (λ (c : Config) (n : ℕ). record c { shift = n }) config after operands (λ n within. let range = settled.range in record { range = assumption; none = λ early. settled.none (omega (arith, at)) }) e
+    sized_settles 1 8 16 (λ (c : Config) (n : ℕ). record c { shift = n }) config after operands (λ n within. let range = settled.range in record { range = assumption; none = λ early. settled.none (omega (arith, at)); secrets = settled.secrets }) e
 set_settles s.Normal place config after operands at few settled e =
-    sized_settles 2 1 1024 (λ (c : Config) (n : ℕ). record c { normal = n }) config after operands (λ n within. let range = settled.range in record { range = assumption; none = λ early. settled.none (omega (arith, at)) }) e
+    sized_settles 2 1 1024 (λ (c : Config) (n : ℕ). record c { normal = n }) config after operands (λ n within. let range = settled.range in record { range = assumption; none = λ early. settled.none (omega (arith, at)); secrets = settled.secrets }) e
 set_settles s.Secure place config after operands at few settled e =
-    sized_settles 3 1 1024 (λ (c : Config) (n : ℕ). record c { secure = n }) config after operands (λ n within. let range = settled.range in record { range = assumption; none = λ early. settled.none (omega (arith, at)) }) e
+    sized_settles 3 1 1024 (λ (c : Config) (n : ℕ). record c { secure = n }) config after operands (λ n within. let range = settled.range in record { range = assumption; none = λ early. settled.none (omega (arith, at)); secrets = settled.secrets }) e
 set_settles s.Cpus place config after operands at few settled e =
-    sized_settles 4 1 16 (λ (c : Config) (n : ℕ). record c { cpus = n }) config after operands (λ n within. let range = settled.range in record { range = assumption; none = λ early. settled.none (omega (arith, at)) }) e
+    sized_settles 4 1 16 (λ (c : Config) (n : ℕ). record c { cpus = n }) config after operands (λ n within. let range = settled.range in record { range = assumption; none = λ early. settled.none (omega (arith, at)); secrets = settled.secrets }) e
 set_settles s.Guests place config after operands at few settled e =
     let none = settled.none at in
     let born : (n : ℕ) → All (IsWithin 1 n) config.born = λ n. subst (All (IsWithin 1 n)) (sym none.0) (All-nil (IsWithin 1 n)) in
     let entropy : (n : ℕ) → All (λ (word : EntropyWord). IsWithin 1 n word.lpid) config.entropy =
     λ n. subst (All (λ (word : EntropyWord). IsWithin 1 n word.lpid)) (sym none.1) (All-nil (λ (word : EntropyWord). IsWithin 1 n word.lpid)) in
     sized_settles 5 1 16 (λ (c : Config) (n : ℕ). record c { guests = n }) config after operands (λ n within. let range = settled.range in let own = born n in let words = entropy n in
-    record { range = assumption; none = λ early. none }) e
+    record { range = assumption; none = λ early. none; secrets = settled.secrets }) e
 set_settles s.Vcpus place config after operands at few settled e =
-    sized_settles 6 1 8 (λ (c : Config) (n : ℕ). record c { vcpus = n }) config after operands (λ n within. let range = settled.range in record { range = assumption; none = λ early. absurd (omega (arith, early)) }) e
+    sized_settles 6 1 8 (λ (c : Config) (n : ℕ). record c { vcpus = n }) config after operands (λ n within. let range = settled.range in record { range = assumption; none = λ early. absurd (omega (arith, early)); secrets = settled.secrets }) e
 set_settles s.Pages place config after operands at few settled e =
-    sized_settles 7 1 1024 (λ (c : Config) (n : ℕ). record c { pages = n }) config after operands (λ n within. let range = settled.range in record { range = assumption; none = λ early. absurd (omega (arith, early)) }) e
-set_settles s.Seal place config after operands at few settled e = seal_settles config after operands settled.range e
-set_settles s.Key place config after operands at few settled e = key_settles config after operands settled.range e
-set_settles s.Born place config after operands at few settled e = born_settles config after operands settled.range e
-set_settles s.Entropy place config after operands at few settled e = entropy_settles config after operands few settled.range e
+    sized_settles 7 1 1024 (λ (c : Config) (n : ℕ). record c { pages = n }) config after operands (λ n within. let range = settled.range in record { range = assumption; none = λ early. absurd (omega (arith, early)); secrets = settled.secrets }) e
+set_settles s.Seal place config after operands at few settled e = seal_settles config after operands settled.range settled.secrets e
+set_settles s.Key place config after operands at few settled e = key_settles config after operands settled.range settled.secrets e
+set_settles s.Born place config after operands at few settled e = born_settles config after operands settled.range settled.secrets e
+set_settles s.Entropy place config after operands at few settled e = entropy_settles config after operands few settled.range settled.secrets e
 
 -- a configuration line leaves it so
 pub setting_settles : (place : ℕ) (config : Config) (tokens : List (List ℕ)) (header : Header) → IsSettled place config → setting_in place config tokens ≡ Ok header → IsSettled header.place header.config

@@ -6,7 +6,7 @@ use Rattle.std.proofs.lemmas.Option.{cond_some}
 use Rattle.pef_model.specs.Plan.{IsWithin}
 use Rattle.pef_script.specs.declared.fault.Cause.{Cause}
 use Rattle.pef_script.specs.Cause.{◌>>=◌, or_fault}
-use Rattle.pef_script.specs.Setting.{within}
+use Rattle.pef_script.specs.Setting.{ok_of, within}
 
 -- what follows counts: there was no fault before
 pub bind_ok : {A B E P : Type 0} (r : Result A E) (f : A → Result B E) (y : B) → (r >>= f) ≡ Ok y → ((x : A) → r ≡ Ok x → f x ≡ Ok y → P) → P
@@ -17,6 +17,11 @@ bind_ok (Err fault) f y e more = absurd (cc)
 pub or_ok : {A : Type 0} (cause : Cause) (o : Option A) (x : A) → or_fault cause o ≡ Ok x → o ≡ Some x
 or_ok cause None x e = absurd (cc)
 or_ok cause (Some y) x e = cc
+
+-- what is a result's value is what it has
+pub ok_is : {A E : Type 0} (r : Result A E) (x : A) → ok_of r ≡ Some x → r ≡ Ok x
+ok_is (Ok y) x e = cc
+ok_is (Err f) x e = absurd (cc)
 
 abbrev pub success : {A E : Type 0} → A → Result A E
 success x = Ok x

@@ -4,7 +4,6 @@ use Rattle.std.specs.Prelude.{Some, None}
 use Rattle.std.specs.List.{find}
 use Rattle.std.specs.Str.{bytes_eq}
 use Rattle.pef_script.specs.declared.table.Row.{Row}
-use Rattle.pef_script.specs.declared.table.Word.{Word}
 use Rattle.pef_script.specs.Table.{Shape, shape, shape_in, words, word_named}
 
 found : {A B : Type 0} (f : A → B) (b : Bool) (x : A) (o : Option A) (u : Option B) → option_map f o ≡ u → option_map f (cond b (Some x) o) ≡ cond b (Some (f x)) u

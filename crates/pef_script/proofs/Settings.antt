@@ -4,7 +4,6 @@ use Rattle.std.specs.Prelude.{Some, None}
 use Rattle.std.specs.List.{find}
 use Rattle.std.specs.Str.{bytes_eq}
 use Rattle.pef_script.specs.declared.setting.SettingRow.{SettingRow}
-use Rattle.pef_script.specs.declared.setting.Setting.{Setting}
 use Rattle.pef_script.specs.Setting.{Form, form, form_in, settings, setting_from}
 use Rattle.std.proofs.lemmas.List.{drop-map}
 use Rattle.pef_script.proofs.Rows.{find-map}

@@ -1,7 +1,7 @@
 -- The configuration lines that are written are read again.
-use Rattle.std.proofs.Common.{◌≡◌, ◌≤◌, ◌<◌, ℕ, ◌+◌, ◌-◌, ◌^◌, Bool, true, false, List, [], ◌∷◌, ◌++◌, length, map, get_or, refl, ap, ◌∙◌, sym, subst, arith, append_assoc, append-nil, zero, suc, Some, Ok}
-use Rattle.std.specs.Prelude.{All, codes, slice_index, is_some}
-use Rattle.std.specs.List.{join_with_byte, list_all, AllByRecursion}
+use Rattle.std.proofs.Common.{◌≡◌, ◌≤◌, ◌<◌, ℕ, ◌+◌, ◌-◌, ◌^◌, Bool, true, false, List, [], ◌∷◌, ◌++◌, length, map, get_or, refl, ap, ◌∙◌, sym, subst, arith, append_assoc, append-nil, suc, Some, Ok}
+use Rattle.std.specs.Prelude.{All, codes, slice_index}
+use Rattle.std.specs.List.{join_with_byte, AllByRecursion}
 use Rattle.std.specs.List.Sorted.{IsStrictlyIncreasing}
 use Rattle.std.proofs.lemmas.Bool.{le-leb, lt-ltb}
 use Rattle.std.proofs.lemmas.List.{map-append, length-map, length-append}
@@ -12,11 +12,9 @@ use Rattle.hex.proofs.HexLemmas.{decode_sized-encode_lower}
 use Rattle.pef_model.specs.declared.config.Config.{Config}
 use Rattle.pef_model.specs.declared.config.EntropyWord.{EntropyWord}
 use Rattle.pef_model.specs.Plan.{IsWithin}
-use Rattle.pef_model.proofs.Lists.{all_give}
 use Rattle.pef_script.specs.declared.setting.Setting.TheVariants as s
-use Rattle.pef_script.specs.Setting.{Form, form, form_of, setting_from, setting_in, size_in, sized, within, born_set, key_in, key_set, seal_set, entropy_set, all_pairs, last_guest, words_in}
-use Rattle.pef_script.specs.Script.{Begun, header_in}
-use Rattle.pef_script.specs.Token.{pair_in}
+use Rattle.pef_script.specs.Setting.{Form, form, form_of, setting_from, setting_in, size_in, sized, within, born_set, key_set, entropy_set, all_pairs, last_guest, words_in}
+use Rattle.pef_script.specs.Script.{header_in}
 use Rattle.pef_script.specs.Written.{number_text, pair_text, seal_text, GuestWords, born_words, entropy_words}
 use Rattle.pef_script.proofs.Ranges.{guest, guest_at}
 use Rattle.pef_script.proofs.WrittenWords.{IsWord, is_word, word_tested, number_word, number_reads}
@@ -67,10 +65,12 @@ Rising guests last (n ∷ ns) = (last < n) × IsWithin 1 guests n × Rising gues
 
 pub rising_from : (guests last : ℕ) (ns : List ℕ) → IsStrictlyIncreasing (last ∷ ns) → All (IsWithin 1 guests) ns → Rising guests last ns
 rising_from guests last [] rises all = tt
-rising_from guests last (n ∷ ns) rises all =
-    (rises 0 (omega arith), All-head (IsWithin 1 guests) n ns all,
-    rising_from guests n ns (λ k h. let one_more : suc k + 1 ≡ suc (k + 1) = omega arith in subst (λ (i : ℕ). get_or (n ∷ ns) k 0 < get_or (last ∷ n ∷ ns) i 0) one_more (rises (suc k) (omega (arith, h))))
-    (All-tail (IsWithin 1 guests) n ns all))
+rising_from guests last (n ∷ ns) rises all = (
+  rises 0 (omega arith),
+  All-head (IsWithin 1 guests) n ns all,
+  rising_from guests n ns (λ k h. let one_more : suc k + 1 ≡ suc (k + 1) = omega arith in subst (λ (i : ℕ). get_or (n ∷ ns) k 0 < get_or (last ∷ n ∷ ns) i 0) one_more (rises (suc k) (omega (arith, h))))
+      (All-tail (IsWithin 1 guests) n ns all),
+)
 
 -- the last of numbers and one more
 last_number : (ns : List ℕ) (n : ℕ) → slice_index (ns ++ n ∷ []) (length (ns ++ n ∷ []) - 1) ≡ n

@@ -3,12 +3,11 @@ use Rattle.std.proofs.Common.{◌≡◌, ℕ, ◌+◌, ◌<◌, ◌≤◌, ◌^�
 use Rattle.std.specs.Prelude.{codes}
 use Rattle.std.specs.Char.{digit_value}
 use Rattle.std.specs.Fmt.{digits}
-use Rattle.std.specs.List.{slice_split, onto_first, AllByRecursion}
+use Rattle.std.specs.List.{slice_split, AllByRecursion}
 use Rattle.std.specs.Str.Parse.{AllDigits}
 use Rattle.std.proofs.lemmas.Bool.{lt-ltb, ne_eqb}
 use Rattle.std.proofs.lemmas.Bool.Decides.{nat_tests}
 use Rattle.std.proofs.lemmas.Fmt.{digits_is_IsNumeral, decimal_is_IsNumeral}
-use Rattle.pef_model.specs.declared.command.Cmd.{Cmd}
 use Rattle.pef_model.specs.declared.command.Cmd.TheVariants.{HLd, HSt, UPagein, UPageout, UReturn, GLi, GLd, GSt, GIrq, Go}
 use Rattle.pef_model.specs.declared.command.Directive.{Directive}
 use Rattle.pef_model.specs.declared.command.Directive.TheVariants.{Once, GoAll}
@@ -20,7 +19,7 @@ use Rattle.pef_script.specs.declared.table.Word.TheVariants as w
 use Rattle.pef_script.specs.Command.{line_in, counted, kind_of, operands_in, with_operand}
 use Rattle.pef_script.specs.Line.{ReadLine}
 use Rattle.pef_script.specs.Table.{shape, word_named, no_operands}
-use Rattle.pef_script.specs.Token.{pair_in, pair_of}
+use Rattle.pef_script.specs.Token.{pair_in}
 use Rattle.pef_script.specs.Written.{Operand, Number, Register, Pair, number_text, pair_text, operand_text, Fits, name_of, operands_of, line_words, CanBeWritten}
 use Rattle.pef_script.specs.WrittenLaw.{EachLineIsRead}
 use Rattle.pef_model.proofs.Lists.{all_append}
@@ -61,9 +60,10 @@ pair_word hex left right one two = by_test (left == right) where
   by_test : (same : Bool) → IsWord (cond same (number_text hex left) (number_text hex left ++ (codes "|" ++ number_text hex right)))
   by_test true = number_word hex left one
   by_test false =
-      let word = number_word hex left one in
-      (more_bytes (number_text hex left) (codes "|" ++ number_text hex right) word.0,
-      all_append (λ b. 35 < b) (number_text hex left) (codes "|" ++ number_text hex right) word.1 (omega arith, (number_word hex right two).1))
+      let word = number_word hex left one in (
+        more_bytes (number_text hex left) (codes "|" ++ number_text hex right) word.0,
+        all_append (λ b. 35 < b) (number_text hex left) (codes "|" ++ number_text hex right) word.1 (omega arith, (number_word hex right two).1),
+      )
 
 operand_word : (hex : Bool) (operand : Operand) → Fits operand → IsWord (operand_text hex operand)
 operand_word hex (Number n) fits = number_word hex n fits

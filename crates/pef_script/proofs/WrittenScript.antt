@@ -1,7 +1,7 @@
 -- The text that is written for a script is read again.
-use Rattle.std.proofs.Common.{◌≡◌, ◌≤◌, ◌<◌, ℕ, ◌+◌, ◌/◌, ◌%◌, ◌^◌, Bool, true, false, List, [], ◌∷◌, ◌++◌, length, map, get_or, refl, ap, ◌∙◌, sym, subst, arith, append_assoc, zero, suc, Some, Result, Ok}
-use Rattle.std.specs.Prelude.{All, codes, slice_index}
-use Rattle.std.specs.List.{join_with_byte, AllByRecursion, count_by}
+use Rattle.std.proofs.Common.{◌≡◌, ◌≤◌, ◌<◌, ℕ, ◌+◌, ◌/◌, ◌%◌, ◌^◌, Bool, true, false, List, [], ◌∷◌, ◌++◌, length, map, get_or, refl, ap, ◌∙◌, arith, append_assoc, zero, suc, Result, Ok}
+use Rattle.std.specs.Prelude.{All, codes}
+use Rattle.std.specs.List.{join_with_byte, AllByRecursion}
 use Rattle.std.specs.List.Sorted.{IsStrictlyIncreasing}
 use Rattle.std.proofs.lemmas.List.{map-append, length-map, length-append}
 use Rattle.std.proofs.lemmas.List.Elements.{All-head, All-tail}
@@ -9,19 +9,18 @@ use Rattle.std.proofs.lemmas.Nat.{div_below}
 use Rattle.hex.specs.Hex.{IsBytes, encode_with, encode_lower, lower_digits}
 use Rattle.pef_model.specs.declared.config.Config.{Config}
 use Rattle.pef_model.specs.declared.config.EntropyWord.{EntropyWord}
-use Rattle.pef_model.specs.Plan.{IsWithin, IsInRange, default_config}
+use Rattle.pef_model.specs.Plan.{IsWithin, default_config}
 use Rattle.pef_model.proofs.Lists.{all_give, both_give, all_append}
 use Rattle.pef_script.specs.declared.fault.ScriptFault.{ScriptFault}
 use Rattle.pef_script.specs.Cause.{◌>>=◌}
 use Rattle.pef_script.specs.Line.{ReadLine}
 use Rattle.pef_script.specs.Setting.{ok_of, setting_from}
-use Rattle.pef_script.specs.Script.{ReadScript, Begun, behind_first, header_in, commands_in, script_or_fault, reads}
-use Rattle.pef_script.specs.Written.{number_text, seal_text, GuestWords, by_guest, born_words, entropy_words, header_words, line_words, script_text, IsWritable}
+use Rattle.pef_script.specs.Script.{ReadScript, Begun, behind_first, header_in, commands_in, script_or_fault}
+use Rattle.pef_script.specs.Written.{number_text, seal_text, GuestWords, by_guest, born_words, entropy_words, header_words, line_words, IsWritable}
 use Rattle.pef_script.specs.WrittenLaw.{ReadsWhatIsWritten}
 use Rattle.pef_script.proofs.WrittenWords.{AllAbove, IsWord, is_word, above_tested, word_tested, number_word}
-use Rattle.pef_script.proofs.WrittenLines.{pair_word}
 use Rattle.pef_script.proofs.WrittenText.{AreWords, lines_again, commands_again, commands_words}
-use Rattle.pef_script.proofs.WrittenGuests.{words_of, words_stay, are_guests, guests_rise_from, AreGuests, IsOwn, IsWordOf}
+use Rattle.pef_script.proofs.WrittenGuests.{words_stay, are_guests, guests_rise_from, AreGuests, IsWordOf}
 use Rattle.pef_script.proofs.WrittenHeader.{pairs_words, size_sets, seal_sets, key_sets, Rising, rising_from, born_sets, guests_set}
 
 -- a byte of digits is above #
@@ -35,9 +34,10 @@ key_above : (key : List ℕ) → IsBytes key → AllAbove 35 (encode_lower key)
 unfolding encode_with
 key_above [] bytes = tt
 key_above (b ∷ key) bytes =
-    let digits : AllAbove 35 lower_digits = above_tested 35 lower_digits refl in
-    (digit_above lower_digits (b / 16) digits (div_below b 16 16 (omega arith) (omega (arith, bytes 0))),
-    (digit_above lower_digits (b % 16) digits (omega arith), key_above key (λ i. bytes (suc i))))
+    let digits : AllAbove 35 lower_digits = above_tested 35 lower_digits refl in (
+      digit_above lower_digits (b / 16) digits (div_below b 16 16 (omega arith) (omega (arith, bytes 0))),
+      (digit_above lower_digits (b % 16) digits (omega arith), key_above key (λ i. bytes (suc i))),
+    )
 
 key_word : (key : List ℕ) → length key ≡ 32 → IsBytes key → IsWord (encode_lower key)
 unfolding encode_with
@@ -54,7 +54,7 @@ own_words : (s : ReadScript) (hex : Bool) → IsWritable hex s → AllByRecursio
 own_words s hex can =
     let guests = s.config.guests in
     both_give (λ (w : EntropyWord). IsWithin 1 guests w.lpid) (λ (w : EntropyWord). (w.left < 2 ^ 64) × (w.right < 2 ^ 64)) (IsWordOf guests) s.config.entropy (λ w in_range small. (in_range, small.0, small.1))
-    (by_recursion (λ (w : EntropyWord). IsWithin 1 guests w.lpid) s.config.entropy can.range.entropy) can.words
+    (by_recursion (λ (w : EntropyWord). IsWithin 1 guests w.lpid) s.config.entropy can.range.entropy) can.secrets.fit
 
 -- the lines of born guests, of entropy words, and `begin`
 abbrev tail_words : Bool → Config → List (List (List ℕ))
@@ -74,16 +74,16 @@ tail_lines hex c lines =
 -- the configuration lines that are written set the configuration
 header_again : (hex : Bool) (s : ReadScript) → IsWritable hex s → (lines : List (List (List ℕ))) →
     header_in 2 0 default_config (map (join_with_byte 32) (
-      (codes "shift" ∷ number_text hex s.config.shift ∷ [])
-      ∷ (codes "normal" ∷ number_text hex s.config.normal ∷ [])
-      ∷ (codes "secure" ∷ number_text hex s.config.secure ∷ [])
-      ∷ (codes "cpus" ∷ number_text hex s.config.cpus ∷ [])
-      ∷ (codes "guests" ∷ number_text hex s.config.guests ∷ [])
-      ∷ (codes "vcpus" ∷ number_text hex s.config.vcpus ∷ [])
-      ∷ (codes "pages" ∷ number_text hex s.config.pages ∷ [])
-      ∷ (codes "seal" ∷ seal_text s.config.vault ∷ [])
-      ∷ (codes "key" ∷ encode_lower s.config.key ∷ [])
-      ∷ (tail_words hex s.config ++ lines)
+    (codes "shift" ∷ number_text hex s.config.shift ∷ [])
+    ∷ (codes "normal" ∷ number_text hex s.config.normal ∷ [])
+    ∷ (codes "secure" ∷ number_text hex s.config.secure ∷ [])
+    ∷ (codes "cpus" ∷ number_text hex s.config.cpus ∷ [])
+    ∷ (codes "guests" ∷ number_text hex s.config.guests ∷ [])
+    ∷ (codes "vcpus" ∷ number_text hex s.config.vcpus ∷ [])
+    ∷ (codes "pages" ∷ number_text hex s.config.pages ∷ [])
+    ∷ (codes "seal" ∷ seal_text s.config.vault ∷ [])
+    ∷ (codes "key" ∷ encode_lower s.config.key ∷ [])
+    ∷ (tail_words hex s.config ++ lines)
     ))
     ≡ Ok (record { config = s.config; number = length (header_words hex s.config) + 1; rest = map (join_with_byte 32) lines })
 unfolding setting_from
@@ -108,8 +108,13 @@ header_again hex s can lines =
     all_give (AreGuests c.guests c.entropy) (λ (g : GuestWords). length g.words ≤ 64) (by_guest c.entropy) (λ g are. omega (arith, are.few, range.words g.lpid)) guests in
     let rise = guests_rise_from c.entropy (all_give (IsWordOf c.guests) (λ (w : EntropyWord). 1 ≤ w.lpid) c.entropy (λ w is. is.0.0) own) range.words_rise in
     let count : 11 + length c.born + length (by_guest c.entropy) + 1 ≡ length (header_words hex c) + 1 =
-    omega (arith, length-append (map (born_words hex) c.born) (map (entropy_words hex) (by_guest c.entropy) ++ (codes "begin" ∷ []) ∷ []), length-append (map (entropy_words hex) (by_guest c.entropy)) ((codes "begin" ∷ []) ∷ []),
-    length-map c.born (born_words hex), length-map (by_guest c.entropy) (entropy_words hex)) in
+    omega (
+      arith,
+      length-append (map (born_words hex) c.born) (map (entropy_words hex) (by_guest c.entropy) ++ (codes "begin" ∷ []) ∷ []),
+      length-append (map (entropy_words hex) (by_guest c.entropy)) ((codes "begin" ∷ []) ∷ []),
+      length-map c.born (born_words hex),
+      length-map (by_guest c.entropy) (entropy_words hex),
+    ) in
     size_sets hex 2 0 1 8 16 c.shift (λ (c : Config) (n : ℕ). record c { shift = n }) default_config (codes "shift") _ (omega (arith, range.shift.1)) range.shift refl refl
     ∙ size_sets hex 3 1 2 1 1024 c.normal (λ (c : Config) (n : ℕ). record c { normal = n }) c1 (codes "normal") _ (omega (arith, range.normal.1)) range.normal refl refl
     ∙ size_sets hex 4 2 3 1 1024 c.secure (λ (c : Config) (n : ℕ). record c { secure = n }) c2 (codes "secure") _ (omega (arith, range.secure.1)) range.secure refl refl
@@ -118,7 +123,7 @@ header_again hex s can lines =
     ∙ size_sets hex 7 5 6 1 8 c.vcpus (λ (c : Config) (n : ℕ). record c { vcpus = n }) c5 (codes "vcpus") _ (omega (arith, range.vcpus.1)) range.vcpus refl refl
     ∙ size_sets hex 8 6 7 1 1024 c.pages (λ (c : Config) (n : ℕ). record c { pages = n }) c6 (codes "pages") _ (omega (arith, range.pages.1)) range.pages refl refl
     ∙ seal_sets 9 c7 c.vault _
-    ∙ key_sets 10 c8 c.key _ can.key.0 can.key.1 (key_word c.key can.key.0 can.key.1)
+    ∙ key_sets 10 c8 c.key _ can.secrets.size can.secrets.bytes (key_word c.key can.secrets.size can.secrets.bytes)
     ∙ ap (header_in 11 9 c9) (tail_lines hex c lines)
     ∙ born_sets hex 11 c9 c.born _ few rising
     ∙ guests_set hex (11 + length c.born) 9 c10 c.entropy (by_guest c.entropy) (map (join_with_byte 32) lines) few guests most rise (λ g. refl)
@@ -152,21 +157,40 @@ header_are_words : (hex : Bool) (s : ReadScript) → IsWritable hex s → AllByR
 header_are_words hex s can =
     let c : Config = s.config in
     let range = can.range in
-    let few : c.guests ≤ 16 = range.guests.1 in
-    ((word_tested (codes "pef") refl, (word_tested (codes "1") refl, tt)),
-    (size_words hex (codes "shift") c.shift refl (omega (arith, range.shift.1)),
-    (size_words hex (codes "normal") c.normal refl range.normal.1,
-    (size_words hex (codes "secure") c.secure refl range.secure.1,
-    (size_words hex (codes "cpus") c.cpus refl (omega (arith, range.cpus.1)),
-    (size_words hex (codes "guests") c.guests refl (omega (arith, range.guests.1)),
-    (size_words hex (codes "vcpus") c.vcpus refl (omega (arith, range.vcpus.1)),
-    (size_words hex (codes "pages") c.pages refl range.pages.1,
-    ((word_tested (codes "seal") refl, (seal_word c.vault, tt)),
-    ((word_tested (codes "key") refl, (key_word c.key can.key.0 can.key.1, tt)),
-    all_append AreWords (map (born_words hex) c.born) _ (born_are_words hex c.guests c.born few (by_recursion (IsWithin 1 c.guests) c.born range.born))
-    (all_append AreWords (map (entropy_words hex) (by_guest c.entropy)) _
-    (guests_are_words hex c.guests c.entropy (by_guest c.entropy) few (are_guests c.guests c.entropy (own_words s hex can)))
-    ((word_tested (codes "begin") refl, tt), tt))))))))))))
+    let few : c.guests ≤ 16 = range.guests.1 in (
+      (word_tested (codes "pef") refl, (word_tested (codes "1") refl, tt)),
+      (
+        size_words hex (codes "shift") c.shift refl (omega (arith, range.shift.1)),
+        (
+          size_words hex (codes "normal") c.normal refl range.normal.1,
+          (
+            size_words hex (codes "secure") c.secure refl range.secure.1,
+            (
+              size_words hex (codes "cpus") c.cpus refl (omega (arith, range.cpus.1)),
+              (
+                size_words hex (codes "guests") c.guests refl (omega (arith, range.guests.1)),
+                (
+                  size_words hex (codes "vcpus") c.vcpus refl (omega (arith, range.vcpus.1)),
+                  (
+                    size_words hex (codes "pages") c.pages refl range.pages.1,
+                    (
+                      (word_tested (codes "seal") refl, (seal_word c.vault, tt)),
+                      (
+                        (word_tested (codes "key") refl, (key_word c.key can.secrets.size can.secrets.bytes, tt)),
+                        all_append AreWords (map (born_words hex) c.born) _ (born_are_words hex c.guests c.born few (by_recursion (IsWithin 1 c.guests) c.born range.born))
+                            (all_append AreWords (map (entropy_words hex) (by_guest c.entropy)) _
+                            (guests_are_words hex c.guests c.entropy (by_guest c.entropy) few (are_guests c.guests c.entropy (own_words s hex can)))
+                            ((word_tested (codes "begin") refl, tt), tt)),
+                      ),
+                    ),
+                  ),
+                ),
+              ),
+            ),
+          ),
+        ),
+      ),
+    )
 
 -- the text that is written for a script reads as it
 pub reads_what_is_written : ReadsWhatIsWritten

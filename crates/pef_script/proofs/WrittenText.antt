@@ -1,5 +1,5 @@
 -- The lines of a text that is written, and their words, are read again.
-use Rattle.std.proofs.Common.{◌≡◌, ◌≤◌, ◌<◌, ℕ, ◌+◌, ◌^◌, ◌==◌, Bool, true, false, List, [], ◌∷◌, ◌++◌, map, filter, refl, ap, ◌∙◌, subst, arith, append_assoc, Ok, rules}
+use Rattle.std.proofs.Common.{◌≡◌, ◌≤◌, ◌<◌, ℕ, ◌+◌, ◌^◌, ◌==◌, Bool, true, false, List, [], ◌∷◌, ◌++◌, map, filter, refl, ap, ◌∙◌, subst, arith, append_assoc, Ok}
 use Rattle.std.specs.Prelude.{nat_eq, codes}
 use Rattle.std.specs.List.{slice_split, onto_first, starts_with, join_with_byte, flat_map, AllByRecursion}
 use Rattle.std.proofs.lemmas.Bool.{ne_eqb}
@@ -13,7 +13,7 @@ use Rattle.pef_script.specs.Command.{line_in}
 use Rattle.pef_script.specs.Line.{ReadLine}
 use Rattle.pef_script.specs.Setting.{setting_in}
 use Rattle.pef_script.specs.Token.{has_bytes, tokens_of}
-use Rattle.pef_script.specs.Script.{lines_of, is_skipped, is_begin, header_in, before, commands_in}
+use Rattle.pef_script.specs.Script.{lines_of, is_skipped, is_begin, header_in, commands_in}
 use Rattle.pef_script.specs.Written.{line_words, words_text, CountsFrom, CanBeWritten}
 use Rattle.pef_script.proofs.ScriptLines.{lines_first}
 use Rattle.pef_script.proofs.WrittenWords.{AllAbove, IsWord}

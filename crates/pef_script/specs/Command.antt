@@ -1,5 +1,5 @@
 -- Which line is a command line, and why another is none.
-use Rattle.std.specs.Prelude.{ℕ, ◌+◌, ◌-◌, nat_le, nat_lt, ◌&&◌, if◌then◌else◌, List, [], ◌∷◌, length, drop, slice_set, Option, Some, None, option_map, option_and_then, Result, Ok, Err}
+use Rattle.std.specs.Prelude.{ℕ, ◌+◌, ◌-◌, nat_le, nat_lt, ◌&&◌, if◌then◌else◌, List, [], ◌∷◌, length, drop, slice_set, Option, Some, None, option_map, option_and_then, Result, Ok}
 use Rattle.pef_model.specs.Words.{number_in, register_in}
 use Rattle.pef_script.specs.declared.token.Pair.{Pair}
 use Rattle.pef_script.specs.declared.fault.Cause.{Cause}

@@ -1,9 +1,7 @@
 -- Texts and their first faults, computed from the definitions.
-use Rattle.std.specs.Prelude.{◌≡◌, ℕ, List, [], ◌∷◌, codes, String, Some, None}
-use Rattle.std.specs.List.{AllByRecursion}
+use Rattle.std.specs.Prelude.{◌≡◌, ℕ, List, codes, Some}
 use Rattle.pef_script.specs.declared.fault.Cause.{Cause}
 use Rattle.pef_script.specs.declared.fault.Cause.TheVariants as cause
-use Rattle.pef_script.specs.declared.fault.ScriptFault.{ScriptFault}
 use Rattle.pef_script.specs.Script.{line_fault}
 
 -- a text has its first fault at a line, of a cause

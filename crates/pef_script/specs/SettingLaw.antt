@@ -2,7 +2,6 @@
 use Rattle.std.specs.Prelude.{◌≡◌, ℕ, true, false, List, [], ◌∷◌, ◌++◌, replicate, codes, Ok}
 use Rattle.std.specs.List.{flat_map}
 use Rattle.pef_model.specs.declared.config.Config.{Config}
-use Rattle.pef_model.specs.declared.config.EntropyWord.{EntropyWord}
 use Rattle.pef_model.specs.Plan.{default_config}
 use Rattle.pef_script.specs.declared.fault.Cause.TheVariants.{Header, Word, Count, Number, Range, NoBegin}
 use Rattle.pef_script.specs.Script.{script_or_fault}

@@ -1,5 +1,5 @@
 -- Numbers, registers and pairs at the edge of the grammar, each computed from the definitions.
-use Rattle.std.specs.Prelude.{◌≡◌, codes, Option, Some, None}
+use Rattle.std.specs.Prelude.{◌≡◌, codes, Some, None}
 use Rattle.pef_model.specs.Words.{number_in, register_in}
 use Rattle.pef_script.specs.Token.{pair_in}
 

@@ -144,11 +144,16 @@ abbrev pub CountsFrom : ℕ → List ReadLine → Type 0
 CountsFrom number [] = Unit {0}
 CountsFrom number (l ∷ more) = (l.line.number ≡ number) × CountsFrom (number + 1) more
 
--- a script that can be written: its configuration is in its ranges, with a key of 32 bytes and entropy words below 2^64, and its lines follow one another behind `begin`, each one of a CPU with a directive that can be written
+-- a key of 32 bytes, and entropy words whose numbers are below 2^64
+pub record AreSecrets (key : List ℕ) (words : List EntropyWord) : Type 0 where
+  pub size : length key ≡ 32
+  pub bytes : IsBytes key
+  pub fit : AllByRecursion (λ (word : EntropyWord). (word.left < 2 ^ 64) × (word.right < 2 ^ 64)) words
+
+-- a script that can be written: its configuration is in its ranges, and its lines follow one another behind `begin`, each one of a CPU with a directive that can be written
 pub record IsWritable (hex : Bool) (s : ReadScript) : Type 0 where
   pub range : IsInRange s.config
-  pub key : (length s.config.key ≡ 32) × IsBytes s.config.key
-  pub words : AllByRecursion (λ (word : EntropyWord). (word.left < 2 ^ 64) × (word.right < 2 ^ 64)) s.config.entropy
+  pub secrets : AreSecrets s.config.key s.config.entropy
   pub counts : CountsFrom (length (header_words hex s.config) + 1) s.lines
   pub cpus : AllByRecursion (λ (l : ReadLine). l.line.cpu < s.config.cpus) s.lines
   pub directives : AllByRecursion (λ (l : ReadLine). CanBeWritten l.right l.line.directive) s.lines

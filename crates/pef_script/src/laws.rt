@@ -5,7 +5,7 @@ ghost use Rattle.pef_script.specs.LineLaw.{LinesAtTheEdge};
 ghost use Rattle.pef_script.specs.Script.{FaultWhereNothingReads, ReadsScripts};
 ghost use Rattle.pef_script.specs.SettingLaw.{SettingsAtTheEdge};
 ghost use Rattle.pef_script.specs.WordLaw.{WordsAtTheEdge};
-ghost use Rattle.pef_script.specs.WrittenLaw.{EachLineIsRead, ReadsWhatIsWritten};
+ghost use Rattle.pef_script.specs.WrittenLaw.{EachLineIsRead, ReadsOne, ReadsWhatCanBeWritten, ReadsWhatIsWritten, WritableIsCommand};
 
 /// A text has a faulty line exactly where it reads as nothing.
 pub fn fault_where_nothing_reads()
@@ -32,6 +32,11 @@ pub fn lines_at_the_edge()
     ensures { LinesAtTheEdge }
 {}
 
+/// Each text reads as at most one script.
+pub fn reads_one()
+    ensures { ReadsOne }
+{}
+
 /// What is read is a script: its sizes are in their ranges, its lines are in their order, and each has one of its CPUs.
 pub fn reads_scripts()
     ensures { ReadsScripts }
@@ -45,4 +50,14 @@ pub fn each_line_is_read()
 /// The text that is written for a script reads as it, with numbers in decimal or hexadecimal.
 pub fn reads_what_is_written()
     ensures { ReadsWhatIsWritten }
+{}
+
+/// What is read can be written, and its lines are lines of the text.
+pub fn reads_what_can_be_written()
+    ensures { ReadsWhatCanBeWritten }
+{}
+
+/// Each command that can be written is one that a history can have.
+pub fn writable_is_command()
+    ensures { WritableIsCommand }
 {}

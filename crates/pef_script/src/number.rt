@@ -1,7 +1,7 @@
 //! A word is read as a number or a register exactly where the grammar has it as one.
 
-ghost use Rattle.std.specs.Prelude.{◌≡◌, ◌≤◌, IfSome};
-ghost use Rattle.pef_model.specs.Words.{numeral_in, number_in, number_within, number_below, register_in};
+ghost use Rattle.std.specs.Prelude.{◌≡◌, ◌≤◌};
+ghost use Rattle.pef_model.specs.Words.{numeral_in, number_in, register_in};
 
 use pef_model::Reg;
 
@@ -33,23 +33,6 @@ pub fn parse_number(word: &[u8]) -> Option<u64>
         Some(digits) => parse_numeral(digits, 16, 16),
         None => parse_numeral(word, 10, 20),
     }
-}
-
-/// A number from a least one to a greatest one; None where the word is none.
-pub fn parse_within(word: &[u8], least: u32, greatest: u32) -> Option<u32>
-    ensures number { result ≡ number_within least greatest word.now }
-    ensures greatest { IfSome result (λ number. number ≤ greatest) }
-{
-    let number = u32::try_from(parse_number(word)?).ok()?;
-    (least <= number && number <= greatest).then_some(number)
-}
-
-/// A number below a limit; None where the word is none.
-pub fn parse_below(word: &[u8], limit: u8) -> Option<u8>
-    ensures { result ≡ number_below limit word.now }
-{
-    let number = u8::try_from(parse_number(word)?).ok()?;
-    (number < limit).then_some(number)
 }
 
 /// A register from r0 to r31; None where the word is none, as with a leading zero.

@@ -1,4 +1,4 @@
-use Rattle.std.proofs.Common.{refl, rules}
+use Rattle.std.proofs.Common.{rules}
 use Rattle.pef_script.proofs.Rows.{row_found}
 use Rattle.pef_script.proofs.table.row_named.Goals as goal
 
