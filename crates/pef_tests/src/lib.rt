@@ -1,7 +1,6 @@
-//! How a top call ends where a device fails or a text is at its limit. Scripts and their reports are run by `pef_rows`.
+//! How a top call ends where a device fails, its words are wrong or a text is past a limit. Scripts and their reports are run by
+//! `pef_rows`.
 #![tactic(auto)]
 
-#[cfg(test)]
-mod script;
 #[cfg(test)]
 mod top;

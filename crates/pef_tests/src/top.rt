@@ -1,24 +1,17 @@
-//! Each way in which a top call ends that no pair of files can show: devices that fail, and texts at their limits.
+//! Each way in which a top call ends that no pair of files can show.
 
-use crate::script::{answers, call};
 use pef_io::{Failed, MemSink, MemSource, Sink, Source};
-use pef_top::{RunOutcome, SCRIPT_LIMIT};
+use pef_top::{RunOutcome, SCRIPT_LIMIT, pef_run};
 use std::alloc::{AllocError, Global};
 use std::marker::Model;
 use std::process::Abort;
 use std::test::Fail;
 
-const STORE_AND_LOAD: &str =
+const SCRIPT: &str =
     "pef 1\nborn 1\nbegin\n0 u.return 0 0\n0 g.li r20 7\n0 g.st r20 0x0\n0 g.ld r6 0x0\n";
 
-const STORE_AND_LOAD_REPORT: &str =
-    "4 0 u.return enter\n5 0 g.li done\n6 0 g.st done\n7 0 g.ld val 0x7\nfree 15\nend\n";
-
-const REFUSED: &str =
-    "pef 1\nborn 1\nbegin\n0 g.ld r6 0x0\n0 u.return 0 0\n0 g.ld r6 0x4\n0 g.ld r6 0x100000\n0 g.st r6 0xffff8\n0 g.ld r6 0xffff8\n0 u.return 0 0\n0 g.li r7 18446744073709551615\n0 g.st r7 65536\n0 g.ld r8 0x10000\n";
-
-const REFUSED_REPORT: &str =
-    "4 0 g.ld context\n5 0 u.return enter\n6 0 g.ld hole\n7 0 g.ld hole\n8 0 g.st done\n9 0 g.ld val 0x0\n10 0 u.return ret U_INVALID\n11 0 g.li done\n12 0 g.st done\n13 0 g.ld val 0xffffffffffffffff\nfree 14\nend\n";
+const REPORT: &[u8] =
+    b"4 0 u.return enter\n5 0 g.li done\n6 0 g.st done\n7 0 g.ld val 0x7\nfree 15\nend\n";
 
 /// A source that gives one byte a read, and doesn't know what is left.
 #[derive(Drop)]
@@ -51,8 +44,8 @@ impl Source for ByteSource {
     }
 }
 
-/// The numbers of the calls that fail: one, or none.
-fn fails(alloc: Global, number: Option<u64>) -> Result<Vec<u64>, AllocError> {
+/// The number of the one call that fails, if one does.
+fn failing(alloc: Global, number: Option<u64>) -> Result<Vec<u64>, AllocError> {
     let mut fails = Vec::new(alloc);
     if let Some(number) = number {
         fails.push(number)?;
@@ -60,111 +53,161 @@ fn fails(alloc: Global, number: Option<u64>) -> Result<Vec<u64>, AllocError> {
     Ok(fails)
 }
 
-/// Makes a top call on devices of which a read and a write may fail, and compares the status and the report, which is written
-/// at status 0 alone.
-fn ends(
+/// A source of a text, of which one read fails, or none.
+fn source_of(alloc: Global, text: &str, fail: Option<u64>) -> Result<MemSource, AllocError> {
+    let bytes = text.as_bytes().to_vec(alloc)?;
+    Ok(MemSource::build(bytes, failing(alloc, fail)?))
+}
+
+/// A sink with room for so many bytes, of which one write fails, or none.
+fn sink_of(alloc: Global, room: usize, fail: Option<u64>) -> Result<MemSink, AllocError> {
+    MemSink::build(alloc, room, failing(alloc, fail)?)
+}
+
+/// A top call with the words that a space separates: compares how it ends and what it writes.
+fn ends<S: Source + Drop>(
     rt: &impl Abort,
     alloc: Global,
     words: &str,
-    text: &str,
-    bad_read: Option<u64>,
-    bad_write: Option<u64>,
-    status: u8,
+    mut source: S,
+    mut sink: MemSink,
+    outcome: RunOutcome,
+    report: &[u8],
 ) -> Result<(), Fail> {
-    let mut source = MemSource::build(text.as_bytes().to_vec(alloc)?, fails(alloc, bad_read)?);
-    let mut sink = MemSink::build(alloc, 100, fails(alloc, bad_write)?)?;
-    let outcome = call(alloc, words, &mut source, &mut sink)?;
-    let wanted = if status == 1 {
-        RunOutcome::script_fault(1)
-    } else {
-        RunOutcome::plain(status)
-    };
-    assert_eq!(rt; outcome, wanted, "{words:?} {text:?}");
-    let report = if status == 0 {
-        STORE_AND_LOAD_REPORT
-    } else {
-        ""
-    };
-    assert_eq!(rt; sink.bytes(), report.as_bytes(), "{words:?} {text:?}");
+    let mut list = Vec::new(alloc);
+    for word in words.split_whitespace() {
+        list.push(String::from_str(alloc, word)?)?;
+    }
+    assert_eq!(rt;
+        pef_run(alloc, &list, &mut source, &mut sink),
+        outcome,
+        "{words:?}"
+    );
+    assert_eq!(rt; sink.bytes(), report, "{words:?}");
     Ok(())
 }
 
 #[test]
-fn each_call_has_its_status_and_what_is_refused_writes_nothing(
-    rt: HostRuntime,
-) -> Result<(), Fail> {
+fn a_read_may_fail_at_each_call(rt: HostRuntime) -> Result<(), Fail> {
     let alloc = rt.alloc();
-    ends(&rt, alloc, "run", STORE_AND_LOAD, None, None, 0)?;
-    ends(&rt, alloc, "", STORE_AND_LOAD, None, None, 2)?;
-    ends(&rt, alloc, "run run", STORE_AND_LOAD, None, None, 2)?;
-    ends(&rt, alloc, "--help", STORE_AND_LOAD, None, None, 2)?;
-    ends(&rt, alloc, "--help", "", Some(0), Some(0), 2)?;
-    ends(&rt, alloc, "run", STORE_AND_LOAD, Some(0), None, 3)?;
-    ends(&rt, alloc, "run", "", Some(0), Some(0), 3)?;
-    ends(&rt, alloc, "run", "", None, Some(0), 1)?;
-    ends(&rt, alloc, "run", STORE_AND_LOAD, None, Some(0), 4)
-}
-
-/// Runs a script whose bytes come one a read, and compares the report.
-fn read_by_bytes(rt: &impl Abort, alloc: Global, text: &str, report: &str) -> Result<(), Fail> {
-    let mut source = ByteSource {
-        source: MemSource::build(text.as_bytes().to_vec(alloc)?, Vec::new(alloc)),
-    };
-    let mut sink = MemSink::build(alloc, 1000, Vec::new(alloc))?;
-    assert_eq!(rt; call(alloc, "run", &mut source, &mut sink)?.status, 0);
-    assert_eq!(rt; sink.bytes(), report.as_bytes());
+    // A read for each byte, and one at the end.
+    let reads = SCRIPT.len() as u64 + 1;
+    for number in 0..=reads {
+        let source = ByteSource {
+            source: source_of(alloc, SCRIPT, Some(number))?,
+        };
+        let sink = sink_of(alloc, 100, None)?;
+        let (status, report) = if number < reads {
+            (3, b"".as_slice())
+        } else {
+            (0, REPORT)
+        };
+        ends(
+            &rt,
+            alloc,
+            "run",
+            source,
+            sink,
+            RunOutcome::plain(status),
+            report,
+        )?;
+    }
     Ok(())
 }
 
 #[test]
-fn a_source_may_give_a_byte_a_read(rt: HostRuntime) -> Result<(), Fail> {
-    read_by_bytes(&rt, rt.alloc(), STORE_AND_LOAD, STORE_AND_LOAD_REPORT)?;
-    read_by_bytes(&rt, rt.alloc(), REFUSED, REFUSED_REPORT)
-}
-
-#[test]
-fn a_report_that_does_not_fit_is_cut(rt: HostRuntime) -> Result<(), Fail> {
+fn a_write_may_be_short_at_each_length(rt: HostRuntime) -> Result<(), Fail> {
     let alloc = rt.alloc();
-    let mut source = MemSource::build(STORE_AND_LOAD.as_bytes().to_vec(alloc)?, Vec::new(alloc));
-    let mut sink = MemSink::build(alloc, 10, Vec::new(alloc))?;
-    assert_eq!(rt; call(alloc, "run", &mut source, &mut sink)?.status, 4);
-    assert_eq!(rt; sink.bytes(), b"4 0 u.retu".as_slice());
+    for room in 0..=REPORT.len() {
+        let source = source_of(alloc, SCRIPT, None)?;
+        let sink = sink_of(alloc, room, None)?;
+        let status = if room < REPORT.len() { 4 } else { 0 };
+        ends(
+            &rt,
+            alloc,
+            "run",
+            source,
+            sink,
+            RunOutcome::plain(status),
+            &REPORT[..room],
+        )?;
+    }
     Ok(())
 }
 
 #[test]
-fn a_script_past_the_limit_is_read_one_byte_past_it(rt: HostRuntime) -> Result<(), Fail> {
+fn a_write_may_fail_at_each_call(rt: HostRuntime) -> Result<(), Fail> {
     let alloc = rt.alloc();
-    let mut source = MemSource::build(vec![in alloc; b'\n'; SCRIPT_LIMIT + 10]?, Vec::new(alloc));
-    let mut sink = MemSink::build(alloc, 10, Vec::new(alloc))?;
-    let want = RunOutcome {
-        status: 6,
-        line: 1,
-        left: 16_777_217,
-        right: 16_777_216,
-    };
-    assert_eq!(rt; call(alloc, "run", &mut source, &mut sink)?, want);
-    assert!(rt; sink.bytes().is_empty());
-    let mut rest = [0; 20];
-    assert_eq!(rt; source.read(&mut rest), Ok(9));
+    // Each line is one write, but the last two are one.
+    for (number, report) in [
+        (0, ""),
+        (1, "4 0 u.return enter\n"),
+        (2, "4 0 u.return enter\n5 0 g.li done\n"),
+        (3, "4 0 u.return enter\n5 0 g.li done\n6 0 g.st done\n"),
+        (
+            4,
+            "4 0 u.return enter\n5 0 g.li done\n6 0 g.st done\n7 0 g.ld val 0x7\n",
+        ),
+    ] {
+        let source = source_of(alloc, SCRIPT, None)?;
+        let sink = sink_of(alloc, 100, Some(number))?;
+        ends(
+            &rt,
+            alloc,
+            "run",
+            source,
+            sink,
+            RunOutcome::plain(4),
+            report.as_bytes(),
+        )?;
+    }
     Ok(())
 }
 
 #[test]
-fn too_many_command_lines_are_refused_where_none_is_faulty(rt: HostRuntime) -> Result<(), Fail> {
+fn what_comes_first_decides_the_status(rt: HostRuntime) -> Result<(), Fail> {
     let alloc = rt.alloc();
+    // The words, then the read, then the script, and then the write.
+    for (words, text, read, write, outcome) in [
+        ("", SCRIPT, None, None, RunOutcome::plain(2)),
+        ("run run", SCRIPT, None, None, RunOutcome::plain(2)),
+        ("--help", "", Some(0), Some(0), RunOutcome::plain(2)),
+        ("run", "", Some(0), Some(0), RunOutcome::plain(3)),
+        ("run", "", None, Some(0), RunOutcome::script_fault(1)),
+    ] {
+        let source = source_of(alloc, text, read)?;
+        let sink = sink_of(alloc, 100, write)?;
+        ends(&rt, alloc, words, source, sink, outcome, b"")?;
+    }
+    Ok(())
+}
+
+/// A script of so many command lines.
+fn script_of(alloc: Global, lines: u32) -> Result<Vec<u8>, AllocError> {
     let mut text = b"pef 1\nbegin\n".as_slice().to_vec(alloc)?;
-    for _ in 0..200_001u32 {
+    for _ in 0..lines {
         text.extend_from_slice(b"0 go\n")?;
     }
-    let mut faulty = text.as_slice().to_vec(alloc)?;
-    faulty.extend_from_slice(b"0 gox\n")?;
-    let wanted = RunOutcome {
-        status: 6,
-        line: 2,
-        left: 200_001,
-        right: 200_000,
-    };
-    answers(&rt, alloc, text, wanted, b"")?;
-    answers(&rt, alloc, faulty, RunOutcome::script_fault(200_004), b"")
+    Ok(text)
+}
+
+#[test]
+fn a_text_past_a_limit_is_refused(rt: HostRuntime) -> Result<(), Fail> {
+    let alloc = rt.alloc();
+    let empty = vec![in alloc; b'\n'; SCRIPT_LIMIT + 10]?;
+    for (text, line, left, right) in [
+        (empty, 1, 16_777_217, 16_777_216),
+        (script_of(alloc, 200_001)?, 2, 200_001, 200_000),
+    ] {
+        let source = MemSource::build(text, Vec::new(alloc));
+        let sink = sink_of(alloc, 100, None)?;
+        let outcome = RunOutcome {
+            status: 6,
+            line,
+            left,
+            right,
+        };
+        ends(&rt, alloc, "run", source, sink, outcome, b"")?;
+    }
+    Ok(())
 }
