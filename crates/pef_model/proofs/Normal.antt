@@ -32,7 +32,7 @@ use Rattle.pef_model.proofs.Hands.{all_fill}
 
 -- a step changes no normal frame but the one that it tells
 pub guest_leaves_frames : GuestLeavesFrames
-guest_leaves_frames plan past e run n before other = skips (touches_frame n) (next_frame plan n) (start_frame plan) e past (untold e.saw.frame other) where
+guest_leaves_frames plan past e n other = skips (touches_frame n) (next_frame plan n) (start_frame plan) e past (untold e.saw.frame other) where
   untold : (frame : Option ℕ) → frame ≢ Some n → is_number n frame ≡ false
   untold None other = refl
   untold (Some m) other = by_test (m == n) refl where

@@ -1,5 +1,5 @@
 -- The generation in which a vCPU was last taken up changes at UV_RETURN alone.
-use Rattle.std.proofs.Common.{◌≡◌, ℕ, Bool, true, false, ◌==◌, ◌&&◌, if◌then◌else◌, List, ◌∷◌, Option, refl, ap, sym, ◌∙◌, arith}
+use Rattle.std.proofs.Common.{◌≡◌, ℕ, Bool, true, false, ◌==◌, ◌&&◌, if◌then◌else◌, List, ◌∷◌, Option, Some, None, unwrap_or, refl, ap, sym, ◌∙◌, arith}
 use Rattle.std.proofs.lemmas.Bool.Decides.{nat_tests}
 use Rattle.pef_model.specs.declared.state.Ctx.{Ctx}
 use Rattle.pef_model.specs.declared.state.Ctx.TheVariants as ctx
@@ -18,7 +18,7 @@ use Rattle.pef_model.specs.Target.{is_guest, target_in, touches_guest}
 use Rattle.pef_model.specs.GuestPart.{GuestPart, VcpuPart, part_in, part_of_access}
 use Rattle.pef_model.specs.Guest.{Guest, next_guest}
 use Rattle.pef_model.specs.History.{guest_after}
-use Rattle.pef_model.specs.TransitionLaw.{takes_up_by, taken_by, taken_in}
+use Rattle.pef_model.specs.TransitionLaw.{taken_given, taken_by, taken_in}
 use Rattle.pef_model.proofs.Folds.{same_test, test_same}
 
 -- whether a step takes up this vCPU of the guest at which it aims, by the one that is selected
@@ -65,15 +65,19 @@ and_false true = refl
 and_false false = refl
 
 -- a step takes up a vCPU where it aims at its guest and takes it up there
-aims_and_takes : (plan : Plan) (lpid vid l v : ℕ) (c : Ctx) (a : Answer) (cmd : Cmd) → takes_up_by lpid vid l v c cmd a ≡ is_guest lpid (target_in plan c l cmd) && takes vid v c a cmd
-aims_and_takes plan lpid vid l v ctx.Hv Enter (UReturn r0 r2 outs) = refl
-aims_and_takes plan lpid vid l v ctx.Hv a (UReturn r0 r2 outs) = sym (and_false (l == lpid))
-aims_and_takes plan lpid vid l v c a cmd = sym (and_false (is_guest lpid (target_in plan c l cmd)))
+aims_and_takes : (plan : Plan) (g : GuestPart) (old lpid vid l v : ℕ) (c : Ctx) (a : Answer) (cmd : Cmd) →
+    unwrap_or (taken_given g lpid vid l v c cmd a) old ≡ (if is_guest lpid (target_in plan c l cmd) && takes vid v c a cmd then g.generation else old)
+aims_and_takes plan g old lpid vid l v ctx.Hv Enter (UReturn r0 r2 outs) = by_test ((l == lpid) && (v == vid)) where
+  by_test : (b : Bool) → unwrap_or (if b then Some g.generation else None) old ≡ (if b then g.generation else old)
+  by_test true = refl
+  by_test false = refl
+aims_and_takes plan g old lpid vid l v ctx.Hv a (UReturn r0 r2 outs) = ap (λ (b : Bool). if b then g.generation else old) (sym (and_false (l == lpid)))
+aims_and_takes plan g old lpid vid l v c a cmd = ap (λ (b : Bool). if b then g.generation else old) (sym (and_false (is_guest lpid (target_in plan c l cmd))))
 
 -- so it is after an entry
 pub generation_after : (plan : Plan) (past : List Event) (e : Event) (lpid vid : ℕ) →
     taken_in plan (e ∷ past) lpid vid ≡ taken_by plan (guest_after plan lpid past).part e lpid vid
-generation_after plan past e lpid vid = by_test (touches_guest plan lpid e) ∙ ap value (sym (aims_and_takes plan lpid vid e.saw.lpid e.saw.vid e.saw.before e.trace.answer e.trace.cmd)) where
+generation_after plan past e lpid vid = by_test (touches_guest plan lpid e) ∙ sym (aims_and_takes plan g.part (g.part.vcpus vid).generation lpid vid e.saw.lpid e.saw.vid e.saw.before e.trace.answer e.trace.cmd) where
   g : Guest
   g = guest_after plan lpid past
 

@@ -24,10 +24,10 @@ FramesHoldLastNorm =
     has_real_place (plan_of config) ra ≡ true →
     doubleword (frame_after (plan_of config) (frame_of (plan_of config) ra) past) (offset_of (plan_of config) ra) ≡ last_norm (plan_of config) past ra
 
--- a guest's step changes no normal frame but the one that it tells
+-- a step changes no normal frame but the one that it tells
 abbrev pub GuestLeavesFrames : Type 0
 GuestLeavesFrames =
-    (plan : Plan) (past : List Event) (e : Event) (run : Run) (n : ℕ) → e.saw.before ≡ ctx.Guest run → e.saw.frame ≢ Some n →
+    (plan : Plan) (past : List Event) (e : Event) (n : ℕ) → e.saw.frame ≢ Some n →
     frame_after plan n (e ∷ past) ≡ frame_after plan n past
 
 -- the hypervisor's store changes no guest

@@ -78,39 +78,42 @@ guest_with_one_vcpu = record (start_guest small_plan 1) { part = record (start_p
 abbrev pub ReturnsToSelected : Type 0
 ReturnsToSelected = map (λ vid. answer_selecting ctx.Hv vid guest_with_one_vcpu true (return_with 0)) (0 ∷ 1 ∷ 2 ∷ []) ≡ Ret UInvalid ∷ Enter ∷ Ret UInvalid ∷ []
 
--- the answers of a call that moves a page, where a secure frame is free: a row for each phase, a column for each page
-abbrev pub by_phase : Bool → Cmd → List (List Answer)
-by_phase free cmd = map (λ phase. map (λ page. answer_at ctx.Hv (guest_in phase page Idle) free cmd) pages) phases
+-- the answers of a call that moves a page in a guest of this phase, one for each of these pages
+abbrev pub answers_in : Phase → List Page → Bool → Cmd → List Answer
+answers_in phase pages free cmd = map (λ page. answer_at ctx.Hv (guest_in phase page Idle) free cmd) pages
 
--- what UV_PAGE_OUT answers
+-- pages that are Secure, Out, going out and coming in; Shared ones
+abbrev pub settled_pages : List Page
+settled_pages = at_rest Secure ∷ at_rest Out ∷ on_the_move Secure Outward ∷ on_the_move Out Inward ∷ []
+
+abbrev pub shared_pages : List Page
+shared_pages = at_rest (Shared None true) ∷ at_rest (Shared (Some 3) false) ∷ []
+
+-- what UV_PAGE_OUT answers: a row for each phase but the one in which a guest ends
 abbrev pub PageOutByPhase : Type 0
 PageOutByPhase =
-    by_phase true (page_out_to 0x0)
+    map (λ phase. answers_in phase pages true (page_out_to 0x0)) (phase.Absent ∷ phase.Normal ∷ phase.Starting ∷ phase.Secure ∷ [])
     ≡ replicate 7 (Ret UParameter)
     ∷ replicate 7 (Ret UParameter)
     ∷ (Ret UP3 ∷ Ret UBusy ∷ Ret UP3 ∷ Ret USuccess ∷ Ret USuccess ∷ Ret UBusy ∷ Ret UP3 ∷ [])
     ∷ (Ret UP3 ∷ Step ∷ Ret UP3 ∷ Ret USuccess ∷ Ret USuccess ∷ Ret UBusy ∷ Ret UP3 ∷ [])
-    ∷ replicate 7 (Ret UParameter)
     ∷ []
 
--- what UV_PAGE_IN answers, where a secure frame is free, and where none is
+-- what UV_PAGE_IN answers
 pub record PageInByPhase : Type 0 where
-  pub free :
-      by_phase true (page_in_from 0x0)
-      ≡ replicate 7 (Ret UParameter)
-      ∷ replicate 7 (Ret UParameter)
-      ∷ (Ret UP3 ∷ Ret UP3 ∷ Step ∷ Ret UP3 ∷ Ret UP3 ∷ Ret UP3 ∷ Ret UBusy ∷ [])
-      ∷ (Ret UP3 ∷ Ret UP3 ∷ Step ∷ Ret UP3 ∷ Ret UP3 ∷ Ret UP3 ∷ Ret UBusy ∷ [])
-      ∷ replicate 7 (Ret UParameter)
-      ∷ []
-  pub none :
-      by_phase false (page_in_from 0x0)
-      ≡ replicate 7 (Ret UParameter)
-      ∷ replicate 7 (Ret UParameter)
-      ∷ (Ret UP3 ∷ Ret UP3 ∷ Ret UBusy ∷ Ret UP3 ∷ Ret UP3 ∷ Ret UP3 ∷ Ret UBusy ∷ [])
-      ∷ (Ret UP3 ∷ Ret UP3 ∷ Ret UBusy ∷ Ret UP3 ∷ Ret UP3 ∷ Ret UP3 ∷ Ret UBusy ∷ [])
-      ∷ replicate 7 (Ret UParameter)
-      ∷ []
+  -- of every page where the phase isn't one for it
+  pub closed : map (λ free. map (λ phase. answers_in phase pages free (page_in_from 0x0)) (phase.Absent ∷ phase.Normal ∷ phase.Aborting ∷ [])) (true ∷ false ∷ []) ≡ replicate 2 (replicate 3 (replicate 7 (Ret UParameter)))
+  -- where a secure frame is free, and where none is
+  pub free : map (λ phase. answers_in phase settled_pages true (page_in_from 0x0)) (phase.Starting ∷ phase.Secure ∷ []) ≡ replicate 2 (Ret UP3 ∷ Step ∷ Ret UP3 ∷ Ret UBusy ∷ [])
+  pub none : map (λ phase. answers_in phase settled_pages false (page_in_from 0x0)) (phase.Starting ∷ phase.Secure ∷ []) ≡ replicate 2 (Ret UP3 ∷ Ret UBusy ∷ Ret UP3 ∷ Ret UBusy ∷ [])
+  -- an Invalid page of a guest that is Secure
+  pub invalid : map (λ free. answers_in phase.Secure (at_rest Invalid ∷ []) free (page_in_from 0x0)) (true ∷ false ∷ []) ≡ replicate 2 (Ret UP3 ∷ [])
+
+-- what no row does yet, a field for each
+pub record NotHereYet : Type 0 where
+  pub aborting_page_out : answers_in phase.Aborting pages true (page_out_to 0x0) ≡ replicate 7 (Ret UParameter)
+  pub starting_page_in : map (λ free. answers_in phase.Starting (at_rest Invalid ∷ []) free (page_in_from 0x0)) (true ∷ false ∷ []) ≡ replicate 2 (Ret UP3 ∷ [])
+  pub shared_page_in : map (λ free. map (λ phase. answers_in phase shared_pages free (page_in_from 0x0)) (phase.Starting ∷ phase.Secure ∷ [])) (true ∷ false ∷ []) ≡ replicate 2 (replicate 2 (replicate 2 (Ret UP3)))
 
 -- what an access to the second doubleword of page 1 meets in a guest of this phase
 abbrev pub met_in : Phase → List Meeting
@@ -148,5 +151,6 @@ pub record TablesByPhase : Type 0 where
   pub selected : ReturnsToSelected
   pub page_out : PageOutByPhase
   pub page_in : PageInByPhase
+  pub yet : NotHereYet
   pub meets_ : MeetsByPhase
   pub loads : LoadsByKind

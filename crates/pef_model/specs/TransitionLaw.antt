@@ -1,5 +1,5 @@
 -- Laws of transitions: which entries change a page's kind, and which a vCPU's state.
-use Rattle.std.specs.Prelude.{◌≡◌, ℕ, ◌==◌, Bool, false, ◌&&◌, ◌||◌, if◌then◌else◌, List, ◌∷◌, Option, Some, None}
+use Rattle.std.specs.Prelude.{◌≡◌, ℕ, ◌==◌, Bool, false, ◌&&◌, if◌then◌else◌, List, ◌∷◌, Option, Some, None, unwrap_or, option_map}
 use Rattle.pef_model.specs.declared.state.Kind.{Kind}
 use Rattle.pef_model.specs.declared.state.Kind.TheVariants.{Secure, Out}
 use Rattle.pef_model.specs.declared.state.Pending.{Pending}
@@ -23,64 +23,53 @@ use Rattle.pef_model.specs.Target.{vcpu_in}
 use Rattle.pef_model.specs.GuestPart.{GuestPart, page_of}
 use Rattle.pef_model.specs.History.{guest_after, Extends, page_after}
 
--- whether a step is an access of a guest to its page that was done and took a frame for it
-abbrev pub reaches_by : Plan → ℕ → ℕ → Ctx → Cmd → Answer → Option PoolSaw → Bool
-reaches_by plan lpid gfn (ctx.Guest run) (GLd rd gpa) (answer.Val value) (Some saw) = (run.lpid == lpid) && (page_of plan gpa == gfn)
-reaches_by plan lpid gfn (ctx.Guest run) (GSt rs gpa) answer.Done (Some saw) = (run.lpid == lpid) && (page_of plan gpa == gfn)
-reaches_by plan lpid gfn before cmd a pool = false
+-- a kind for one page of a guest, and none for another
+abbrev pub for_page : ℕ → ℕ → ℕ → ℕ → Kind → Option Kind
+for_page lpid gfn at_lpid at_gfn new = if (at_lpid == lpid) && (at_gfn == gfn) then Some new else None
 
--- whether a step ends a page-in of a guest's page that is accepted
-abbrev pub comes_in_by : ℕ → ℕ → Ctx → Answer → Bool
-comes_in_by lpid gfn (ctx.Uv (Inward move)) (answer.Ret USuccess) = (move.lpid == lpid) && (move.gfn == gfn)
-comes_in_by lpid gfn before a = false
+-- the kind that a step gives a guest's page, by the guest that it finds: Secure to one that an access backed and to one whose page-in is accepted, Out to one whose page-out ends; None where it gives it none
+abbrev pub kind_given : Plan → GuestPart → ℕ → ℕ → Ctx → Cmd → Answer → Option PoolSaw → Option Kind
+kind_given plan g lpid gfn (ctx.Guest run) (GLd rd gpa) (answer.Val value) (Some saw) = for_page lpid gfn run.lpid (page_of plan gpa) Secure
+kind_given plan g lpid gfn (ctx.Guest run) (GSt rs gpa) answer.Done (Some saw) = for_page lpid gfn run.lpid (page_of plan gpa) Secure
+kind_given plan g lpid gfn (ctx.Uv (Inward move)) cmd (answer.Ret USuccess) pool = for_page lpid gfn move.lpid move.gfn Secure
+kind_given plan g lpid gfn (ctx.Uv (Outward move)) cmd (answer.Ret USuccess) pool = for_page lpid gfn move.lpid move.gfn Out
+kind_given plan g lpid gfn before cmd a pool = None
 
--- whether a step ends a page-out of a guest's page
-abbrev pub goes_out_by : ℕ → ℕ → Ctx → Answer → Bool
-goes_out_by lpid gfn (ctx.Uv (Outward move)) (answer.Ret USuccess) = (move.lpid == lpid) && (move.gfn == gfn)
-goes_out_by lpid gfn before a = false
-
--- the kind of a page after an entry, by the guest that it finds: Secure after an access that was done and after a page-in that is accepted, Out after the end of a page-out, and else as it was
+-- the kind of a page after an entry: the one that its step gives it, and else as it was
 abbrev pub kind_by : Plan → GuestPart → Event → ℕ → ℕ → Kind
-kind_by plan g e lpid gfn =
-    if reaches_by plan lpid gfn e.saw.before e.trace.cmd e.trace.answer e.saw.pool || comes_in_by lpid gfn e.saw.before e.trace.answer then Secure
-    else if goes_out_by lpid gfn e.saw.before e.trace.answer then Out
-    else (g.pages gfn).kind
+kind_by plan g e lpid gfn = unwrap_or (kind_given plan g lpid gfn e.saw.before e.trace.cmd e.trace.answer e.saw.pool) (g.pages gfn).kind
 
 abbrev pub EachEntryLeavesKinds : Type 0
 EachEntryLeavesKinds =
     (plan : Plan) (past : List Event) (e : Event) (lpid gfn : ℕ) → Extends plan past e → (page_after plan (e ∷ past) lpid gfn).kind ≡ kind_by plan (guest_after plan lpid past).part e lpid gfn
-
--- whether a step is UV_RETURN that takes up a vCPU, the selected one
-abbrev pub takes_up_by : ℕ → ℕ → ℕ → ℕ → Ctx → Cmd → Answer → Bool
-takes_up_by lpid vid selected_lpid selected_vid ctx.Hv (UReturn r0 r2 outs) answer.Enter = (selected_lpid == lpid) && (selected_vid == vid)
-takes_up_by lpid vid selected_lpid selected_vid before cmd a = false
 
 -- for what a vCPU waits after a step of its own with which it leaves; None after another step
 abbrev pub waits_by : GuestPart → ℕ → Ctx → Cmd → Answer → Option Pending
 waits_by g vid before cmd (answer.Exit exit.Irq) = Some pending.Irq
 waits_by g vid before cmd a = None
 
--- the state of a vCPU that waits, and else the one that it had
-abbrev pub parked_or : Option Pending → VState → VState
-parked_or (Some pending) old = Parked pending
-parked_or None old = old
-
 -- whether this vCPU is the one whose step it is
 abbrev pub is_vcpu : ℕ → ℕ → Option Run → Bool
 is_vcpu lpid vid None = false
 is_vcpu lpid vid (Some run) = (run.lpid == lpid) && (run.vid == vid)
 
--- the state of a vCPU after an entry, by the guest that it finds: it runs on the entry's CPU where UV_RETURN takes it up, is parked where it leaves to wait, and else is as it was
-abbrev pub state_by : Plan → GuestPart → Event → ℕ → ℕ → VState
-state_by plan g e lpid vid =
-    if takes_up_by lpid vid e.saw.lpid e.saw.vid e.saw.before e.trace.cmd e.trace.answer then Running e.trace.cpu
-    else if is_vcpu lpid vid (vcpu_in e.saw.before) then parked_or (waits_by g vid e.saw.before e.trace.cmd e.trace.answer) (g.vcpus vid).state
-    else (g.vcpus vid).state
+-- the state that a step gives a vCPU, by the guest and the selected vCPU that it finds: it runs where UV_RETURN takes it up, and is parked where it leaves to wait; None where the step gives it none
+abbrev pub state_given : GuestPart → ℕ → ℕ → ℕ → ℕ → ℕ → Ctx → Cmd → Answer → Option VState
+state_given g lpid vid selected_lpid selected_vid cpu ctx.Hv (UReturn r0 r2 outs) answer.Enter = if (selected_lpid == lpid) && (selected_vid == vid) then Some (Running cpu) else None
+state_given g lpid vid selected_lpid selected_vid cpu before cmd a = if is_vcpu lpid vid (vcpu_in before) then option_map Parked (waits_by g vid before cmd a) else None
 
--- the generation in which a vCPU was last taken up, after an entry: the guest's where UV_RETURN takes it up, and else as it was
+-- the state of a vCPU after an entry: the one that its step gives it, and else as it was
+abbrev pub state_by : Plan → GuestPart → Event → ℕ → ℕ → VState
+state_by plan g e lpid vid = unwrap_or (state_given g lpid vid e.saw.lpid e.saw.vid e.trace.cpu e.saw.before e.trace.cmd e.trace.answer) (g.vcpus vid).state
+
+-- the generation in which a step takes up a vCPU: the guest's where UV_RETURN does; None where it takes it up in none
+abbrev pub taken_given : GuestPart → ℕ → ℕ → ℕ → ℕ → Ctx → Cmd → Answer → Option ℕ
+taken_given g lpid vid selected_lpid selected_vid ctx.Hv (UReturn r0 r2 outs) answer.Enter = if (selected_lpid == lpid) && (selected_vid == vid) then Some g.generation else None
+taken_given g lpid vid selected_lpid selected_vid before cmd a = None
+
+-- the generation in which a vCPU was last taken up, after an entry
 abbrev pub taken_by : Plan → GuestPart → Event → ℕ → ℕ → ℕ
-taken_by plan g e lpid vid =
-    if takes_up_by lpid vid e.saw.lpid e.saw.vid e.saw.before e.trace.cmd e.trace.answer then g.generation else (g.vcpus vid).generation
+taken_by plan g e lpid vid = unwrap_or (taken_given g lpid vid e.saw.lpid e.saw.vid e.saw.before e.trace.cmd e.trace.answer) (g.vcpus vid).generation
 
 -- the state of a guest's vCPU after a history
 abbrev pub state_after : Plan → List Event → ℕ → ℕ → VState
