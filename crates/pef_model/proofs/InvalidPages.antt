@@ -1,5 +1,5 @@
 -- An Invalid page holds zeros.
-use Rattle.std.proofs.Common.{◌≡◌, ℕ, List, [], ◌∷◌, Bool, true, false, ◌==◌, ◌&&◌, ◌||◌, if◌then◌else◌, refl, ap, sym, ◌∙◌, Option, Some, None, arith}
+use Rattle.std.proofs.Common.{◌≡◌, ℕ, List, [], ◌∷◌, Bool, true, false, ◌==◌, ◌&&◌, if◌then◌else◌, refl, ap, sym, ◌∙◌, Option, Some, None, arith}
 use Rattle.std.specs.Prelude.{unwrap_or}
 use Rattle.std.proofs.lemmas.Grind.{common_steps}
 use Rattle.std.proofs.lemmas.Bool.{and_parts}
@@ -9,17 +9,20 @@ use Rattle.pef_model.specs.declared.state.Run.{Run}
 use Rattle.pef_model.specs.declared.state.Ctx.{Ctx}
 use Rattle.pef_model.specs.declared.state.Ctx.TheVariants as ctx
 use Rattle.pef_model.specs.declared.command.Cmd.{Cmd}
-use Rattle.pef_model.specs.declared.command.Cmd.TheVariants.{GSt}
+use Rattle.pef_model.specs.declared.command.Cmd.TheVariants.{GLd, GSt}
+use Rattle.pef_model.specs.declared.command.Code.TheVariants.{USuccess}
+use Rattle.pef_model.specs.declared.state.Work.TheVariants.{Inward, Outward}
 use Rattle.pef_model.specs.declared.entry.Answer.{Answer}
-use Rattle.pef_model.specs.declared.entry.Answer.TheVariants.{Done}
+use Rattle.pef_model.specs.declared.entry.Answer.TheVariants.{Done, Val, Ret}
+use Rattle.pef_model.specs.declared.entry.PoolSaw.{PoolSaw}
 use Rattle.pef_model.specs.Plan.{Plan}
 use Rattle.pef_model.specs.Event.{Event, newest}
-use Rattle.pef_model.specs.GuestPart.{page_of}
+use Rattle.pef_model.specs.GuestPart.{GuestPart, page_of}
 use Rattle.pef_model.specs.Deed.{Deed}
 use Rattle.pef_model.specs.History.{guest_after, Extends, last_store, reg, page_after}
 use Rattle.pef_model.proofs.Folds.{same_test, test_same}
 use Rattle.pef_model.specs.SearchLaw.{step_decides, decides_doubleword}
-use Rattle.pef_model.specs.TransitionLaw.{kind_by, reaches_by, comes_in_by, goes_out_by}
+use Rattle.pef_model.specs.TransitionLaw.{kind_given, kind_by}
 use Rattle.pef_model.specs.GuestLaw.{InvalidPageIsZero}
 use Rattle.pef_model.proofs.Outcomes.{outcome}
 use Rattle.pef_model.proofs.Stores.{last_store_is_newest}
@@ -32,13 +35,21 @@ kinds plan past e lpid gfn extends = let given = outcome plan past e extends in 
 secure_not_invalid : kind.Secure ≡ kind.Invalid → ⊥
 secure_not_invalid h = cc
 
+out_not_invalid : kind.Out ≡ kind.Invalid → ⊥
+out_not_invalid h = cc
+
 -- no entry makes a page Invalid
-invalid_before : (a b : Bool) (old : Kind) → (if a then kind.Secure else if b then kind.Out else old) ≡ kind.Invalid → old ≡ kind.Invalid
-invalid_before true b old h = absurd (secure_not_invalid h)
-invalid_before false true old h = absurd (out_not_invalid h) where
-  out_not_invalid : kind.Out ≡ kind.Invalid → ⊥
-  out_not_invalid k = cc
-invalid_before false false old h = h
+by_page : (b : Bool) (new old : Kind) → (new ≡ kind.Invalid → ⊥) → unwrap_or (if b then Some new else None) old ≡ kind.Invalid → old ≡ kind.Invalid
+by_page true new old other h = absurd (other h)
+by_page false new old other h = h
+
+invalid_before : (plan : Plan) (g : GuestPart) (lpid gfn : ℕ) (c : Ctx) (cmd : Cmd) (a : Answer) (pool : Option PoolSaw) (old : Kind) →
+    unwrap_or (kind_given plan g lpid gfn c cmd a pool) old ≡ kind.Invalid → old ≡ kind.Invalid
+invalid_before plan g lpid gfn (ctx.Guest run) (GLd rd gpa) (Val value) (Some saw) old h = by_page ((run.lpid == lpid) && (page_of plan gpa == gfn)) kind.Secure old secure_not_invalid h
+invalid_before plan g lpid gfn (ctx.Guest run) (GSt rs gpa) Done (Some saw) old h = by_page ((run.lpid == lpid) && (page_of plan gpa == gfn)) kind.Secure old secure_not_invalid h
+invalid_before plan g lpid gfn (ctx.Uv (Inward move)) cmd (Ret USuccess) pool old h = by_page ((move.lpid == lpid) && (move.gfn == gfn)) kind.Secure old secure_not_invalid h
+invalid_before plan g lpid gfn (ctx.Uv (Outward move)) cmd (Ret USuccess) pool old h = by_page ((move.lpid == lpid) && (move.gfn == gfn)) kind.Out old out_not_invalid h
+invalid_before plan g lpid gfn c cmd a pool old h = h
 
 -- a store to an address that was done leaves the page Secure
 store_secures : (plan : Plan) (past : List Event) (e : Event) (run : Run) (rs gpa : ℕ) → Extends plan past e → e.saw.before ≡ ctx.Guest run → e.trace.cmd ≡ GSt rs gpa → e.trace.answer ≡ Done → e.saw.frame ≡ None →
@@ -77,8 +88,7 @@ zero_after : (plan : Plan) (past : List Event) (e : Event) (lpid gpa : ℕ) → 
 zero_after plan past e lpid gpa extends invalid earlier = by_decision (decides_doubleword plan lpid gpa past e) refl where
   before : last_store plan past lpid gpa ≡ 0
   before = earlier (
-      invalid_before (reaches_by plan lpid (page_of plan gpa) e.saw.before e.trace.cmd e.trace.answer e.saw.pool || comes_in_by lpid (page_of plan gpa) e.saw.before e.trace.answer)
-      (goes_out_by lpid (page_of plan gpa) e.saw.before e.trace.answer) (page_after plan past lpid (page_of plan gpa)).kind
+      invalid_before plan (guest_after plan lpid past).part lpid (page_of plan gpa) e.saw.before e.trace.cmd e.trace.answer e.saw.pool (page_after plan past lpid (page_of plan gpa)).kind
       (sym (kinds plan past e lpid (page_of plan gpa) extends) ∙ invalid))
 
   by_decision : (o : Option ℕ) → decides_doubleword plan lpid gpa past e ≡ o → last_store plan (e ∷ past) lpid gpa ≡ 0

@@ -20,7 +20,7 @@ use Rattle.pef_model.specs.Target.{frame_of, has_real_place, target_in, is_guest
 use Rattle.pef_model.specs.Memory.{offset_of, write_in, writes_in, after_writes, overwritten, next_frame, start_frame, Write, either_of, writes_of, covers, written_at}
 use Rattle.pef_model.specs.Guest.{start_guest, next_guest}
 use Rattle.pef_model.specs.History.{frame_after, last_norm, IsLegal}
-use Rattle.pef_model.specs.NormalLaw.{FramesHoldLastNorm, GuestLeavesFrames, StoreLeavesGuests, StoreIsLastNorm}
+use Rattle.pef_model.specs.NormalLaw.{FramesHoldLastNorm, StepLeavesFrames, StoreLeavesGuests, StoreIsLastNorm}
 use Rattle.byteorder.specs.Endian.{big_bytes}
 use Rattle.pef_model.proofs.Written.{doubleword_overwrites, frame_written}
 use Rattle.pef_model.proofs.Folds.{test_same, same_test, skips}
@@ -31,8 +31,8 @@ use Rattle.pef_model.proofs.Placed.{store_is_placed, copy_is_placed, aligned}
 use Rattle.pef_model.proofs.Hands.{all_fill}
 
 -- a step changes no normal frame but the one that it tells
-pub guest_leaves_frames : GuestLeavesFrames
-guest_leaves_frames plan past e n other = skips (touches_frame n) (next_frame plan n) (start_frame plan) e past (untold e.saw.frame other) where
+pub step_leaves_frames : StepLeavesFrames
+step_leaves_frames plan past e n other = skips (touches_frame n) (next_frame plan n) (start_frame plan) e past (untold e.saw.frame other) where
   untold : (frame : Option ℕ) → frame ≢ Some n → is_number n frame ≡ false
   untold None other = refl
   untold (Some m) other = by_test (m == n) refl where

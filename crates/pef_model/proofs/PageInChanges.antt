@@ -2,6 +2,7 @@
 use Rattle.std.proofs.Common.{◌≡◌, ℕ, ◌<◌, nat_lt, List, Bool, true, false, not, refl, sym, ◌==◌, ◌&&◌, if◌then◌else◌, Option, Some, None, is_some, arith, nat_le}
 use Rattle.std.proofs.lemmas.Bool.{and_parts, not-false}
 use Rattle.std.proofs.lemmas.Bool.Decides.{nat_tests}
+use Rattle.pef_model.specs.declared.state.Phase.{Phase}
 use Rattle.pef_model.specs.declared.state.Kind.{Kind}
 use Rattle.pef_model.specs.declared.state.Kind.TheVariants as kind
 use Rattle.pef_model.specs.declared.state.Move.{Move}
@@ -25,11 +26,11 @@ use Rattle.pef_model.proofs.Changes.{Change, Comes, Reads, Accepts, Refuses, ask
 use Rattle.pef_model.proofs.HypervisorChanges.{passes, no_mover, work_aims, copy_keeps, gone}
 
 -- a page that can come in is Out
-out_kind : (k : Kind) → can_come_in k ≡ true → k ≡ kind.Out
-out_kind kind.Out comes = refl
-out_kind kind.Invalid comes = cc
-out_kind kind.Secure comes = cc
-out_kind (kind.Shared frame fresh) comes = cc
+out_kind : (p : Phase) (k : Kind) → can_come_in p k ≡ true → k ≡ kind.Out
+out_kind p kind.Out comes = refl
+out_kind p kind.Invalid comes = cc
+out_kind p kind.Secure comes = cc
+out_kind p (kind.Shared frame fresh) comes = cc
 
 -- what UV_PAGE_IN begins to move: a page of the guest that is Out at rest
 record MayComeIn (plan : Plan) (g : GuestPart) (gfn : ℕ) : Type 0 where
@@ -43,14 +44,14 @@ page_comes plan g src gpa flags order h =
     let page : Page = g.pages (page_of plan gpa) in
     let phases = passes (not (may_page_in_in g.phase)) UParameter _ h in
     let frames = passes (not (has_frame plan src)) UP2 _ phases.1 in
-    let pages = passes (not (has_page plan gpa && can_come_in page.kind)) UP3 _ frames.1 in
+    let pages = passes (not (has_page plan gpa && can_come_in g.phase page.kind)) UP3 _ frames.1 in
     let flagged = passes (nat_lt PAGE_IN_FLAGS flags) UP4 _ pages.1 in
     let orders = passes (not (order == plan.shift)) UP5 _ flagged.1 in
     let busy = passes (is_some page.mover) UBusy _ orders.1 in
-    let comes = and_parts (has_page plan gpa) (can_come_in page.kind) (not-false (has_page plan gpa && can_come_in page.kind) pages.0) in
+    let comes = and_parts (has_page plan gpa) (can_come_in g.phase page.kind) (not-false (has_page plan gpa && can_come_in g.phase page.kind) pages.0) in
     let place = and_parts _ (nat_lt (page_of plan gpa) plan.pages) comes.0 in
     let below : nat_lt (page_of plan gpa) plan.pages ≡ true = place.1 in
-    record { placed = grind (arith, nat_tests); kind_is = out_kind page.kind comes.1; at_rest = no_mover page.mover busy.0 }
+    record { placed = grind (arith, nat_tests); kind_is = out_kind g.phase page.kind comes.1; at_rest = no_mover page.mover busy.0 }
 
 -- a call that aims at the guest that it names names one of the machine
 numbered : (plan : Plan) (lpid : ℕ) (b : Bool) → (nat_le 1 lpid && nat_le lpid plan.guests) ≡ b → (if b then AtGuest lpid else Alone) ≡ AtGuest lpid → IsWithin 1 plan.guests lpid

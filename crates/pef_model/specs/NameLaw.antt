@@ -18,7 +18,7 @@ use Rattle.pef_model.specs.RunLaw.{small_config, line_at, go_all_at, return_with
 use Rattle.pef_model.specs.RefusalLaw.{page_out_to}
 use Rattle.pef_model.specs.PairLaw.{vault_config}
 
--- a run with each command's name, each code and each answer that a run gives; what is sealed is overwritten by zeros
+-- a run with names of commands, codes and answers; what is sealed is overwritten by zeros
 abbrev pub names_script : Script
 names_script = record {
   config = vault_config;
@@ -65,7 +65,7 @@ FrameHasItsLine =
 abbrev pub seen_after : List Line → List ℕ
 seen_after lines = registers_seen (view (plan_of vault_config) (run_of (record { config = vault_config; lines = lines }))) 0
 
--- the numbers that registers show: of an interrupt, of a call that was refused, of a load, of each code, of each call
+-- the numbers that registers show: of an interrupt, of a call that was refused, of a load, of codes, of calls
 pub record AreNumbers : Type 0 where
   pub interrupt : seen_after store_lines ≡ 0 ∷ 0 ∷ 0 ∷ 0x500 ∷ replicate 28 0
   pub refused : seen_after (line_at 1 0 (UPageout 1 0x400 0x300 1 8) ∷ []) ≡ 0 ∷ 0 ∷ 0 ∷ 3 ∷ 1 ∷ 0x400 ∷ 0x300 ∷ 1 ∷ 8 ∷ replicate 23 0

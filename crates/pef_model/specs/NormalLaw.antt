@@ -1,7 +1,6 @@
 -- Laws of normal memory.
 use Rattle.std.specs.Prelude.{◌≡◌, ◌≢◌, Some, ℕ, true, false, List, ◌∷◌}
 use Rattle.pef_model.specs.declared.config.Config.{Config}
-use Rattle.pef_model.specs.declared.state.Run.{Run}
 use Rattle.pef_model.specs.declared.state.Ctx.TheVariants as ctx
 use Rattle.pef_model.specs.declared.state.Move.{Move}
 use Rattle.pef_model.specs.declared.state.Way.{Way}
@@ -25,8 +24,8 @@ FramesHoldLastNorm =
     doubleword (frame_after (plan_of config) (frame_of (plan_of config) ra) past) (offset_of (plan_of config) ra) ≡ last_norm (plan_of config) past ra
 
 -- a step changes no normal frame but the one that it tells
-abbrev pub GuestLeavesFrames : Type 0
-GuestLeavesFrames =
+abbrev pub StepLeavesFrames : Type 0
+StepLeavesFrames =
     (plan : Plan) (past : List Event) (e : Event) (n : ℕ) → e.saw.frame ≢ Some n →
     frame_after plan n (e ∷ past) ≡ frame_after plan n past
 

@@ -20,16 +20,14 @@ may_page_in_in phase.Starting = true
 may_page_in_in phase.Secure = true
 may_page_in_in phase.Aborting = false
 
--- whether a page of this kind may come in: one that is Out
-abbrev pub can_come_in : Kind → Bool
-can_come_in kind.Invalid = false
-can_come_in kind.Secure = false
-can_come_in kind.Out = true
-can_come_in (kind.Shared frame fresh) = false
+-- whether a page of this kind may come in, in a guest of this phase: one that is Out may in each
+abbrev pub can_come_in : Phase → Kind → Bool
+can_come_in guest_phase kind.Out = true
+can_come_in guest_phase other = false
 
 -- whether a guest address is that of a page that may come in
 abbrev pub may_come_in : Plan → GuestPart → ℕ → Bool
-may_come_in plan g gpa = has_page plan gpa && can_come_in (g.pages (page_of plan gpa)).kind
+may_come_in plan g gpa = has_page plan gpa && can_come_in g.phase (g.pages (page_of plan gpa)).kind
 
 -- the code with which UV_PAGE_IN comes back by what it names, from left to right; None where all is well
 abbrev pub page_in_operands : Plan → GuestPart → ℕ → ℕ → ℕ → ℕ → Option Code

@@ -27,7 +27,7 @@ use Rattle.pef_model.specs.RefusalLaw.{page_out_to, page_in_from}
 abbrev pub small_plan : Plan
 small_plan = plan_of (record small_config { vault = true })
 
--- each phase, each state of a vCPU
+-- each phase, and states of a vCPU: it runs or doesn't, or waits
 abbrev pub phases : List Phase
 phases = phase.Absent ∷ phase.Normal ∷ phase.Starting ∷ phase.Secure ∷ phase.Aborting ∷ []
 

@@ -8,7 +8,7 @@ ghost use Rattle.pef_model.specs.Alike.{AlikeShowTheSame, AlikeClashTogether, Op
 ghost use Rattle.pef_model.specs.SeenReport.{AlikeReportTheSame, AlikeSoundPartsReportTheSame, SecretsGiveAlikeRuns};
 ghost use Rattle.pef_model.specs.PairLaw.{SecretStaysIn, ViewShowsStores, StreamTells, VaultIsShut};
 ghost use Rattle.pef_model.specs.SeenLaw.{RegistersAreSeen, SeenIsShown};
-ghost use Rattle.pef_model.specs.NormalLaw.{FramesHoldLastNorm, StoreIsLastNorm, LoadGivesLastNorm, GuestLeavesFrames, StoreLeavesGuests, WritesMakeFrames, EachMoveKeepsToItsObjects};
+ghost use Rattle.pef_model.specs.NormalLaw.{FramesHoldLastNorm, StoreIsLastNorm, LoadGivesLastNorm, StepLeavesFrames, StoreLeavesGuests, WritesMakeFrames, EachMoveKeepsToItsObjects};
 
 /// A secure guest that stores 7 loads 7, and the report says so.
 pub fn store_and_load()
@@ -140,9 +140,9 @@ pub fn load_gives_last_norm()
     ensures { LoadGivesLastNorm }
 {}
 
-/// A guest's step changes no normal frame but the one that it tells.
-pub fn guest_leaves_frames()
-    ensures { GuestLeavesFrames }
+/// A step changes no normal frame but the one that it tells.
+pub fn step_leaves_frames()
+    ensures { StepLeavesFrames }
 {}
 
 /// The hypervisor's store changes no guest.

@@ -50,7 +50,7 @@ pub fn tables_by_phase()
     ensures { TablesByPhase }
 {}
 
-/// A report with each command's name, each code and each answer but Gone and Nothing, and how these two are written.
+/// A report with names of commands, codes and answers, and how Gone and Nothing are written.
 pub fn each_name_is_written()
     ensures { EachNameIsWritten }
 {}

@@ -64,7 +64,7 @@ module _ {S : Type 0} where
   are_right_in guest call =
       may_page_in_in guest.phase
       && ((call.ra % 2 ^ guest.shift == 0) && nat_lt (call.ra / 2 ^ guest.shift) guest.normal)
-      && (has_page_at guest call.gpa && can_come_in (kind_at guest.pages (call.gpa / 2 ^ guest.shift)))
+      && (has_page_at guest call.gpa && can_come_in guest.phase (kind_at guest.pages (call.gpa / 2 ^ guest.shift)))
       && not (nat_lt PAGE_IN_FLAGS call.flags)
       && (call.order == guest.shift)
       && not (is_some (mover_at guest.pages (call.gpa / 2 ^ guest.shift)))

@@ -118,7 +118,7 @@ fn page_to_go_out<S: Seal>(guest: &Guest<S>, gpa: u64) -> Option<u32>
 /// The page that begins at a guest address, where there is one that is Out.
 fn page_to_come_in<S: Seal>(guest: &Guest<S>, gpa: u64) -> Option<u32>
     requires { IsWithin 8 16 guest.now.shift }
-    ensures number { result ≡ (if has_page_at guest.now gpa && can_come_in (kind_at guest.now.pages (gpa / 2 ^ guest.now.shift)) then Some (gpa / 2 ^ guest.now.shift) else None) }
+    ensures number { result ≡ (if has_page_at guest.now gpa && can_come_in guest.now.phase (kind_at guest.now.pages (gpa / 2 ^ guest.now.shift)) then Some (gpa / 2 ^ guest.now.shift) else None) }
     ensures below { IfSome result (λ gfn. gfn < length guest.now.pages.pages) }
 {
     let gfn = frame_below(gpa, guest.shift, guest.pages.count())?;
@@ -127,7 +127,7 @@ fn page_to_come_in<S: Seal>(guest: &Guest<S>, gpa: u64) -> Option<u32>
 
 /// Whether a page of this kind can come in: it is Out.
 fn can_come_in(kind: Kind) -> bool
-    ensures { result ≡ can_come_in kind }
+    ensures { (phase : Phase) → result ≡ can_come_in phase kind }
 {
     match kind {
         Kind::Out => true,
