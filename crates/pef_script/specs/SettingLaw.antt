@@ -84,11 +84,6 @@ pub record SealsAtTheEdge : Type 0 where
   pub other_key : HasFault (header (codes "key 000102030405060708090a0b0c0d0e0f101112131415161718191a1b1c1d1e1g\n")) 2 Number
   pub no_key : HasFault (header (codes "key\n")) 2 Count
 
--- a script that says each size, the seal and the key as they are where none is said
-abbrev pub SaidAsUnsaid : Type 0
-SaidAsUnsaid =
-    IsIdle (header (codes "shift 16\nnormal 16\nsecure 16\ncpus 1\nguests 1\nvcpus 1\npages 16\nseal stream\nkey 0000000000000000000000000000000000000000000000000000000000000000\n")) default_config
-
 -- configuration lines in their order, each at most once but for those of guests
 pub record OrdersAtTheEdge : Type 0 where
   pub nothing :
@@ -137,6 +132,5 @@ pub record SettingsAtTheEdge : Type 0 where
   pub sizes : SizesAtTheEdge
   pub guests : GuestsAtTheEdge
   pub seals : SealsAtTheEdge
-  pub said : SaidAsUnsaid
   pub orders : OrdersAtTheEdge
   pub ends : EndsAtTheEdge
