@@ -122,7 +122,6 @@ in_range plan guests normal n l vid c cmd k count selects works is = by_context 
   by_context (ctx.Uv (Outward move)) works at one = subst (λ (x : ℕ). (1 ≤ x) × (x - 1 < length guests)) (moves_out move l k cmd one) (works.least, move_below guests normal (record { cpu = n; way = way.Outward }) move works)
   by_context (ctx.Guest run) works at one = of_vcpu run.lpid run.vid (runs_at run l k cmd one) works.0
 
-
 module _ {S : Type 0} (takes : S → ℕ → ℕ → Type 0) (old : State S) (n : ℕ) (cpu : Cpu) (i : ℕ) (guest : Guest S) (s : Site takes old n cpu cpu.ctx i guest) (whole : IsWholeMachine takes old) (cmd : Cmd) (targets : Targets (length old.guests) old.normal cpu cmd (AtGuest (i + 1))) where
   -- the guest that it names
   aims : guest_aimed cpu.ctx cpu.lpid cmd ≡ Some (i + 1)

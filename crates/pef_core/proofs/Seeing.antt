@@ -1,17 +1,19 @@
 -- A machine looks at the step that it is to do.
-use Rattle.std.proofs.Common.{◌≡◌, ℕ, ◌+◌, ◌-◌, ◌^◌, ◌<◌, ◌≤◌, nat_lt, Bool, false, if◌then◌else◌, List, length, Some, None, is_some, get_or, refl, ap, sym, subst, ◌∙◌, arith}
+use Rattle.std.proofs.Common.{◌≡◌, ℕ, ◌+◌, ◌-◌, ◌^◌, ◌<◌, ◌≤◌, nat_lt, Bool, false, if◌then◌else◌, List, length, Option, Some, None, is_some, get_or, refl, ap, sym, subst, ◌∙◌, arith}
 use Rattle.std.specs.Prelude.{slice_get}
 use Rattle.pef_model.specs.declared.state.Tag.{Tag}
+use Rattle.pef_model.specs.declared.state.Ctx.{Ctx}
 use Rattle.pef_model.specs.declared.command.Cmd.{Cmd}
 use Rattle.pef_model.specs.declared.entry.Answer.{Answer}
 use Rattle.pef_model.specs.Plan.{Plan}
 use Rattle.pef_model.specs.Event.{Event, Mark}
-use Rattle.pef_model.specs.Target.{Ask, Target, Alone, AtGuest, AtFrame, target_in}
+use Rattle.pef_model.specs.Target.{Ask, Target, Alone, AtGuest, AtFrame, target_in, touches_pool}
 use Rattle.pef_model.specs.Cpu.{CpuPart, next_cpu}
 use Rattle.pef_model.specs.Guest.{Guest as GuestWhole}
 use Rattle.pef_model.specs.Clash.{clashes}
 use Rattle.pef_model.specs.History.{ask_of, deed_after, cpu_after, guest_after, pool_after, frame_after, found_after, next_entry}
 use Rattle.pef_model.specs.Sound.{clashes_at, is_clash}
+use Rattle.pef_model.specs.StepLaw.{let_out}
 use Rattle.pef_guest.specs.declared.cpu.Cpu.{Cpu}
 use Rattle.pef_guest.specs.declared.guest.Guest.{Guest}
 use Rattle.pef_guest.specs.Ready.{IsReadyFor}
@@ -25,6 +27,8 @@ use Rattle.pef_core.specs.declared.lent.Want.TheVariants as want
 use Rattle.pef_core.specs.Lent.{is_pool, frame_wanted, Touches}
 use Rattle.pef_core.specs.declared.did.Look.{Look}
 use Rattle.pef_model.proofs.Folds.{same_test}
+use Rattle.pef_model.proofs.Outcomes.{next_outcome}
+use Rattle.pef_model.proofs.Steps.{shown_is}
 use Rattle.pef_model.specs.Memory.{pool_with}
 use Rattle.pef_core.proofs.Fitting.{free_after}
 use Rattle.pef_core.proofs.Continuing.{mark_at}
@@ -115,20 +119,36 @@ module _ {S : Type 0} (stands : S → Tag → List ℕ → List ℕ → Type 0) 
       let ask : Ask = ask_of (cpu_after plan n past) cmd in
       subst (IsShareOf (nat_lt 0 (pool_after plan past))) (sym (unpooled plan k (frame_after plan k past) ask (cpu_after plan n past).ctx cmd)) tt
 
+  -- what it did with the pool
+  pool_told : (touched : Bool) → touched ≡ touches_pool e → pool_seen touched (length m.pool.free) (length new.pool.free) ≡ e.saw.pool
+  pool_told touched is = ap (λ (b : Bool). pool_seen b (length m.pool.free) (length new.pool.free)) is
+      ∙ told_by_numbers (length m.pool.free) (length new.pool.free) e.saw.pool
+      (subst (λ (free : ℕ). IsShareOf (nat_lt 0 free) e.saw.pool) (sym fits.free) (share_at (target_in plan (cpu_after plan n past).ctx (cpu_after plan n past).lpid cmd)))
+      (makes.fits.free ∙ free_after plan past e ∙ ap (λ (k : ℕ). pool_with k e.saw.pool) (sym fits.free))
+
+  -- what a guest lets out is decided by the context before, the command and the answer
+  shown_told : (before : Ctx) (shown : List ℕ) → before ≡ e.saw.before → ((q : Plan) (guests : ℕ → GuestWhole) (frame : Option ℕ) → shown ≡ let_out q guests before cmd a frame) → shown ≡ e.saw.shown
+  shown_told before shown is out =
+      let guests : ℕ → GuestWhole = λ lpid. guest_after plan lpid past in
+      out plan guests e.saw.frame
+      ∙ ap (λ (c : Ctx). let_out plan guests c cmd a e.saw.frame) is
+      ∙ ap (λ (x : Answer). let_out plan guests e.saw.before cmd x e.saw.frame) makes.answered
+      ∙ sym (shown_is plan guests e.saw.frame e.saw.before cmd e.trace.answer e.saw.after e.saw.shown (next_outcome plan past (mark_at n line place stamp) cmd))
+
   pub tells : (look : Look) → IsLook (next_entry plan past (mark_at n line place stamp) cmd) look → (own : Cpu) → slice_get new.cpus n ≡ Some own →
+      (shown : List ℕ) → ((q : Plan) (guests : ℕ → GuestWhole) (frame : Option ℕ) → shown ≡ let_out q guests look.before cmd a frame) →
       Tells (next_entry plan past (mark_at n line place stamp) cmd)
-      (record { cmd = cmd; answer = a; before = look.before; after = own.ctx; lpid = look.lpid; vid = look.vid; last = look.last; pool = pool_seen look.touched (length m.pool.free) (length new.pool.free); frame = look.frame })
-  tells look is own own_is = record {
-    cmd = refl;
-    answer = makes.answered;
-    before = is.before;
-    after = (makes.fits.cpus n own own_is).ctx ∙ ap (λ (b : Bool). (if b then next_cpu (cpu_after plan n past) e else cpu_after plan n past).ctx) (same_test n);
-    lpid = is.lpid;
-    vid = is.vid;
-    last = is.last;
-    pool = ap (λ (b : Bool). pool_seen b (length m.pool.free) (length new.pool.free)) is.touched
-        ∙ told_by_numbers (length m.pool.free) (length new.pool.free) e.saw.pool
-        (subst (λ (free : ℕ). IsShareOf (nat_lt 0 free) e.saw.pool) (sym fits.free) (share_at (target_in plan (cpu_after plan n past).ctx (cpu_after plan n past).lpid cmd)))
-        (makes.fits.free ∙ free_after plan past e ∙ ap (λ (k : ℕ). pool_with k e.saw.pool) (sym fits.free));
-    frame = is.frame;
-  }
+      (record {
+        cmd = cmd;
+        answer = a;
+        saw = record { before = look.before; after = own.ctx; lpid = look.lpid; vid = look.vid; last = look.last; pool = pool_seen look.touched (length m.pool.free) (length new.pool.free); frame = look.frame; shown = shown };
+      })
+  tells look is own own_is shown out =
+      let after : own.ctx ≡ e.saw.after = (makes.fits.cpus n own own_is).ctx ∙ ap (λ (b : Bool). (if b then next_cpu (cpu_after plan n past) e else cpu_after plan n past).ctx) (same_test n) in
+      let pool : pool_seen look.touched (length m.pool.free) (length new.pool.free) ≡ e.saw.pool = pool_told look.touched is.touched in
+      let told : shown ≡ e.saw.shown = shown_told look.before shown is.before out in
+      record {
+        cmd = refl;
+        answer = makes.answered;
+        saw = λ i. record { before = is.before i; after = after i; lpid = is.lpid i; vid = is.vid i; last = is.last i; pool = pool i; frame = is.frame i; shown = told i };
+      }

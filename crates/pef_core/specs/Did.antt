@@ -28,17 +28,11 @@ pub record IsLook (e : Event) (look : Look) : Type 0 where
   pub touched : look.touched ≡ touches_pool e
   pub frame : look.frame ≡ e.saw.frame
 
--- what a step did is what its entry tells, but for the values that a guest lets out
+-- what a step did is what its entry tells: its command, its answer, and all that it saw
 pub record Tells (e : Event) (did : Did) : Type 0 where
   pub cmd : did.cmd ≡ e.trace.cmd
   pub answer : did.answer ≡ e.trace.answer
-  pub before : did.before ≡ e.saw.before
-  pub after : did.after ≡ e.saw.after
-  pub lpid : did.lpid ≡ e.saw.lpid
-  pub vid : did.vid ≡ e.saw.vid
-  pub last : did.last ≡ e.saw.last
-  pub pool : did.pool ≡ e.saw.pool
-  pub frame : did.frame ≡ e.saw.frame
+  pub saw : did.saw ≡ e.saw
 
 -- the same of the one entry that the step adds, whatever history fits the machine before it, but where that is a digest collision
 module _ {S : Type 0} (stands : S → Tag → List ℕ → List ℕ → Type 0) (image : S → Tag → List ℕ → List ℕ) where

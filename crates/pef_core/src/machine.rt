@@ -19,13 +19,13 @@ ghost use Rattle.pef_core.specs.Places.{EachPageIsPlaced};
 
 use crate::aim::{Target, target_of};
 use crate::at_guest::apply_guest;
-use crate::did::{Did, Look, look_of, pool_seen};
+use crate::did::{Did, Look, let_out, look_of, pool_seen};
 use crate::lent::{Inner, Want, needs};
 use crate::normal::Normal;
 use crate::own::apply_own;
 use pef_frames::{NormalFrame, Pool};
 use pef_guest::{Cpu, Guest};
-use pef_model::{Answer, Cmd, Config, Ctx};
+use pef_model::{Answer, Cmd, Config, Ctx, Saw};
 use pef_seal::Seal;
 use std::alloc::{AllocError, Global};
 use std::marker::Model;
@@ -142,13 +142,16 @@ impl<S: Seal> Machine<S> {
         Did {
             cmd: *cmd,
             answer,
-            before: look.before,
-            after: self.cpus[cpu as usize].ctx,
-            lpid: look.lpid,
-            vid: look.vid,
-            last: look.last,
-            pool: pool_seen(look.touched, free, self.pool.free()),
-            frame: look.frame,
+            saw: Saw {
+                before: look.before,
+                after: self.cpus[cpu as usize].ctx,
+                lpid: look.lpid,
+                vid: look.vid,
+                last: look.last,
+                pool: pool_seen(look.touched, free, self.pool.free()),
+                frame: look.frame,
+                shown: let_out(look.before, cmd, answer),
+            },
         }
     }
 

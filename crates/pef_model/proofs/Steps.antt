@@ -162,7 +162,7 @@ shown_by_work work Context after shown h = h.1
 shown_by_work work a after shown h = absurd h
 
 -- a step lets out what its answer says
-shown_is : (plan : Plan) (guests : ℕ → Guest) (frame : Option ℕ) (c : Ctx) (cmd : Cmd) (a : Answer) (after : Ctx) (shown : List ℕ) → Outcome c cmd a after shown → shown ≡ let_out plan guests c cmd a frame
+pub shown_is : (plan : Plan) (guests : ℕ → Guest) (frame : Option ℕ) (c : Ctx) (cmd : Cmd) (a : Answer) (after : Ctx) (shown : List ℕ) → Outcome c cmd a after shown → shown ≡ let_out plan guests c cmd a frame
 shown_is plan guests frame ctx.Hv (HLd ra) (Val value) after shown h = h.1
 shown_is plan guests frame ctx.Hv (HLd ra) Hole after shown h = h.1
 shown_is plan guests frame ctx.Hv (HLd ra) a after shown h = absurd h

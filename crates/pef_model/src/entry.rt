@@ -1,6 +1,6 @@
 //! An entry tells all that its step learnt and gave out.
 
-ghost use Rattle.std.specs.Prelude.{◌≡◌, [], ◌∷◌, ◌++◌, length, OnOk, OnErr, IsTrue, ◌↔◌};
+ghost use Rattle.std.specs.Prelude.{◌≡◌, [], ◌∷◌, ◌++◌, ◌≤◌, length, OnOk, OnErr, IsTrue, ◌↔◌};
 
 use crate::command::{Cmd, Code};
 use crate::state::Ctx;
@@ -93,6 +93,19 @@ impl Exposed {
         Exposed {
             values: [0; 32],
             count: 0,
+        }
+    }
+
+    /// The values of a list.
+    pub fn of(list: &[u64]) -> Exposed
+        requires { length list.now ≤ 32 }
+        ensures { result ≡ list.now }
+    {
+        let mut values = [0; 32];
+        values[..list.len()].copy_from_slice(list);
+        Exposed {
+            values,
+            count: list.len() as u8,
         }
     }
 }

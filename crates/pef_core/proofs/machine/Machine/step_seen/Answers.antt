@@ -15,4 +15,4 @@ returns-clause-told g c plan past line place stamp fits clean =
     let after : c.free.result ≡ length c.step-answer.new.self.pool.free = c.free.ensures.value ∙ ap (λ (m : State _). length m.pool.free) c.self-2.view_is in
     rw (c.pool_seen.ensures, free, after)
     (tells g.S.Seal.stands g.S.Seal.image c.args.self.now c.step-answer.new.self c.args.cpu c.args.cmd.now c.step-answer.result plan past line place stamp fits (c.step-answer.ensures.step plan past line place stamp fits clean)
-    c.look-look.result (c.look-look.ensures plan past line place stamp fits clean) c.index.result.now own)
+    c.look-look.result (c.look-look.ensures plan past line place stamp fits clean) c.index.result.now own c.let_out.result c.let_out.ensures)
