@@ -1,5 +1,5 @@
-//! The happy path of each public call of doublewords, frames, pages and sealers and of a machine's step, and two guests on four
-//! CPUs.
+//! The happy path of each public call of doublewords, frames, partition entries, pages and sealers and of a machine's step, and
+//! two guests on four CPUs.
 #![tactic(auto)]
 
 #[cfg(test)]
@@ -12,5 +12,7 @@ mod num;
 mod pages;
 #[cfg(test)]
 mod parts;
+#[cfg(test)]
+mod pate;
 #[cfg(test)]
 mod seal;
