@@ -36,7 +36,7 @@ use Rattle.pef_core.proofs.Entries.{entry_at}
 use Rattle.pef_core.proofs.Places.{read_at, sized}
 use Rattle.pef_core.proofs.WholeAfter.{one_step_more}
 use Rattle.pef_core.proofs.Moving.{Site}
-use Rattle.pef_core.proofs.AtGuest.{named, in_range, ready_for}
+use Rattle.pef_core.proofs.AtGuest.{in_range, ready_for}
 use Rattle.pef_core.proofs.OtherAims.{unpooled, framed}
 use Rattle.pef_core.proofs.Looking.{told_by_numbers, looks_at}
 use Rattle.pef_guest.proofs.Deeds.{IsShareOf, share_guest}

@@ -1,4 +1,3 @@
-use Rattle.std.proofs.Common.{refl}
 use Rattle.pef_core.proofs.at_guest.command.Goals as goal
 
 pub returns-in-UPagein : goal.returns-in-UPagein
