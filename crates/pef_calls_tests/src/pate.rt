@@ -4,10 +4,7 @@ use pef_pate::{Pate, PateFault};
 
 #[test]
 fn an_entry_has_three_pages(rt: HostRuntime) {
-    let entry = Pate {
-        dw0: 0x100,
-        dw1: 3,
-    };
+    let entry = Pate { dw0: 0x100, dw1: 3 };
     assert_eq!(rt; Pate::check(0x80, 4, 8, 4, 4), Err(PateFault::BadBase));
     assert_eq!(rt; Pate::check(0x100, 4, 8, 4, 4), Err(PateFault::BadLength));
     assert_eq!(rt; Pate::check(0x100, 3, 8, 4, 4), Ok(entry));

@@ -26,7 +26,14 @@ pub fn uv_return<S: Seal>(
     ensures { (pool : PoolState) → DoesRow S.takes S.stands S.image (Cmd.UReturn r0 r2 outs.now) guest.old guest.new cpu.old cpu.new pool pool result }
 {
     guest.steps += 1;
-    registers::load(&mut cpu.gpr, &Cmd::UReturn { r0, r2, outs: *outs });
+    registers::load(
+        &mut cpu.gpr,
+        &Cmd::UReturn {
+            r0,
+            r2,
+            outs: *outs,
+        },
+    );
     if !guest.may_return() {
         return cpu.refuse(Code::UInvalid);
     }
