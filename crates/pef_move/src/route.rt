@@ -122,16 +122,16 @@ fn page_to_come_in<S: Seal>(guest: &Guest<S>, gpa: u64) -> Option<u32>
     ensures below { IfSome result (λ gfn. gfn < length guest.now.pages.pages) }
 {
     let gfn = frame_below(gpa, guest.shift, guest.pages.count())?;
-    can_come_in(guest.pages.kind(gfn)).then_some(gfn)
+    can_come_in(guest.phase, guest.pages.kind(gfn)).then_some(gfn)
 }
 
-/// Whether a page of this kind can come in: it is Out.
-fn can_come_in(kind: Kind) -> bool
-    ensures { (phase : Phase) → result ≡ can_come_in phase kind }
+/// Whether a page of this kind can come in, in a guest of this phase: it is Out.
+fn can_come_in(phase: Phase, kind: Kind) -> bool
+    ensures { result ≡ can_come_in phase kind }
 {
-    match kind {
-        Kind::Out => true,
-        Kind::Invalid | Kind::Secure | Kind::Shared { .. } => false,
+    match (phase, kind) {
+        (_, Kind::Out) => true,
+        (_, Kind::Invalid | Kind::Secure | Kind::Shared { .. }) => false,
     }
 }
 
