@@ -1,0 +1,4 @@
+pub mod Table
+pub mod Scrub
+pub mod TableLaw
+pub mod ScrubLaw
