@@ -11,7 +11,7 @@ use Rattle.pef_calls.specs.Table.{IsRow, IsTable, row_of}
 use Rattle.pef_calls.specs.TableLaw.{NumbersHaveTheirRows, OtherNumbersHaveNone}
 use Rattle.pef_calls.proofs.Tables.{IsRow-within, number_at}
 
--- the rows behind the first
+-- what stands behind the first row stands in all
 Contains-behind : (x : Row) (rows : List Row) (row : Row) → Contains rows row → Contains (x ∷ rows) row
 Contains-behind x rows row within = (suc within.0, omega (arith, within.1), within.2)
 
@@ -41,6 +41,7 @@ row_of-none (x ∷ rows) number is row within = by_test (row_of-none rows number
       λ same. apart (ap (λ (r : Row). r.number) here ∙ same)
   by_test again false other (suc k, below, here) = again (rw other at is) row (k, omega (arith, below), here)
 
+-- what is found is whole
 pub row_whole : (rows : List Row) (number : ℕ) (o : Option Row) → IsTable rows → o ≡ row_of rows number → IfSome o IsRow
 row_whole rows number None table is = tt
 row_whole rows number (Some row) table is = IsRow-within rows row table (row_of-found rows number row (sym is)).0

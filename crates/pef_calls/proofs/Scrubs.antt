@@ -1,7 +1,6 @@
 -- What is seen in each register of what leaves.
-use Rattle.std.proofs.Common.{◌≡◌, ◌≢◌, ℕ, ◌+◌, ◌<◌, ◌≤◌, List, length, map, get_or, refl, sym, ap, ◌∙◌, arith}
+use Rattle.std.proofs.Common.{◌≡◌, ◌≢◌, ℕ, ◌+◌, ◌<◌, ◌≤◌, List, length, get_or, refl, sym, ap, ◌∙◌, arith}
 use Rattle.std.specs.Prelude.{slice_get, Some, ◌⊎◌}
-use Rattle.std.specs.List.{range_with_len}
 use Rattle.std.proofs.lemmas.Option.{slice_get-get_or}
 use Rattle.std.proofs.lemmas.List.FromFn.{get_or-map-range_with_len}
 use Rattle.std.proofs.lemmas.Grind.{common_steps, same_number_lists}
@@ -12,11 +11,22 @@ use Rattle.pef_calls.specs.Scrub.{value_scrubbed, scrubbed}
 use Rattle.pef_calls.specs.ScrubLaw.{ShowsInputsAlone, SameInputsShowTheSame}
 
 -- each of the 32 registers shows its value
+register_is : (row : Row) (regs : Regs) (r : ℕ) → r < 32 → get_or (scrubbed row regs).gpr r 0 ≡ value_scrubbed row regs.gpr r
+register_is row regs r below = get_or-map-range_with_len (value_scrubbed row regs.gpr) 0 32 r r 0 below (omega arith)
+
+-- and is there
 register_at : (row : Row) (regs : Regs) (r : ℕ) → r < 32 → slice_get (scrubbed row regs).gpr r ≡ Some (value_scrubbed row regs.gpr r)
-register_at row regs r below =
-    let shown : List ℕ = (scrubbed row regs).gpr in
-    let long : r < length shown = below in
-    slice_get-get_or shown r 0 long ∙ ap Some (get_or-map-range_with_len (value_scrubbed row regs.gpr) 0 32 r r 0 below (omega arith))
+register_at row regs r below = slice_get-get_or (scrubbed row regs).gpr r 0 below ∙ ap Some (register_is row regs r below)
+
+-- 32 registers that show their values are all that leaves
+pub scrubbed-from_registers : (row : Row) (regs : Regs) (gpr : List ℕ) → length gpr ≡ 32 → ((r : ℕ) → r < 32 → get_or gpr r 0 ≡ value_scrubbed row regs.gpr r)
+    → record { gpr = gpr; nip = 0; srr0 = 0 } ≡ scrubbed row regs
+scrubbed-from_registers row regs gpr long each = ap shown same where
+  shown : List ℕ → Regs
+  shown gpr = record { gpr = gpr; nip = 0; srr0 = 0 }
+
+  same : gpr ≡ (scrubbed row regs).gpr
+  same = same_number_lists _ _ long (λ r h. let below : r < 32 = omega (arith, long, h) in each r below ∙ sym (register_is row regs r below))
 
 -- an input shows what the guest put there
 value_of_input : (row : Row) (gpr : List ℕ) (r : ℕ) → IsRow row → 4 ≤ r → r < 4 + row.inputs → value_scrubbed row gpr r ≡ get_or gpr r 0
@@ -51,14 +61,8 @@ same_value : (row : Row) (gpr other : List ℕ) (r : ℕ) → (row.first ≤ r �
 same_value row gpr other r same = grind (arith, common_steps)
 
 pub same_inputs : SameInputsShowTheSame
-same_inputs row regs other whole same =
-    let here : ℕ → ℕ = value_scrubbed row regs.gpr in
-    let there : ℕ → ℕ = value_scrubbed row other.gpr in
-    let each : map here (range_with_len 0 32) ≡ map there (range_with_len 0 32) =
-    same_number_lists _ _ refl (λ r h.
-    let below : r < 32 = h in
-    get_or-map-range_with_len here 0 32 r r 0 below (omega arith)
-    ∙ same_value row regs.gpr other.gpr r (λ low high. same r (omega (arith, whole.first, low)) (omega (arith, whole.first, high)))
-    ∙ sym (get_or-map-range_with_len there 0 32 r r 0 below (omega arith))) in
-    let at : List ℕ → Regs = λ gpr. record { gpr = gpr; nip = 0; srr0 = 0 } in
-    ap at each
+same_inputs row regs other whole same = scrubbed-from_registers row other (scrubbed row regs).gpr refl each where
+  each : (r : ℕ) → r < 32 → get_or (scrubbed row regs).gpr r 0 ≡ value_scrubbed row other.gpr r
+  each r below =
+      register_is row regs r below
+      ∙ same_value row regs.gpr other.gpr r (λ low high. same r (omega (arith, whole.first, low)) (omega (arith, whole.first, high)))

@@ -7,7 +7,7 @@ pub returns-then-rows-i-clause-accepted : goal.returns-then-rows-i-clause-accept
 returns-then-rows-i-clause-accepted g c =
     let long : length c.args.rows ≡ g.row.N = search rules in
     let within : c.loop-i.i < length c.args.rows = omega (arith, long, c.loop-i-test.true) in
-    (search rules, λ table. absurd (IsTable-falls c.args.rows table c.loop-i.i _ c.if-i-gt0.true within c.if-rows-i.true))
+    (search rules, λ table. absurd (IsTable-falls c.args.rows table c.loop-i.i _ (omega arith) within c.if-rows-i.true))
 
 pub invariant_of-result : goal.invariant_of-result
 invariant_of-result g c = IsTable-whole c.args.rows c.loop-i.i (search rules) c.loop-i.invariant
