@@ -3,37 +3,36 @@
 use super::*;
 use pef_model::Regs;
 
+const CONFER: Row = Row {
+    number: 9,
+    first: 4,
+    inputs: 2,
+    outputs: 0,
+    kind: RowKind::Reflected,
+};
+
+const GET_TERM_CHAR: Row = Row {
+    number: 11,
+    first: 4,
+    inputs: 1,
+    outputs: 3,
+    kind: RowKind::Reflected,
+};
+
 #[test]
 fn rows_have_their_inputs_and_outputs(rt: HostRuntime) {
     let calls = hcalls();
-    let confer = Row {
-        number: 9,
-        first: 4,
-        inputs: 2,
-        outputs: 0,
-        kind: RowKind::Reflected,
-    };
-    let get_term_char = Row {
-        number: 11,
-        first: 4,
-        inputs: 1,
-        outputs: 3,
-        kind: RowKind::Reflected,
-    };
     assert_eq!(rt; H_CONFER, 9);
-    assert_eq!(rt; calls.row(9), Some(confer));
-    assert_eq!(rt; calls.row(11), Some(get_term_char));
+    assert_eq!(rt; calls.row(9), Some(CONFER));
+    assert_eq!(rt; calls.row(11), Some(GET_TERM_CHAR));
     assert_eq!(rt; calls.row(19), None);
 }
 
 #[test]
-fn two_rows_are_a_table_in_order_alone(rt: HostRuntime) {
-    let calls = hcalls();
-    if let (Some(low), Some(high)) = (calls.row(9), calls.row(11)) {
-        assert!(rt; Table::of([low, high]).is_some());
-        assert!(rt; Table::of([high, low]).is_none());
-        assert!(rt; Table::of([low, low]).is_none());
-    }
+fn rows_are_a_table_in_order_alone(rt: HostRuntime) {
+    assert!(rt; Table::of([CONFER, GET_TERM_CHAR]).is_some());
+    assert!(rt; Table::of([GET_TERM_CHAR, CONFER]).is_none());
+    assert!(rt; Table::of([CONFER, CONFER]).is_none());
 }
 
 #[test]
