@@ -1,0 +1,86 @@
+-- Slots stay apart where one joins them and where one leaves.
+use Rattle.std.proofs.Common.{◌≡◌, ◌≢◌, ℕ, zero, suc, ◌+◌, ◌-◌, ◌*◌, ◌/◌, ◌%◌, ◌^◌, ◌<◌, ◌≤◌, ◌==◌, nat_lt, nat_le, Bool, true, false, not, List, [], ◌∷◌, ◌++◌, length, filter, All, get_or, Ok, refl, sym, ap, subst, ◌∙◌, arith, true≢false, length-append}
+use Rattle.std.specs.Prelude.{AllPairs}
+use Rattle.std.specs.List.{list_any, range_with_len}
+use Rattle.std.proofs.Math.Nat.{mod-add-div'}
+use Rattle.std.proofs.lemmas.Bool.Decides.{nat_tests}
+use Rattle.std.proofs.lemmas.List.Elements.{All-nil, All-append, All-filter}
+use Rattle.std.proofs.lemmas.List.Folds.{list_any_at}
+use Rattle.std.proofs.lemmas.List.Kept.{AllPairs-filter}
+use Rattle.std.proofs.lemmas.List.Quantifiers.{all_pairs_push}
+use Rattle.std.proofs.lemmas.List.Sums.{length-filter, count_by-le-length}
+use Rattle.pef_slots.specs.declared.slot.Slot.{Slot}
+use Rattle.pef_slots.specs.Slots.{has, has_any, AreApart, AreSlots, is_size, checked, without}
+use Rattle.pef_slots.proofs.Runs.{any_meets}
+use Rattle.pef_slots.proofs.Checked.{IsAccepted, accepted}
+
+-- where none passes a test, each fails it
+none_at : {X : Type 0} (test : X → Bool) (xs : List X) (k : ℕ) (d : X) → list_any test xs ≡ false → k < length xs → test (get_or xs k d) ≡ false
+none_at test xs k d none below = by (test (get_or xs k d)) refl
+  where
+    by : (b : Bool) → test (get_or xs k d) ≡ b → test (get_or xs k d) ≡ false
+    by true h = absurd (true≢false (sym (list_any_at test xs k d below h) ∙ none))
+    by false h = h
+
+-- no slots
+pub no_slots : AreSlots []
+no_slots = record {
+  few = omega arith;
+  filled = All-nil _;
+  ids = All-nil _;
+  apart = λ i j d above below. absurd (omega (arith, below));
+}
+
+-- a slot has none of the pages of a run where it has none of them
+has-none : (slot other : Slot) (gfn : ℕ) → has_any slot other.first other.count ≡ false → has slot gfn ≡ true → has other gfn ≡ true → ⊥
+has-none slot other gfn none here there =
+    let filled : 0 < slot.count = grind (arith, nat_tests, here) in
+    let some : 0 < other.count = grind (arith, nat_tests, there) in
+    let met = any_meets slot other.first other.count filled some in
+    grind (arith, nat_tests, met, none, here, there)
+
+-- a size that is accepted has pages
+filled : (shift pages first size : ℕ) → is_size shift pages first size ≡ true → 0 < size / 2 ^ shift
+filled shift pages first size is = by (size / 2 ^ shift) refl
+  where
+    by : (n : ℕ) → size / 2 ^ shift ≡ n → 0 < size / 2 ^ shift
+    by zero none =
+        let some : 0 < size = grind (arith, nat_tests, is) in
+        let whole : size % 2 ^ shift ≡ 0 = grind (arith, nat_tests, is) in
+        let parts : size % 2 ^ shift + 0 * 2 ^ shift ≡ size = subst (λ q. size % 2 ^ shift + q * 2 ^ shift ≡ size) none (mod-add-div' size (2 ^ shift)) in
+        absurd (omega (arith, some, whole, parts))
+    by (suc n) more = rw more (omega arith)
+
+-- what holds of a slot holds of each in a list of it alone
+alone : (P : Slot → Type 0) (slot : Slot) → P slot → All P (slot ∷ [])
+alone P slot holds zero d below = holds
+alone P slot holds (suc k) d below = absurd (omega (arith, below))
+
+-- one that is accepted joins
+pub joined : (shift pages : ℕ) (slots : List Slot) (start size flags id : ℕ) (slot : Slot) → AreSlots slots → checked shift pages slots start size flags id ≡ Ok slot → AreSlots (slots ++ slot ∷ [])
+joined shift pages slots start size flags id slot are h =
+    let ok = accepted shift pages slots start size flags id slot h in
+    let id_is : slot.id ≡ id = ap (λ s. s.id) ok.slot_is in
+    let first_is : slot.first ≡ start / 2 ^ shift = ap (λ s. s.first) ok.slot_is in
+    let count_is : slot.count ≡ size / 2 ^ shift = ap (λ s. s.count) ok.slot_is in
+    record {
+      few = omega (arith, length-append slots (slot ∷ []), ok.room);
+      filled = All-append (λ s. 0 < s.count) slots (slot ∷ []) are.filled (alone (λ s. 0 < s.count) slot (rw count_is (filled shift pages (start / 2 ^ shift) size ok.size_is)));
+      ids = All-append (λ s. s.id < 2 ^ 16) slots (slot ∷ []) are.ids (alone (λ s. s.id < 2 ^ 16) slot (rw id_is ok.fits));
+      apart = all_pairs_push AreApart slots slot are.apart (λ k d below. record {
+        ids =
+            let new = none_at (λ other. id == other.id) slots k d ok.new below in
+            grind (arith, nat_tests, new, id_is);
+        pages = λ gfn here there.
+            has-none (get_or slots k d) slot gfn (rw (first_is, count_is) (none_at (λ other. has_any other (start / 2 ^ shift) (size / 2 ^ shift)) slots k d ok.free below)) here there;
+      });
+    }
+
+-- one leaves
+pub left : (slots : List Slot) (id : ℕ) → AreSlots slots → AreSlots (without slots id)
+left slots id are = record {
+  few = omega (arith, length-filter (λ slot. not (id == slot.id)) slots, count_by-le-length (λ slot. not (id == slot.id)) slots, are.few);
+  filled = All-filter (λ slot. not (id == slot.id)) (λ slot. 0 < slot.count) slots are.filled;
+  ids = All-filter (λ slot. not (id == slot.id)) (λ slot. slot.id < 2 ^ 16) slots are.ids;
+  apart = AllPairs-filter AreApart (λ slot. not (id == slot.id)) slots are.apart;
+}

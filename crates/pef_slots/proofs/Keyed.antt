@@ -1,0 +1,58 @@
+-- A map's entries are the slots with their ids.
+use Rattle.std.proofs.Common.{◌≡◌, ℕ, ◌==◌, nat_eq, Bool, true, false, cond, not, ◌||◌, List, [], ◌∷◌, ◌++◌, map, filter, Option, Some, None, is_some, refl, sym, ap, ◌∙◌, true≢false}
+use Rattle.std.specs.List.{find, list_any}
+use Rattle.std.specs.Map.{lookup, values_of}
+use Rattle.std.proofs.lemmas.List.{map-append}
+use Rattle.pef_slots.specs.declared.slot.Slot.{Slot}
+use Rattle.pef_slots.specs.Slots.{without}
+use Rattle.pef_slots.specs.Keyed.{keyed}
+
+-- their values are the slots
+pub values-keyed : (slots : List Slot) → values_of (keyed slots) ≡ slots
+values-keyed [] = refl
+values-keyed (slot ∷ slots) = ap (λ rest. slot ∷ rest) (values-keyed slots)
+
+-- a look-up finds the first slot with the id
+pub lookup-keyed : (slots : List Slot) (id : ℕ) → lookup (nat_eq id) (keyed slots) ≡ find (λ slot. id == slot.id) slots
+lookup-keyed [] id = refl
+lookup-keyed (slot ∷ slots) id = ap (cond (id == slot.id) (Some slot)) (lookup-keyed slots id)
+
+-- one of two rests stands alone or behind the first
+either : {X Y : Type 0} (f : X → Y) (b : Bool) (x : X) (xs : List X) (ys : List Y) → ys ≡ map f xs → cond b (f x ∷ ys) ys ≡ map f (cond b (x ∷ xs) xs)
+either f true x xs ys same = ap (λ rest. f x ∷ rest) same
+either f false x xs ys same = same
+
+-- the entries without an id are those of the slots without it
+pub filter-keyed : (slots : List Slot) (id : ℕ) → filter (λ e. not (id == e.0)) (keyed slots) ≡ keyed (without slots id)
+filter-keyed [] id = refl
+filter-keyed (slot ∷ slots) id = either (λ (s : Slot). (s.id, s)) (not (id == slot.id)) slot (without slots id) _ (filter-keyed slots id)
+
+-- the first of some, or of what is there else
+first : {X : Type 0} (b rest : Bool) (x : X) (o : Option X) → is_some o ≡ rest → is_some (cond b (Some x) o) ≡ (b || rest)
+first true rest x o same = refl
+first false rest x o same = same
+
+-- it finds one exactly where a slot has the id
+pub is_some-keyed : (slots : List Slot) (id : ℕ) → is_some (lookup (nat_eq id) (keyed slots)) ≡ list_any (λ slot. id == slot.id) slots
+is_some-keyed [] id = refl
+is_some-keyed (slot ∷ slots) id = first (id == slot.id) _ slot _ (is_some-keyed slots id)
+
+nothing : {X : Type 0} (o : Option X) → is_some o ≡ false → o ≡ None
+nothing None none = refl
+nothing (Some x) none = absurd (true≢false none)
+
+-- where none has it a look-up finds none
+pub absent-keyed : (slots : List Slot) (id : ℕ) → list_any (λ slot. id == slot.id) slots ≡ false → lookup (nat_eq id) (keyed slots) ≡ None
+absent-keyed slots id none = nothing _ (is_some-keyed slots id ∙ none)
+
+module _ (es more : List (ℕ × Slot)) (slot : Slot) (put : more ≡ es ++ (slot.id, slot) ∷ []) where
+  -- one more entry is one more slot
+  pub values-more : values_of more ≡ values_of es ++ slot ∷ []
+  values-more = ap values_of put ∙ map-append (λ (e : ℕ × Slot). e.1) es ((slot.id, slot) ∷ [])
+
+  -- which has its id
+  pub keyed-more : es ≡ keyed (values_of es) → more ≡ keyed (values_of more)
+  keyed-more same =
+      put ∙ ap (λ xs. xs ++ (slot.id, slot) ∷ []) same
+      ∙ sym (map-append (λ (s : Slot). (s.id, s)) (values_of es) (slot ∷ []))
+      ∙ ap keyed (sym values-more)

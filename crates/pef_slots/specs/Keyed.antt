@@ -1,0 +1,7 @@
+-- How a map has the slots.
+use Rattle.std.specs.Prelude.{ℕ, List, map}
+use Rattle.pef_slots.specs.declared.slot.Slot.{Slot}
+
+-- each slot with its id
+abbrev pub keyed : List Slot → List (ℕ × Slot)
+keyed slots = map (λ slot. (slot.id, slot)) slots

@@ -1,0 +1,69 @@
+-- A guest's memory slots, in the order in which they were registered.
+use Rattle.std.specs.Prelude.{◌≡◌, ◌≢◌, ℕ, ◌+◌, ◌/◌, ◌%◌, ◌^◌, ◌<◌, ◌≤◌, ◌==◌, nat_lt, nat_le, Bool, true, not, ◌&&◌, if◌then◌else◌, List, [], ◌∷◌, ◌++◌, length, filter, All, AllPairs, Option, Result, Ok, Err}
+use Rattle.std.specs.List.{find, list_any, range_with_len}
+use Rattle.std.specs.Option.{option_map, ok_or}
+use Rattle.std.specs.Result.{result_map_both}
+use Rattle.pef_slots.specs.declared.slot.Slot.{Slot}
+use Rattle.pef_slots.specs.declared.slot.SlotFault.{SlotFault}
+use Rattle.pef_slots.specs.declared.slot.SlotFault.TheVariants.{BadStart, BadSize, Overlap, BadFlags, IdOutOfRange, IdTaken, Full, NoSlot}
+
+-- whether a page lies in a slot
+abbrev pub has : Slot → ℕ → Bool
+has slot gfn = nat_le slot.first gfn && nat_lt gfn (slot.first + slot.count)
+
+-- whether one of so many pages, from a first one on, lies in a slot
+abbrev pub has_any : Slot → ℕ → ℕ → Bool
+has_any slot first count = list_any (has slot) (range_with_len first count)
+
+-- whether a page lies in one of the slots
+abbrev pub is_covered : List Slot → ℕ → Bool
+is_covered slots gfn = list_any (λ slot. has slot gfn) slots
+
+-- two slots have two ids, and no page lies in both
+pub record AreApart (slot other : Slot) : Type 0 where
+  pub ids : slot.id ≢ other.id
+  pub pages : (gfn : ℕ) → has slot gfn ≡ true → has other gfn ≡ true → ⊥
+
+-- at most 32 slots, none of them empty, each two apart, and the ids have 16 bits
+pub record AreSlots (slots : List Slot) : Type 0 where
+  pub few : length slots ≤ 32
+  pub filled : All (λ slot. 0 < slot.count) slots
+  pub ids : All (λ slot. slot.id < 2 ^ 16) slots
+  pub apart : AllPairs AreApart slots
+
+-- a start is the address of one of the guest's pages
+abbrev pub is_start : ℕ → ℕ → ℕ → Bool
+is_start shift pages start = (start % 2 ^ shift == 0) && nat_lt (start / 2 ^ shift) pages
+
+-- a size is that of one or more pages, and from a first page on the guest has that many
+abbrev pub is_size : ℕ → ℕ → ℕ → ℕ → Bool
+is_size shift pages first size = not (size == 0) && (size % 2 ^ shift == 0) && nat_le (first + size / 2 ^ shift) pages
+
+-- the slot that is asked for, or the first thing that is wrong with it
+abbrev pub checked : ℕ → ℕ → List Slot → ℕ → ℕ → ℕ → ℕ → Result Slot SlotFault
+checked shift pages slots start size flags id =
+    if not (is_start shift pages start) then Err BadStart
+    else if not (is_size shift pages (start / 2 ^ shift) size) then Err BadSize
+    else if list_any (λ slot. has_any slot (start / 2 ^ shift) (size / 2 ^ shift)) slots then Err Overlap
+    else if not (flags == 0) then Err BadFlags
+    else if nat_le (2 ^ 16) id then Err IdOutOfRange
+    else if list_any (λ slot. id == slot.id) slots then Err IdTaken
+    else if nat_le 32 (length slots) then Err Full
+    else Ok (record { id = id; first = start / 2 ^ shift; count = size / 2 ^ shift })
+
+-- the slots after a registration: a new one is last, and a refusal changes nothing
+abbrev pub registered : List Slot → Result Slot SlotFault → List Slot
+registered slots (Ok slot) = slots ++ slot ∷ []
+registered slots (Err fault) = slots
+
+-- the slot with an id, or that there is none
+abbrev pub found : List Slot → ℕ → Result Slot SlotFault
+found slots id = ok_or (find (λ slot. id == slot.id) slots) NoSlot
+
+-- the slots without the one with an id, in their order
+abbrev pub without : List Slot → ℕ → List Slot
+without slots id = filter (λ slot. not (id == slot.id)) slots
+
+-- the id of the slot that has a page
+abbrev pub slot_at : List Slot → ℕ → Option ℕ
+slot_at slots gfn = option_map (λ slot. slot.id) (find (λ slot. has slot gfn) slots)
