@@ -1,6 +1,7 @@
 -- What a search for an id finds.
-use Rattle.std.proofs.Common.{◌≡◌, ℕ, ◌<◌, ◌≤◌, ◌^◌, ◌==◌, nat_eq, Bool, true, false, cond, List, [], ◌∷◌, All, Option, Some, None, refl, sym, ap, ◌∙◌, arith, zero, suc}
-use Rattle.std.specs.List.{find}
+use Rattle.std.proofs.Common.{◌≡◌, ℕ, ◌<◌, ◌≤◌, ◌^◌, ◌==◌, nat_eq, Bool, true, false, cond, List, [], ◌∷◌, All, Option, Some, None, is_some, refl, sym, ap, ◌∙◌, arith, get_or, length, ◌||◌, true≢false}
+use Rattle.std.specs.List.{find, list_any}
+use Rattle.std.proofs.lemmas.List.Folds.{list_any_at, list_any_none}
 use Rattle.std.proofs.lemmas.Bool.Decides.{nat_tests}
 use Rattle.pef_slots.specs.declared.slot.Slot.{Slot}
 
@@ -17,14 +18,38 @@ pub passes : {X : Type 0} (test : X → Bool) (xs : List X) (x : X) → find tes
 passes test [] x found = search found
 passes test (y ∷ xs) x found = pick test (test y) y x (find test xs) refl (passes test xs x) found
 
--- where none passes none is found
-none : {X : Type 0} (test : X → Bool) (xs : List X) → All (λ x. test x ≡ false) xs → find test xs ≡ None
-none test [] fail = refl
-none test (x ∷ xs) fail = ap (λ b. cond b (Some x) (find test xs)) (fail 0 x (omega arith)) ∙ none test xs (λ k d below. fail (suc k) d (omega (arith, below)))
+-- the first of some, or of what is there else
+first : {X : Type 0} (b rest : Bool) (x : X) (o : Option X) → is_some o ≡ rest → is_some (cond b (Some x) o) ≡ (b || rest)
+first true rest x o same = refl
+first false rest x o same = same
+
+-- one is found exactly where one passes
+pub is_some-found : {X : Type 0} (test : X → Bool) (xs : List X) → is_some (find test xs) ≡ list_any test xs
+is_some-found test [] = refl
+is_some-found test (x ∷ xs) = first (test x) (list_any test xs) x (find test xs) (is_some-found test xs)
+
+nothing : {X : Type 0} (o : Option X) → is_some o ≡ false → o ≡ None
+nothing None nobody = refl
+nothing (Some x) nobody = absurd (true≢false nobody)
+
+-- so where none passes none is found
+pub none_found : {X : Type 0} (test : X → Bool) (xs : List X) → list_any test xs ≡ false → find test xs ≡ None
+none_found test xs nobody = nothing (find test xs) (is_some-found test xs ∙ nobody)
+
+pub all_fail : {X : Type 0} (test : X → Bool) (xs : List X) → All (λ x. test x ≡ false) xs → find test xs ≡ None
+all_fail test xs fail = none_found test xs (list_any_none test xs fail)
+
+-- and where none is found none passes
+pub each_fails : {X : Type 0} (test : X → Bool) (xs : List X) (k : ℕ) (d : X) → find test xs ≡ None → k < length xs → test (get_or xs k d) ≡ false
+each_fails test xs k d nobody below = by (test (get_or xs k d)) refl
+  where
+    by : (b : Bool) → test (get_or xs k d) ≡ b → test (get_or xs k d) ≡ false
+    by true passes = absurd (true≢false (sym (list_any_at test xs k d below passes) ∙ sym (is_some-found test xs) ∙ ap is_some nobody))
+    by false fails = fails
 
 -- no slot has an id of more than 16 bits
 pub above : (slots : List Slot) (id : ℕ) → All (λ slot. slot.id < 2 ^ 16) slots → 2 ^ 16 ≤ id → find (λ slot. id == slot.id) slots ≡ None
-above slots id ids large = none (λ slot. id == slot.id) slots (λ k d below. grind (arith, nat_tests, ids k d below, large))
+above slots id ids large = all_fail (λ slot. id == slot.id) slots (λ k d below. grind (arith, nat_tests, ids k d below, large))
 
 -- the slot with an id has it
 pub has_id : (slots : List Slot) (id : ℕ) (slot : Slot) → find (λ slot. id == slot.id) slots ≡ Some slot → slot.id ≡ id

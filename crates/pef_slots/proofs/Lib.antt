@@ -1,6 +1,7 @@
 pub mod Runs
+pub mod Found
 pub mod Keyed
 pub mod Others
 pub mod Checked
 pub mod Apart
-pub mod Found
+pub mod Order

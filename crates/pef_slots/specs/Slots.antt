@@ -2,7 +2,6 @@
 use Rattle.std.specs.Prelude.{◌≡◌, ◌≢◌, ℕ, ◌+◌, ◌/◌, ◌%◌, ◌^◌, ◌<◌, ◌≤◌, ◌==◌, nat_lt, nat_le, Bool, true, not, ◌&&◌, if◌then◌else◌, List, [], ◌∷◌, ◌++◌, length, filter, All, AllPairs, Option, Result, Ok, Err}
 use Rattle.std.specs.List.{find, list_any, range_with_len}
 use Rattle.std.specs.Option.{option_map, ok_or}
-use Rattle.std.specs.Result.{result_map_both}
 use Rattle.pef_slots.specs.declared.slot.Slot.{Slot}
 use Rattle.pef_slots.specs.declared.slot.SlotFault.{SlotFault}
 use Rattle.pef_slots.specs.declared.slot.SlotFault.TheVariants.{BadStart, BadSize, Overlap, BadFlags, IdOutOfRange, IdTaken, Full, NoSlot}
@@ -14,10 +13,6 @@ has slot gfn = nat_le slot.first gfn && nat_lt gfn (slot.first + slot.count)
 -- whether one of so many pages, from a first one on, lies in a slot
 abbrev pub has_any : Slot → ℕ → ℕ → Bool
 has_any slot first count = list_any (has slot) (range_with_len first count)
-
--- whether a page lies in one of the slots
-abbrev pub is_covered : List Slot → ℕ → Bool
-is_covered slots gfn = list_any (λ slot. has slot gfn) slots
 
 -- two slots have two ids, and no page lies in both
 pub record AreApart (slot other : Slot) : Type 0 where

@@ -37,7 +37,7 @@ pub enum SlotFault {
 
 impl Slot {
     /// Whether a page lies in the slot.
-    pub fn has(&self, gfn: u32) -> bool
+    pub(crate) fn has(&self, gfn: u32) -> bool
         ensures { result ≡ has self.now gfn }
     {
         gfn >= self.first && gfn - self.first < self.count
@@ -45,7 +45,7 @@ impl Slot {
 
     /// Whether one of so many pages, from a first one on, lies in the slot.
     #[tactic(auto, using(crate::proofs::Runs::any_meets))]
-    pub fn has_any(&self, first: u32, count: u32) -> bool
+    pub(crate) fn has_any(&self, first: u32, count: u32) -> bool
         requires filled { 0 < self.now.count }
         requires some { 0 < count }
         ensures { result ≡ has_any self.now first count }
