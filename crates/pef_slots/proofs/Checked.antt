@@ -1,10 +1,9 @@
 -- What is known of a slot that is accepted.
-use Rattle.std.proofs.Common.{◌≡◌, ℕ, ◌+◌, ◌/◌, ◌^◌, ◌<◌, ◌≤◌, ◌==◌, nat_lt, nat_le, Bool, true, false, not, if◌then◌else◌, List, length, Ok, Err, refl, sym, arith}
+use Rattle.std.proofs.Common.{◌≡◌, ℕ, ◌/◌, ◌^◌, ◌<◌, ◌==◌, nat_le, Bool, true, false, not, if◌then◌else◌, List, length, Ok, Err, refl, sym, arith}
 use Rattle.std.specs.Prelude.{Result}
 use Rattle.std.specs.List.{list_any}
 use Rattle.std.proofs.lemmas.Bool.Decides.{nat_tests}
 use Rattle.pef_slots.specs.declared.slot.Slot.{Slot}
-use Rattle.pef_slots.specs.declared.slot.SlotFault.{SlotFault}
 use Rattle.pef_slots.specs.Slots.{has_any, is_start, is_size, checked}
 
 -- nothing is wrong with it

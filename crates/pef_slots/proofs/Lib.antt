@@ -5,3 +5,5 @@ pub mod Others
 pub mod Checked
 pub mod Apart
 pub mod Order
+pub mod Where
+pub mod Bytes

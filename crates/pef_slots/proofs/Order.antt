@@ -1,6 +1,6 @@
 -- Which slots are found, and which stay where one leaves.
-use Rattle.std.proofs.Common.{◌≡◌, ◌≢◌, ◌⊎◌, inl, inr, ℕ, zero, suc, ◌+◌, ◌<◌, ◌≤◌, ◌==◌, Bool, true, false, cond, not, List, [], ◌∷◌, ◌++◌, length, filter, All, get_or, Option, Some, None, Ok, refl, sym, ap, subst, ◌∙◌, arith, length-append}
-use Rattle.std.specs.List.{find, list_any, slice_get}
+use Rattle.std.proofs.Common.{◌≡◌, ◌≢◌, ◌⊎◌, inl, inr, ℕ, suc, ◌+◌, ◌<◌, ◌==◌, true, false, cond, not, List, [], ◌∷◌, ◌++◌, length, All, get_or, Some, None, Ok, refl, sym, ap, subst, ◌∙◌, arith, length-append}
+use Rattle.std.specs.List.{find, slice_get}
 use Rattle.std.specs.Option.{ok_or, option_or}
 use Rattle.std.proofs.lemmas.Bool.{cases_order}
 use Rattle.std.proofs.lemmas.Bool.Decides.{nat_tests}
@@ -10,8 +10,8 @@ use Rattle.std.proofs.lemmas.List.Folds.{find-append}
 use Rattle.std.proofs.lemmas.Option.{get_or_from_slice_get, slice_get_within}
 use Rattle.pef_slots.specs.declared.slot.Slot.{Slot}
 use Rattle.pef_slots.specs.declared.slot.SlotFault.TheVariants.{NoSlot}
-use Rattle.pef_slots.specs.Slots.{has, AreApart, AreSlots, checked, found, without}
-use Rattle.pef_slots.specs.SlotsLaw.{PageHasOneSlot, RegisteredComesOut, OthersKeepOrder}
+use Rattle.pef_slots.specs.Slots.{AreApart, AreSlots, found, without}
+use Rattle.pef_slots.specs.SlotsLaw.{PageHasOneSlot, RegisteredComesOut}
 use Rattle.pef_slots.proofs.Apart.{joined}
 use Rattle.pef_slots.proofs.Checked.{accepted}
 use Rattle.pef_slots.proofs.Found.{all_fail}
@@ -68,9 +68,9 @@ found_last slots slot others =
     let first : find (λ other. slot.id == other.id) slots ≡ None = all_fail (λ other. slot.id == other.id) slots (λ k d below. grind (arith, nat_tests, others k d below)) in
     let has_it : (slot.id == slot.id) ≡ true = grind (arith, nat_tests) in
     ap (λ o. ok_or o NoSlot) (
-        find-append (λ other. slot.id == other.id) slots (slot ∷ [])
-        ∙ ap (λ o. option_or o (cond (slot.id == slot.id) (Some slot) None)) first
-        ∙ ap (λ b. option_or None (cond b (Some slot) None)) has_it
+    find-append (λ other. slot.id == other.id) slots (slot ∷ [])
+    ∙ ap (λ o. option_or o (cond (slot.id == slot.id) (Some slot) None)) first
+    ∙ ap (λ b. option_or None (cond b (Some slot) None)) has_it
     )
 
 pub comes_out : RegisteredComesOut

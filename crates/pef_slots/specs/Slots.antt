@@ -46,6 +46,11 @@ checked shift pages slots start size flags id =
     else if nat_le 32 (length slots) then Err Full
     else Ok (record { id = id; first = start / 2 ^ shift; count = size / 2 ^ shift })
 
+-- what a registration answers: the refusal, or nothing more than that there was none
+abbrev pub answered : Result Slot SlotFault → Result (Unit {0}) SlotFault
+answered (Ok slot) = Ok tt
+answered (Err fault) = Err fault
+
 -- the slots after a registration: a new one is last, and a refusal changes nothing
 abbrev pub registered : List Slot → Result Slot SlotFault → List Slot
 registered slots (Ok slot) = slots ++ slot ∷ []

@@ -2,13 +2,11 @@
 
 ghost use Rattle.std.specs.Prelude.{◌≡◌, ◌<◌, ◌==◌, [], length, IfOk, OnOk, OnErr};
 ghost use Rattle.std.specs.List.{find, list_any};
-ghost use Rattle.std.specs.Result.{result_map_both};
 ghost use Rattle.pef_model.specs.Plan.{IsWithin};
-ghost use Rattle.pef_slots.specs.Slots.{AreSlots, has_any, checked, registered, found, without, slot_at};
+ghost use Rattle.pef_slots.specs.Slots.{AreSlots, has_any, checked, answered, registered, found, without, slot_at};
 
-use crate::room;
-use crate::run;
 use crate::slot::{Slot, SlotFault};
+use crate::{room, run};
 use indexmap::IndexMap;
 use std::alloc::{AllocError, Global};
 use std::marker::Model;
@@ -71,7 +69,10 @@ impl Slots {
         ensures slot { result ≡ slot_at self.now gfn }
         ensures slots { AreSlots self.now }
     {
-        self.map.values().find(|slot| slot.has(gfn)).map(|slot| slot.id)
+        self.map
+            .values()
+            .find(|slot| slot.has(gfn))
+            .map(|slot| slot.id)
     }
 
     /// Takes all slots out.
@@ -81,7 +82,14 @@ impl Slots {
         self.map.clear();
     }
 
-    /// Puts a slot last.
+    /// Puts a slot last: the pages from the address `start` on, `size` bytes of them, in pages of 2^shift bytes, for a guest of
+    /// `pages` pages. The operands and that a slot overlaps no other are the manual's; the order of the refusals, ids of 16 bits
+    /// and the limit of 32 slots are this project's own.
+    ///
+    /// The first of these that holds refuses it, and changes nothing: BadStart exactly where no page of the guest begins at the
+    /// start; BadSize exactly where the size is 0 or no whole number of pages, or reaches past the guest's last page; Overlap
+    /// exactly where one of the pages lies in a slot; BadFlags where the flags are not 0; IdOutOfRange where the id is above
+    /// 65535; IdTaken where a slot has it; Full exactly where there are 32 slots.
     pub fn register(
         &mut self,
         start: u64,
@@ -92,7 +100,7 @@ impl Slots {
         pages: u32,
     ) -> Result<(), SlotFault>
         requires { IsWithin 8 16 shift }
-        ensures result { result ≡ result_map_both (λ slot. tt) (λ fault. fault) (checked shift pages self.old start size flags id) }
+        ensures result { result ≡ answered (checked shift pages self.old start size flags id) }
         ensures slots { self.new ≡ registered self.old (checked shift pages self.old start size flags id) }
     {
         let slot = self.check(start, size, flags, id, shift, pages)?;
@@ -146,9 +154,9 @@ impl Slots {
         self.map.contains_key(&id)
     }
 
-    /// Takes out the slot with an id. The others keep their order.
+    /// Takes out the slot with an id, and gives it. The others keep their order.
     ///
-    /// NoSlot exactly where no slot has the id.
+    /// NoSlot exactly where no slot has the id. Nothing changes then.
     pub fn unregister(&mut self, id: u64) -> Result<Slot, SlotFault>
         ensures slot { result ≡ found self.old id }
         ensures others { OnOk result (self.new ≡ without self.old id) }

@@ -3,4 +3,4 @@ use Rattle.pef_slots.proofs.laws.others_keep_order.Goals as goal
 
 -- no other has its id
 pub returns : goal.returns
-returns c = λ front back slot are. keep_order front back slot are
+returns c = keep_order

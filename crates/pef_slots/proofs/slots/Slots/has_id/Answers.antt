@@ -1,4 +1,4 @@
-use Rattle.std.proofs.Common.{◌≡◌, ◌==◌, nat_eq, is_some, ap, ◌∙◌}
+use Rattle.std.proofs.Common.{◌==◌, nat_eq, is_some, ap, ◌∙◌}
 use Rattle.std.specs.List.{list_any}
 use Rattle.std.specs.Map.{lookup}
 use Rattle.pef_slots.proofs.Keyed.{is_some-keyed}

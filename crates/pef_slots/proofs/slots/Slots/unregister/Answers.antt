@@ -1,4 +1,4 @@
-use Rattle.std.proofs.Common.{rules, arith, ◌≡◌, ◌==◌, Some, ap, ◌∙◌}
+use Rattle.std.proofs.Common.{rules, ◌≡◌, ◌==◌, Some, ap, ◌∙◌}
 use Rattle.std.specs.List.{find}
 use Rattle.pef_slots.specs.Slots.{without}
 use Rattle.pef_slots.proofs.Found.{has_id}
