@@ -1,34 +1,15 @@
 -- Slots stay apart where one joins them and where one leaves.
-use Rattle.std.proofs.Common.{◌≡◌, ℕ, zero, suc, ◌+◌, ◌*◌, ◌/◌, ◌%◌, ◌^◌, ◌<◌, ◌==◌, Bool, true, false, not, List, [], ◌∷◌, ◌++◌, length, All, get_or, Ok, refl, sym, ap, subst, ◌∙◌, arith, true≢false, length-append}
-use Rattle.std.specs.List.{list_any}
-use Rattle.std.proofs.Math.Nat.{mod-add-div'}
+use Rattle.std.proofs.Common.{◌≡◌, ℕ, zero, suc, ◌*◌, ◌/◌, ◌%◌, ◌^◌, ◌<◌, ◌==◌, true, false, not, List, [], ◌∷◌, ◌++◌, All, get_or, Ok, refl, ap, subst, arith, length-append}
 use Rattle.std.proofs.lemmas.Bool.Decides.{nat_tests}
-use Rattle.std.proofs.lemmas.List.Elements.{All-nil, All-append, All-filter}
-use Rattle.std.proofs.lemmas.List.Folds.{list_any_at}
+use Rattle.std.proofs.lemmas.List.Elements.{All-append, All-filter}
 use Rattle.std.proofs.lemmas.List.Kept.{AllPairs-filter}
 use Rattle.std.proofs.lemmas.List.Quantifiers.{all_pairs_push}
 use Rattle.std.proofs.lemmas.List.Sums.{length-filter, count_by-le-length}
 use Rattle.pef_slots.specs.declared.slot.Slot.{Slot}
 use Rattle.pef_slots.specs.Slots.{has, has_any, AreApart, AreSlots, is_size, checked, without}
-use Rattle.pef_slots.proofs.Runs.{any_meets}
+use Rattle.pef_slots.proofs.Runs.{any_meets, whole}
 use Rattle.pef_slots.proofs.Checked.{accepted}
-
--- where none passes a test, each fails it
-none_at : {X : Type 0} (test : X → Bool) (xs : List X) (k : ℕ) (d : X) → list_any test xs ≡ false → k < length xs → test (get_or xs k d) ≡ false
-none_at test xs k d none below = by (test (get_or xs k d)) refl
-  where
-    by : (b : Bool) → test (get_or xs k d) ≡ b → test (get_or xs k d) ≡ false
-    by true h = absurd (true≢false (sym (list_any_at test xs k d below h) ∙ none))
-    by false h = h
-
--- no slots
-pub no_slots : AreSlots []
-no_slots = record {
-  few = omega arith;
-  filled = All-nil _;
-  ids = All-nil _;
-  apart = λ i j d above below. absurd (omega (arith, below));
-}
+use Rattle.pef_slots.proofs.Found.{none_at}
 
 -- a slot has none of the pages of a run where it has none of them
 has-none : (slot other : Slot) (gfn : ℕ) → has_any slot other.first other.count ≡ false → has slot gfn ≡ true → has other gfn ≡ true → ⊥
@@ -45,9 +26,9 @@ filled shift pages first size is = by (size / 2 ^ shift) refl
     by : (n : ℕ) → size / 2 ^ shift ≡ n → 0 < size / 2 ^ shift
     by zero none =
         let some : 0 < size = grind (arith, nat_tests, is) in
-        let whole : size % 2 ^ shift ≡ 0 = grind (arith, nat_tests, is) in
-        let parts : size % 2 ^ shift + 0 * 2 ^ shift ≡ size = subst (λ q. size % 2 ^ shift + q * 2 ^ shift ≡ size) none (mod-add-div' size (2 ^ shift)) in
-        absurd (omega (arith, some, whole, parts))
+        let even : size % 2 ^ shift ≡ 0 = grind (arith, nat_tests, is) in
+        let nothing : 0 * 2 ^ shift ≡ size = subst (λ count. count * 2 ^ shift ≡ size) none (whole size (2 ^ shift) even) in
+        absurd (omega (arith, some, nothing))
     by (suc n) more = rw more (omega arith)
 
 -- what holds of a slot holds of each in a list of it alone

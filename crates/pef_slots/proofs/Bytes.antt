@@ -1,11 +1,12 @@
 -- The pages of a slot are those of its bytes.
 use Rattle.std.proofs.Common.{◌≡◌, ℕ, ◌+◌, ◌*◌, ◌/◌, ◌%◌, ◌^◌, ◌<◌, ◌≤◌, ◌⊎◌, inl, inr, ap, arith}
-use Rattle.std.proofs.Math.Nat.{mod-add-div', le-div_iff_mul-le, add-mul}
+use Rattle.std.proofs.Math.Nat.{le-div_iff_mul-le, add-mul}
 use Rattle.std.proofs.lemmas.Bool.{cases_lt}
 use Rattle.std.proofs.lemmas.Bool.Decides.{nat_tests}
 use Rattle.std.proofs.lemmas.Nat.{pow_pos}
 use Rattle.pef_slots.specs.SlotsLaw.{SlotHasItsBytes}
 use Rattle.pef_slots.proofs.Checked.{accepted}
+use Rattle.pef_slots.proofs.Runs.{whole}
 
 -- an address lies in a run of pages exactly where it lies in their bytes
 module _ (page first count address : ℕ) (some : 0 < page) where
@@ -22,10 +23,6 @@ module _ (page first count address : ℕ) (some : 0 < page) where
       by : (address < first * page + count * page) ⊎ (first * page + count * page ≤ address) → address < first * page + count * page
       by (inl within) = within
       by (inr past) = absurd (omega (arith, below, (le-div_iff_mul-le {x = first + count} {y = address} some).1 (omega (arith, past, add-mul first count page))))
-
--- a number of bytes of whole pages
-whole : (bytes page : ℕ) → bytes % page ≡ 0 → bytes / page * page ≡ bytes
-whole bytes page even = omega (arith, even, mod-add-div' bytes page)
 
 pub its_bytes : SlotHasItsBytes
 its_bytes shift pages slots start size flags id slot address h =

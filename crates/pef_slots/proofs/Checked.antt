@@ -16,15 +16,16 @@ pub record IsAccepted (shift pages : ℕ) (slots : List Slot) (start size flags 
   pub room : length slots < 32
   pub slot_is : slot ≡ record { id = id; first = start / 2 ^ shift; count = size / 2 ^ shift }
 
--- where a refusal comes first and there is none, what follows is Ok
 -- two that are Ok are one
 ok_is : {X E : Type 0} (x y : X) → ◌≡◌ {A = Result X E} (Ok x) (Ok y) → y ≡ x
 ok_is x y h = search h
 
+-- what isn't false
 is_true : (b : Bool) → not b ≡ false → b ≡ true
 is_true true h = refl
 is_true false h = sym h
 
+-- where a refusal comes first and there is none, what follows is Ok
 passes : {X E : Type 0} (refused : Bool) (fault : E) (rest : Result X E) (x : X) → (if refused then Err fault else rest) ≡ Ok x → (refused ≡ false) × (rest ≡ Ok x)
 passes true fault rest x h = search h
 passes false fault rest x h = (refl, h)

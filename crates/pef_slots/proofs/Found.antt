@@ -39,13 +39,17 @@ none_found test xs nobody = nothing (find test xs) (is_some-found test xs ∙ no
 pub all_fail : {X : Type 0} (test : X → Bool) (xs : List X) → All (λ x. test x ≡ false) xs → find test xs ≡ None
 all_fail test xs fail = none_found test xs (list_any_none test xs fail)
 
--- and where none is found none passes
-pub each_fails : {X : Type 0} (test : X → Bool) (xs : List X) (k : ℕ) (d : X) → find test xs ≡ None → k < length xs → test (get_or xs k d) ≡ false
-each_fails test xs k d nobody below = by (test (get_or xs k d)) refl
+-- where none passes a test, each fails it
+pub none_at : {X : Type 0} (test : X → Bool) (xs : List X) (k : ℕ) (d : X) → list_any test xs ≡ false → k < length xs → test (get_or xs k d) ≡ false
+none_at test xs k d nobody below = by (test (get_or xs k d)) refl
   where
     by : (b : Bool) → test (get_or xs k d) ≡ b → test (get_or xs k d) ≡ false
-    by true passes = absurd (true≢false (sym (list_any_at test xs k d below passes) ∙ sym (is_some-found test xs) ∙ ap is_some nobody))
+    by true passes = absurd (true≢false (sym (list_any_at test xs k d below passes) ∙ nobody))
     by false fails = fails
+
+-- and where none is found each fails it
+pub each_fails : {X : Type 0} (test : X → Bool) (xs : List X) (k : ℕ) (d : X) → find test xs ≡ None → k < length xs → test (get_or xs k d) ≡ false
+each_fails test xs k d nobody below = none_at test xs k d (sym (is_some-found test xs) ∙ ap is_some nobody) below
 
 -- no slot has an id of more than 16 bits
 pub above : (slots : List Slot) (id : ℕ) → All (λ slot. slot.id < 2 ^ 16) slots → 2 ^ 16 ≤ id → find (λ slot. id == slot.id) slots ≡ None

@@ -14,7 +14,8 @@ pub struct Slot {
     pub count: u32,
 }
 
-/// Why a call is refused. The order of the causes, the ids of 16 bits and the limit of 32 slots are this project's own.
+/// Why a call is refused. That an overlap is refused, the order of the causes, ids of 16 bits and the limit of 32 slots are this
+/// project's own.
 #[derive(Clone, Copy, Debug, PartialEq, Eq)]
 pub enum SlotFault {
     /// The start is no address of a page of the guest.

@@ -83,8 +83,8 @@ impl Slots {
     }
 
     /// Puts a slot last: the pages from the address `start` on, `size` bytes of them, in pages of 2^shift bytes, for a guest of
-    /// `pages` pages. The operands and that a slot overlaps no other are the manual's; the order of the refusals, ids of 16 bits
-    /// and the limit of 32 slots are this project's own.
+    /// `pages` pages. The operands are the manual's, and that a wrong start, size, id or flags are refused; that an overlap is
+    /// refused, the order of the refusals, ids of 16 bits and the limit of 32 slots are this project's own.
     ///
     /// The first of these that holds refuses it, and changes nothing: BadStart exactly where no page of the guest begins at the
     /// start; BadSize exactly where the size is 0 or no whole number of pages, or reaches past the guest's last page; Overlap
@@ -100,7 +100,7 @@ impl Slots {
         pages: u32,
     ) -> Result<(), SlotFault>
         requires { IsWithin 8 16 shift }
-        ensures result { result ≡ answered (checked shift pages self.old start size flags id) }
+        ensures answer { result ≡ answered (checked shift pages self.old start size flags id) }
         ensures slots { self.new ≡ registered self.old (checked shift pages self.old start size flags id) }
     {
         let slot = self.check(start, size, flags, id, shift, pages)?;
