@@ -1,6 +1,6 @@
 -- Where Again and Hole come.
 use Rattle.std.proofs.Common.{◌≡◌, ◌≢◌, ℕ, ◌%◌, List, Bool, true, false, ◌==◌, nat_lt, if◌then◌else◌, refl, ap, sym, subst, ◌∙◌, Option, Some, None, inl, inr, arith}
-use Rattle.std.specs.Prelude.{IsSome}
+use Rattle.std.specs.Prelude.{IsSome, ◌↔◌, ◌+◌}
 use Rattle.std.proofs.lemmas.Grind.{common_steps}
 use Rattle.std.proofs.lemmas.Bool.Decides.{nat_tests}
 use Rattle.pef_model.specs.declared.state.Phase.TheVariants as phase
@@ -15,13 +15,13 @@ use Rattle.pef_model.specs.declared.entry.Answer.{Answer}
 use Rattle.pef_model.specs.declared.entry.Answer.TheVariants.{Again, Gone, Hole}
 use Rattle.pef_model.specs.Plan.{Plan}
 use Rattle.pef_model.specs.Event.{Event}
-use Rattle.pef_model.specs.Target.{Ask, is_hypervisor, guest_address_in}
+use Rattle.pef_model.specs.Target.{Ask, frame_of, is_hypervisor, guest_address_in}
 use Rattle.pef_model.specs.Cpu.{CpuPart}
-use Rattle.pef_model.specs.GuestPart.{GuestPart, has_place, meets, page_of}
+use Rattle.pef_model.specs.GuestPart.{GuestPart, Meeting, Moves, Private, Normal, Unbacked, has_place, meets, page_of}
 use Rattle.pef_model.specs.Guest.{Guest}
 use Rattle.pef_model.specs.Deed.{Deed, deed_access, deed_gone}
 use Rattle.pef_model.specs.History.{cpu_after, guest_after, pool_after, found_after, Extends, part_after}
-use Rattle.pef_model.specs.CauseLaw.{real_address_in, is_access_in, IsAccess, MeetsMover, AgainCause, AtAccess, AgainExactlyWhere, IsOutside, IsOutOfReach, CannotBeAccessed, HoleExactlyWhere}
+use Rattle.pef_model.specs.CauseLaw.{real_address_in, is_access_in, IsAccess, MeetsMover, AgainCause, AtAccess, AgainExactlyWhere, IsOutside, IsOutsideEntry, IsOutOfReach, CannotBeAccessed, HoleExactlyWhere}
 use Rattle.pef_model.proofs.Folds.{same_test, test_same}
 use Rattle.pef_model.specs.declared.state.Mover.{Mover}
 use Rattle.pef_model.proofs.Outcomes.{Outcome, outcome, moving}
@@ -42,6 +42,10 @@ again_command run cmd after shown h = absurd h
 abbrev IsDone : Answer → Type 0
 IsDone a = (a ≢ Again) × (a ≢ Hole)
 
+through_is_done : (plan : Plan) (found : ℕ → ℕ → ℕ) (cmd : Cmd) (n : ℕ) → IsDone (through_of plan found cmd n)
+through_is_done plan found (GLd rd gpa) n = (λ h. cc, λ h. cc)
+through_is_done plan found cmd n = (λ h. cc, λ h. cc)
+
 success_is_done : (g : Guest) (cmd : Cmd) → IsDone (success_of g cmd)
 success_is_done g (GLd rd gpa) = (λ h. cc, λ h. cc)
 success_is_done g cmd = (λ h. cc, λ h. cc)
@@ -50,19 +54,28 @@ success_is_done g cmd = (λ h. cc, λ h. cc)
 abbrev Accesses : Plan → GuestPart → ℕ → Ask → Answer → (ℕ → Answer) → List ℕ → Bool → Answer → Type 0
 Accesses plan g gpa ask success through out any a = (deed_access ask success through out any (meets plan g gpa)).answer ≡ a
 
--- what answers Again lies in a page with a mover, of a guest that isn't Normal
-again_meets : (plan : Plan) (g : GuestPart) (gpa : ℕ) (ask : Ask) (success : Answer) (through : ℕ → Answer) (out : List ℕ) (any : Bool) → IsDone success → Accesses plan g gpa ask success through out any Again →
-    (g.phase ≢ phase.Normal) × (has_place plan gpa ≡ true) × IsSome (g.pages (page_of plan gpa)).mover
-again_meets plan g gpa ask success through out any done h = let other = done.0 in (λ normal. grind (arith, common_steps), grind (arith, common_steps), grind (arith, common_steps))
+-- what answers Again meets a page on the move
+again_moves : (ask : Ask) (success : Answer) (through : ℕ → Answer) (out : List ℕ) (any : Bool) (m : Meeting) → IsDone success → ((n : ℕ) → IsDone (through n)) →
+    (deed_access ask success through out any m).answer ≡ Again → m ≡ Moves
+again_moves ask success through out true Unbacked done written h = absurd (done.0 h)
+again_moves ask success through out false Unbacked done written h = cc
+again_moves ask success through out any Private done written h = absurd (done.0 h)
+again_moves ask success through out any Moves done written h = refl
+again_moves ask success through out any (Normal n) done written h = absurd ((written n).0 h)
+again_moves ask success through out any m done written h = cc
+
+-- which lies in a page with a mover, of a guest that isn't Normal
+moves_at : (plan : Plan) (g : GuestPart) (gpa : ℕ) → meets plan g gpa ≡ Moves → (g.phase ≢ phase.Normal) × (has_place plan gpa ≡ true) × IsSome (g.pages (page_of plan gpa)).mover
+moves_at plan g gpa h = (λ normal. grind (arith, common_steps), grind (arith, common_steps), grind (arith, common_steps))
 
 meets_again : (plan : Plan) (g : GuestPart) (gpa : ℕ) (ask : Ask) (success : Answer) (through : ℕ → Answer) (out : List ℕ) (any : Bool) →
     g.phase ≢ phase.Normal → has_place plan gpa ≡ true → IsSome (g.pages (page_of plan gpa)).mover → Accesses plan g gpa ask success through out any Again
 meets_again plan g gpa ask success through out any other place moves = grind (arith, common_steps)
 
 -- what answers Hole can't be accessed
-hole_meets : (plan : Plan) (g : GuestPart) (gpa : ℕ) (ask : Ask) (success : Answer) (through : ℕ → Answer) (out : List ℕ) (free : ℕ) → IsDone success → g.phase ≢ phase.Normal →
+hole_meets : (plan : Plan) (g : GuestPart) (gpa : ℕ) (ask : Ask) (success : Answer) (through : ℕ → Answer) (out : List ℕ) (free : ℕ) → IsDone success → ((n : ℕ) → IsDone (through n)) → g.phase ≢ phase.Normal →
     Accesses plan g gpa ask success through out (nat_lt 0 free) Hole → CannotBeAccessed plan g free gpa
-hole_meets plan g gpa ask success through out free done normal h = by_place (gpa % 8 == 0) (nat_lt (page_of plan gpa) plan.pages) (g.pages (page_of plan gpa)).mover (g.pages (page_of plan gpa)).kind refl refl refl refl where
+hole_meets plan g gpa ask success through out free done written normal h = by_place (gpa % 8 == 0) (nat_lt (page_of plan gpa) plan.pages) (g.pages (page_of plan gpa)).mover (g.pages (page_of plan gpa)).kind refl refl refl refl where
   other : success ≢ Hole
   other = done.1
 
@@ -74,13 +87,28 @@ hole_meets plan g gpa ask success through out free done normal h = by_place (gpa
     reach_by kind.Invalid is = grind (arith, nat_tests, common_steps)
     reach_by kind.Secure is = grind (arith, nat_tests, common_steps)
     reach_by kind.Out is = tt
-    reach_by (kind.Shared frame fresh) is = tt
+    reach_by (kind.Shared None fresh) is = tt
+    reach_by (kind.Shared (Some n) fresh) is = let no : through n ≢ Hole = (written n).1 in grind (arith, nat_tests, common_steps)
 
 meets_hole : (plan : Plan) (g : GuestPart) (gpa : ℕ) (ask : Ask) (success : Answer) (through : ℕ → Answer) (out : List ℕ) (free : ℕ) → g.phase ≢ phase.Normal →
     CannotBeAccessed plan g free gpa → Accesses plan g gpa ask success through out (nat_lt 0 free) Hole
 meets_hole plan g gpa ask success through out free normal (inl other) = grind (arith, nat_tests, common_steps)
 meets_hole plan g gpa ask success through out free normal (inr (inl above)) = grind (arith, nat_tests, common_steps)
 meets_hole plan g gpa ask success through out free normal (inr (inr (rest, none))) = grind (arith, nat_tests, common_steps)
+
+-- of a Normal guest it lies outside the partition entry
+normal_hole : (plan : Plan) (g : GuestPart) (gpa : ℕ) (ask : Ask) (success : Answer) (through : ℕ → Answer) (out : List ℕ) (any : Bool) → ((n : ℕ) → IsDone (through n)) → g.phase ≡ phase.Normal →
+    Accesses plan g gpa ask success through out any Hole → IsOutsideEntry plan g gpa
+normal_hole plan g gpa ask success through out any written normal h = by_place (gpa % 8 == 0) (nat_lt (page_of plan gpa) g.entry.length_) refl refl where
+  by_place : (b c : Bool) → (gpa % 8 == 0) ≡ b → nat_lt (page_of plan gpa) g.entry.length_ ≡ c → IsOutsideEntry plan g gpa
+  by_place false c s t = inl (λ zero_. grind (arith, nat_tests))
+  by_place true false s t = inr (grind (arith, nat_tests))
+  by_place true true s t = let no : through (frame_of plan g.entry.base + page_of plan gpa) ≢ Hole = (written (frame_of plan g.entry.base + page_of plan gpa)).1 in grind (arith, nat_tests, common_steps)
+
+hole_normal : (plan : Plan) (g : GuestPart) (gpa : ℕ) (ask : Ask) (success : Answer) (through : ℕ → Answer) (out : List ℕ) (any : Bool) → g.phase ≡ phase.Normal →
+    IsOutsideEntry plan g gpa → Accesses plan g gpa ask success through out any Hole
+hole_normal plan g gpa ask success through out any normal (inl other) = grind (arith, nat_tests, common_steps)
+hole_normal plan g gpa ask success through out any normal (inr above) = grind (arith, nat_tests, common_steps)
 
 module _ (plan : Plan) (past : List Event) (e : Event) (extends : Extends plan past e) where
   abbrev cpu : CpuPart
@@ -121,8 +149,9 @@ module _ (plan : Plan) (past : List Event) (e : Event) (extends : Extends plan p
     by_address (Some gpa) address there =
         let g : Guest = guest_after plan run.lpid past in
         let access : IsAccess plan past e run gpa = not_gone run gpa before address (λ gone. again_not_gone (sym is ∙ gone)) in
-        let met = again_meets plan g.part gpa (ask_in cpu (ctx.Guest run) e.trace.cmd) (success_of g e.trace.cmd) (through_of plan (found_after plan past) e.trace.cmd) (shown_of run g e.trace.cmd) any
-        (success_is_done g e.trace.cmd) (sym (access_answer run gpa access) ∙ is) in
+        let met = moves_at plan g.part gpa
+        (again_moves (ask_in cpu (ctx.Guest run) e.trace.cmd) (success_of g e.trace.cmd) (through_of plan (found_after plan past) e.trace.cmd) (shown_of run g e.trace.cmd) any (meets plan g.part gpa)
+        (success_is_done g e.trace.cmd) (through_is_done plan (found_after plan past) e.trace.cmd) (sym (access_answer run gpa access) ∙ is)) in
         record { run = run; gpa = gpa; access = access; phase = met.0; place = met.1; mover = met.2 }
 
   again_to : AgainCause plan past e → e.trace.answer ≡ Again
@@ -136,13 +165,22 @@ module _ (plan : Plan) (past : List Event) (e : Event) (extends : Extends plan p
   hole_from run gpa access normal is =
       let g : Guest = guest_after plan run.lpid past in
       hole_meets plan g.part gpa (ask_in cpu (ctx.Guest run) e.trace.cmd) (success_of g e.trace.cmd) (through_of plan (found_after plan past) e.trace.cmd) (shown_of run g e.trace.cmd) (pool_after plan past)
-      (success_is_done g e.trace.cmd) normal (sym (access_answer run gpa access) ∙ is)
+      (success_is_done g e.trace.cmd) (through_is_done plan (found_after plan past) e.trace.cmd) normal (sym (access_answer run gpa access) ∙ is)
 
   hole_to : (run : Run) (gpa : ℕ) → IsAccess plan past e run gpa → (part_after plan past run.lpid).phase ≢ phase.Normal → CannotBeAccessed plan (part_after plan past run.lpid) (pool_after plan past) gpa → e.trace.answer ≡ Hole
   hole_to run gpa access normal cannot =
       let g : Guest = guest_after plan run.lpid past in
       access_answer run gpa access
       ∙ meets_hole plan g.part gpa (ask_in cpu (ctx.Guest run) e.trace.cmd) (success_of g e.trace.cmd) (through_of plan (found_after plan past) e.trace.cmd) (shown_of run g e.trace.cmd) (pool_after plan past) normal cannot
+
+  normal_hole_exactly : (run : Run) (gpa : ℕ) → IsAccess plan past e run gpa → (part_after plan past run.lpid).phase ≡ phase.Normal → (e.trace.answer ≡ Hole) ↔ IsOutsideEntry plan (part_after plan past run.lpid) gpa
+  normal_hole_exactly run gpa access normal =
+      let g : Guest = guest_after plan run.lpid past in (
+        λ is. normal_hole plan g.part gpa (ask_in cpu (ctx.Guest run) e.trace.cmd) (success_of g e.trace.cmd) (through_of plan (found_after plan past) e.trace.cmd) (shown_of run g e.trace.cmd) any
+            (through_is_done plan (found_after plan past) e.trace.cmd) normal (sym (access_answer run gpa access) ∙ is),
+        λ outside. access_answer run gpa access
+            ∙ hole_normal plan g.part gpa (ask_in cpu (ctx.Guest run) e.trace.cmd) (success_of g e.trace.cmd) (through_of plan (found_after plan past) e.trace.cmd) (shown_of run g e.trace.cmd) any normal outside,
+      )
 
 pub again_exactly_where : AgainExactlyWhere
 again_exactly_where plan past e extends = (
@@ -172,6 +210,7 @@ hole_exactly_where plan past e extends = record {
     λ out. answer_is before ∙ outside_hole plan past cpu e.trace.cmd ra address out,
   );
   guest = λ run gpa access normal. (hole_from plan past e extends run gpa access normal, hole_to plan past e extends run gpa access normal);
+  normal = normal_hole_exactly plan past e extends;
   others = λ is. hole_comes e.saw.before e.trace.cmd e.saw.after e.saw.shown (subst (λ (a : Answer). Outcome e.saw.before e.trace.cmd a e.saw.after e.saw.shown) is (outcome plan past e extends));
 } where
   cpu : CpuPart

@@ -99,22 +99,21 @@ is_aborting_or Secure aborts private = private (λ h. cc)
 is_aborting_or Aborting aborts private = aborts refl
 
 -- their bytes, where sealed pages tell nothing
-deeds_shut : (plan : Plan) (words : ℕ → List ℕ) (past history : List Event) (ask : Ask) (cmd other : Cmd) (t : Target) → Same plan words past history → open_cmd cmd ≡ open_cmd other → IsShut plan →
+deeds_shut : (plan : Plan) (words : ℕ → List ℕ) (past history : List Event) (ask : Ask) (cmd other : Cmd) (t : Target) → Same plan words past history → open_cmd cmd ≡ open_cmd other →
+    (deed_after plan past ask cmd t).shown ≡ (deed_after (with_entropy plan words) history ask other t).shown → IsShut plan →
     (deed_after plan past ask cmd t).bytes ≡ (deed_after (with_entropy plan words) history ask other t).bytes
-deeds_shut plan words past history ask cmd other Alone same cmds shut = refl
-deeds_shut plan words past history ask cmd other (AtFrame n) same cmds shut = by_ctx ask.before where
+deeds_shut plan words past history ask cmd other Alone same cmds out shut = refl
+deeds_shut plan words past history ask cmd other (AtFrame n) same cmds out shut = by_ctx ask.before where
   by_ctx : (c : Ctx) → (deed_frame_in c plan n (frame_after plan n past) ask cmd).bytes ≡ (deed_frame_in c (with_entropy plan words) n (frame_after (with_entropy plan words) n history) ask other).bytes
   by_ctx ctx.Hv = refl
   by_ctx (ctx.Uv work) = ap (λ (bytes : List ℕ). (deed_copy work n bytes ask).bytes) (same.frame n)
   by_ctx (ctx.Guest run) = refl
-deeds_shut plan words past history ask cmd other (AtGuest lpid) same cmds shut =
+deeds_shut plan words past history ask cmd other (AtGuest lpid) same cmds out shut =
     let g : Guest = guest_after plan lpid past in
     let h : Guest = guest_after (with_entropy plan words) lpid history in
-    let is : deed_guest plan g (found_after plan past) (nat_lt 0 (pool_after plan past)) ask cmd ≡ deed_guest plan g (found_after (with_entropy plan words) history) (nat_lt 0 (pool_after (with_entropy plan words) history)) ask cmd =
-    (λ i. deed_guest plan g (λ n offset. doubleword (same.frame n i) offset) (nat_lt 0 (same.pool i)) ask cmd) in
-    ap (λ (d : Deed). d.bytes) is
-    ∙ bytes_shut plan shut g h (found_after (with_entropy plan words) history) (nat_lt 0 (pool_after (with_entropy plan words) history)) ask cmd other (same.part lpid) cmds
-    ∙ sym (ap (λ (d : Deed). d.bytes) (unworded plan words h (found_after (with_entropy plan words) history) (nat_lt 0 (pool_after (with_entropy plan words) history)) ask other))
+    let is = same_plan plan words past history ask other h same in
+    bytes_shut plan shut g h (found_after plan past) (nat_lt 0 (pool_after plan past)) ask cmd other (same.part lpid) cmds (out ∙ ap (λ (d : Deed). d.shown) is)
+    ∙ sym (ap (λ (d : Deed). d.bytes) is)
 
 -- what a CPU's steps learn of it is the same for two such commands
 asks_agree : (cpu other : CpuPart) (cmd with_ : Cmd) → cpu ≡ other → open_cmd cmd ≡ open_cmd with_ → ask_of cpu cmd ≡ ask_of other with_
@@ -160,7 +159,7 @@ module _ (plan : Plan) (words : ℕ → List ℕ) (past history : List Event) (e
   -- where sealed pages tell nothing their bytes agree
   pub entries_shut : IsShut plan → e.bytes ≡ f.bytes
   entries_shut shut =
-      ap (λ (x : Event). x.bytes) is ∙ deeds_shut plan words past history ask e.trace.cmd f.trace.cmd t same alike.cmd shut ∙ sym (ap (λ (x : Event). x.bytes) q)
+      ap (λ (x : Event). x.bytes) is ∙ deeds_shut plan words past history ask e.trace.cmd f.trace.cmd t same alike.cmd let_out shut ∙ sym (ap (λ (x : Event). x.bytes) q)
 
   -- the target of the entry's step
   aims : target_of plan e ≡ t

@@ -8,7 +8,7 @@ use Rattle.pef_model.specs.declared.state.Ctx.{Ctx}
 use Rattle.pef_model.specs.declared.state.Ctx.TheVariants as ctx
 use Rattle.pef_model.specs.declared.command.Code.{Code}
 use Rattle.pef_model.specs.declared.command.Cmd.{Cmd}
-use Rattle.pef_model.specs.declared.command.Cmd.TheVariants.{HLd, HSt, UPagein, UPageout, UReturn, Go}
+use Rattle.pef_model.specs.declared.command.Cmd.TheVariants.{HLd, HSt, HSelect, HEnter, UPate, UPagein, UPageout, UReturn, Go}
 use Rattle.pef_model.specs.Plan.{Plan}
 use Rattle.pef_model.specs.Event.{Event, Mark, mark_of}
 use Rattle.pef_model.specs.Target.{Ask, Alone, AtGuest, AtFrame, frame_of, has_real_place, target_in, is_command_in}
@@ -16,7 +16,7 @@ use Rattle.pef_model.specs.GuestPart.{GuestPart}
 use Rattle.pef_model.specs.Guest.{Guest}
 use Rattle.pef_model.specs.PageOut.{page_out_code}
 use Rattle.pef_model.specs.PageIn.{page_in_operands}
-use Rattle.pef_model.specs.Deed.{Deed, returning, deed_return, deed_page_in_with, deed_page_out_begin}
+use Rattle.pef_model.specs.Deed.{Deed, answer_select, returning, deed_return, deed_page_in_with, deed_page_out_begin}
 use Rattle.pef_model.specs.History.{cpu_after, guest_after, pool_after, deed_after, ask_of, next_entry}
 use Rattle.pef_model.specs.AnswerLaw.{is_of_page_in, is_of_page_out, can_answer, EachAnswerIsOfItsRow}
 
@@ -28,7 +28,7 @@ page_out_codes : (plan : Plan) (g : GuestPart) (dest gpa flags order : ℕ) (cod
 page_out_codes plan g dest gpa flags order code h = grind (arith, common_steps)
 
 -- the deed of a step has such an answer
-abbrev Can : Ctx → Cmd → Deed → Type 0
+abbrev pub Can : Ctx → Cmd → Deed → Type 0
 Can c cmd deed = can_answer c cmd deed.answer ≡ true
 
 page_in_can : (plan : Plan) (past : List Event) (asked : Ask) (lpid src gpa flags order : ℕ) (b : Bool) →
@@ -70,6 +70,17 @@ load_can plan past ask ra b = grind (arith, common_steps)
 store_can : (plan : Plan) (past : List Event) (ask : Ask) (ra value : ℕ) (b : Bool) → Can ctx.Hv (HSt ra value) (deed_after plan past (record ask { before = ctx.Hv }) (HSt ra value) (if b then AtFrame (frame_of plan ra) else Alone))
 store_can plan past ask ra value b = grind (arith, common_steps)
 
+select_can : (plan : Plan) (lpid vid : ℕ) → can_answer ctx.Hv (HSelect lpid vid) (answer_select plan lpid vid) ≡ true
+select_can plan lpid vid = grind (arith, common_steps)
+
+enter_can : (plan : Plan) (past : List Event) (ask : Ask) (lpid vid value : ℕ) (b : Bool) →
+    Can ctx.Hv (HEnter lpid vid value) (deed_after plan past (record ask { before = ctx.Hv }) (HEnter lpid vid value) (if b then AtGuest lpid else Alone))
+enter_can plan past ask lpid vid value b = grind (arith, common_steps)
+
+write_can : (plan : Plan) (past : List Event) (ask : Ask) (lpid dw0 dw1 : ℕ) (b : Bool) →
+    Can ctx.Hv (UPate lpid dw0 dw1) (deed_after plan past (record ask { before = ctx.Hv }) (UPate lpid dw0 dw1) (if b then AtGuest lpid else Alone))
+write_can plan past ask lpid dw0 dw1 b = grind (arith, common_steps)
+
 inward_can : (plan : Plan) (past : List Event) (ask : Ask) (move : Move) (b : Bool) → move.copied ≡ b →
     Can (ctx.Uv (Inward move)) Go (deed_after plan past (record ask { before = ctx.Uv (Inward move) }) Go (if b then AtGuest move.lpid else AtFrame move.frame))
 inward_can plan past ask move b copied = grind (arith, common_steps)
@@ -82,9 +93,13 @@ vcpu_can : (plan : Plan) (past : List Event) (run : Run) (ask : Ask) (cmd : Cmd)
     Can (ctx.Guest run) cmd (deed_after plan past (record ask { before = ctx.Guest run }) cmd (AtGuest run.lpid))
 vcpu_can plan past run ask cmd command = grind (arith, common_steps)
 
-deed_can : (plan : Plan) (past : List Event) (c : Ctx) (ask : Ask) (cmd : Cmd) → Can c cmd (deed_after plan past (record ask { before = c }) cmd (target_in plan c ask.lpid cmd))
+-- a step's deed does
+pub deed_can : (plan : Plan) (past : List Event) (c : Ctx) (ask : Ask) (cmd : Cmd) → Can c cmd (deed_after plan past (record ask { before = c }) cmd (target_in plan c ask.lpid cmd))
 deed_can plan past ctx.Hv ask (HLd ra) = load_can plan past ask ra (has_real_place plan ra)
 deed_can plan past ctx.Hv ask (HSt ra value) = store_can plan past ask ra value (has_real_place plan ra)
+deed_can plan past ctx.Hv ask (HSelect lpid vid) = select_can plan lpid vid
+deed_can plan past ctx.Hv ask (HEnter lpid vid value) = enter_can plan past ask lpid vid value (nat_le 1 lpid && nat_le lpid plan.guests)
+deed_can plan past ctx.Hv ask (UPate lpid dw0 dw1) = write_can plan past ask lpid dw0 dw1 (nat_le 1 lpid && nat_le lpid plan.guests)
 deed_can plan past ctx.Hv ask (UPagein lpid src gpa flags order) = page_in_can plan past ask lpid src gpa flags order (nat_le 1 lpid && nat_le lpid plan.guests)
 deed_can plan past ctx.Hv ask (UPageout lpid dest gpa flags order) = page_out_can plan past ask lpid dest gpa flags order (nat_le 1 lpid && nat_le lpid plan.guests)
 deed_can plan past ctx.Hv ask (UReturn r0 r2 outs) = return_can (guest_after plan ask.lpid past).part (record ask { before = ctx.Hv }) r0 r2 outs
@@ -95,6 +110,8 @@ deed_can plan past (ctx.Uv (Outward move)) ask Go = outward_can plan past ask mo
 deed_can plan past (ctx.Uv (Outward move)) ask cmd = refl
 deed_can plan past (ctx.Guest run) ask (HLd ra) = refl
 deed_can plan past (ctx.Guest run) ask (HSt ra value) = refl
+deed_can plan past (ctx.Guest run) ask (HSelect lpid vid) = refl
+deed_can plan past (ctx.Guest run) ask (HEnter lpid vid value) = refl
 deed_can plan past (ctx.Guest run) ask Go = refl
 deed_can plan past (ctx.Guest run) ask cmd = vcpu_can plan past run ask cmd refl
 

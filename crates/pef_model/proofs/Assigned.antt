@@ -10,14 +10,15 @@ use Rattle.pef_model.specs.declared.state.Work.TheVariants.{Inward, Outward}
 use Rattle.pef_model.specs.declared.state.Ctx.{Ctx}
 use Rattle.pef_model.specs.declared.state.Ctx.TheVariants as ctx
 use Rattle.pef_model.specs.declared.command.Cmd.{Cmd}
-use Rattle.pef_model.specs.declared.command.Cmd.TheVariants.{UReturn, GLi, GLd, GSt}
+use Rattle.pef_model.specs.declared.command.Cmd.TheVariants.{UPate, UReturn, GLi, GLd, GSt}
 use Rattle.pef_model.specs.declared.entry.Answer.{Answer}
 use Rattle.pef_model.specs.declared.entry.Answer.TheVariants.{Done, Val, Ret, Enter}
 use Rattle.pef_model.specs.Commands.{IsCommand}
 use Rattle.pef_model.specs.Plan.{Plan}
 use Rattle.pef_model.specs.Event.{Event, newest}
-use Rattle.pef_model.specs.Registers.{Call, number_of, call_of, loaded}
+use Rattle.pef_model.specs.Registers.{Call, fresh_registers, number_of, call_of, loaded}
 use Rattle.pef_model.specs.Target.{touches_guest}
+use Rattle.pef_model.specs.GuestPart.{ends_guest}
 use Rattle.pef_model.specs.Guest.{Guest, start_guest, entered_at, registers_after_call, registers_after_command, registers_of_hypervisor, registers_in, next_guest}
 use Rattle.pef_model.specs.History.{guest_after, reg, IsLegal}
 use Rattle.pef_model.specs.SearchLaw.{decides_register, assigned_by_call, assigned_by_command, assigned_in, RegIsNewest}
@@ -59,20 +60,32 @@ entered_gpr regs r2 = by_test (r2 == 0) where
   by_test false = refl
 
 -- each vCPU has 32 registers
-abbrev AreFull : (ℕ → Regs) → Type 0
+abbrev pub AreFull : (ℕ → Regs) → Type 0
 AreFull registers = (vid : ℕ) → length (registers vid).gpr ≡ 32
 
--- no step of the hypervisor does
-pub gpr_in_hypervisor : (g : Guest) (selected : ℕ) (a : Answer) (cmd : Cmd) (vid : ℕ) → (registers_of_hypervisor g selected a cmd vid).gpr ≡ (g.registers vid).gpr
-gpr_in_hypervisor g selected Enter (UReturn r0 r2 outs) vid = by_test (vid == selected) refl where
+-- whether a step of the hypervisor ends the guest at which it aims, whose registers then are zero
+abbrev pub ends_by : Cmd → Answer → Bool
+ends_by (UPate lpid dw0 dw1) (Ret code) = ends_guest code dw1
+ends_by cmd a = false
+
+-- no other step of the hypervisor does
+pub gpr_in_hypervisor : (g : Guest) (selected : ℕ) (a : Answer) (cmd : Cmd) (vid : ℕ) → ends_by cmd a ≡ false → (registers_of_hypervisor g selected a cmd vid).gpr ≡ (g.registers vid).gpr
+gpr_in_hypervisor g selected Enter (UReturn r0 r2 outs) vid goes_on = by_test (vid == selected) refl where
   by_test : (b : Bool) → (vid == selected) ≡ b → (if b then entered_at (g.registers selected) r2 else g.registers vid).gpr ≡ (g.registers vid).gpr
   by_test true t = entered_gpr (g.registers selected) r2 ∙ ap (λ (v : ℕ). (g.registers v).gpr) (sym (test_same vid selected t))
   by_test false t = refl
-gpr_in_hypervisor g selected Enter cmd vid = refl
-gpr_in_hypervisor g selected a cmd vid = refl
+gpr_in_hypervisor g selected Enter cmd vid goes_on = refl
+gpr_in_hypervisor g selected (Ret code) (UPate lpid dw0 dw1) vid goes_on = ap (λ (b : Bool). ((if b then (λ n. fresh_registers) else g.registers) vid).gpr) goes_on
+gpr_in_hypervisor g selected a cmd vid goes_on = refl
+
+-- what holds of a guest's registers, and of registers that are zero, holds after a partition entry was written
+by_end : (P : Regs → Type 0) (g : Guest) (vid : ℕ) (ends : Bool) → P fresh_registers → P (g.registers vid) → P ((if ends then (λ n. fresh_registers) else g.registers) vid)
+by_end P g vid true zero old = zero
+by_end P g vid false zero old = old
 
 full_after : (c : Ctx) (g : Guest) (selected : ℕ) (cmd : Cmd) (a : Answer) → IsCommand cmd → AreFull g.registers → AreFull (registers_in c g selected cmd a)
-full_after ctx.Hv g selected cmd a k full vid = ap length (gpr_in_hypervisor g selected a cmd vid) ∙ full vid
+full_after ctx.Hv g selected (UPate lpid dw0 dw1) (Ret code) k full vid = by_end (λ (regs : Regs). length regs.gpr ≡ 32) g vid (ends_guest code dw1) refl (full vid)
+full_after ctx.Hv g selected cmd a k full vid = ap length (gpr_in_hypervisor g selected a cmd vid refl) ∙ full vid
 full_after (ctx.Uv (Inward move)) g selected cmd a k full vid = full vid
 full_after (ctx.Uv (Outward move)) g selected cmd a k full vid = full vid
 full_after (ctx.Guest run) g selected cmd a k full vid = by_test (vid == run.vid) where
@@ -82,7 +95,11 @@ full_after (ctx.Guest run) g selected cmd a k full vid = by_test (vid == run.vid
 
 value_after_step : (c : Ctx) (g : Guest) (selected : ℕ) (cmd : Cmd) (a : Answer) (vid r : ℕ) → IsCommand cmd → AreFull g.registers → r < 32 →
     get_or (registers_in c g selected cmd a vid).gpr r 0 ≡ unwrap_or (assigned_in c g vid cmd a r) (get_or (g.registers vid).gpr r 0)
-value_after_step ctx.Hv g selected cmd a vid r k full small = ap (λ (gpr : List ℕ). get_or gpr r 0) (gpr_in_hypervisor g selected a cmd vid)
+value_after_step ctx.Hv g selected (UPate lpid dw0 dw1) (Ret code) vid r k full small = by_test (ends_guest code dw1) where
+  by_test : (b : Bool) → get_or ((if b then (λ n. fresh_registers) else g.registers) vid).gpr r 0 ≡ unwrap_or (if b then Some 0 else None) (get_or (g.registers vid).gpr r 0)
+  by_test true = get_or-replicate 32 r 0 0 small
+  by_test false = refl
+value_after_step ctx.Hv g selected cmd a vid r k full small = ap (λ (gpr : List ℕ). get_or gpr r 0) (gpr_in_hypervisor g selected a cmd vid refl)
 value_after_step (ctx.Uv (Inward move)) g selected cmd a vid r k full small = refl
 value_after_step (ctx.Uv (Outward move)) g selected cmd a vid r k full small = refl
 value_after_step (ctx.Guest run) g selected cmd a vid r k full small = by_test (vid == run.vid) refl where
@@ -94,7 +111,8 @@ value_after_step (ctx.Guest run) g selected cmd a vid r k full small = by_test (
       ∙ ap (λ (v : ℕ). unwrap_or (assigned_by_command g cmd a r) (get_or (g.registers v).gpr r 0)) (sym (test_same vid run.vid t))
   by_test false t = refl
 
-full_registers : (plan : Plan) (past : List Event) (lpid : ℕ) → IsLegal plan past → AreFull (guest_after plan lpid past).registers
+-- so each vCPU has
+pub full_registers : (plan : Plan) (past : List Event) (lpid : ℕ) → IsLegal plan past → AreFull (guest_after plan lpid past).registers
 full_registers plan [] lpid legal = λ vid. refl
 full_registers plan (e ∷ past) lpid legal = by_test (full_registers plan past lpid legal.1) (touches_guest plan lpid e) refl where
   by_test : AreFull (guest_after plan lpid past).registers → (b : Bool) → touches_guest plan lpid e ≡ b → AreFull (guest_after plan lpid (e ∷ past)).registers

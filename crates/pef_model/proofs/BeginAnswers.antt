@@ -1,5 +1,5 @@
 -- Where a page begins to move, and where a vCPU is taken up.
-use Rattle.std.proofs.Common.{◌≡◌, ◌≢◌, ℕ, ◌<◌, List, Bool, true, false, nat_lt, if◌then◌else◌, Option, Some, None, refl, ap, sym, subst, ◌∙◌, arith}
+use Rattle.std.proofs.Common.{◌≡◌, ◌≢◌, ℕ, ◌<◌, List, true, false, nat_lt, Option, Some, None, refl, ap, sym, subst, ◌∙◌, arith}
 use Rattle.std.specs.Prelude.{is_some, ◌↔◌}
 use Rattle.std.proofs.lemmas.Grind.{common_steps}
 use Rattle.std.proofs.lemmas.Bool.Decides.{nat_tests}
@@ -8,18 +8,20 @@ use Rattle.pef_model.specs.declared.state.Phase.TheVariants as phase
 use Rattle.pef_model.specs.declared.state.Mover.{Mover}
 use Rattle.pef_model.specs.declared.state.Ctx.TheVariants as ctx
 use Rattle.pef_model.specs.declared.command.Cmd.{Cmd}
-use Rattle.pef_model.specs.declared.command.Cmd.TheVariants.{HLd, HSt, UPagein, UPageout, UReturn}
+use Rattle.pef_model.specs.declared.command.Cmd.TheVariants.{UPagein, UPageout, UReturn}
 use Rattle.pef_model.specs.declared.entry.Answer.{Answer}
 use Rattle.pef_model.specs.declared.entry.Answer.TheVariants.{Step, Enter}
 use Rattle.pef_model.specs.Plan.{Plan}
 use Rattle.pef_model.specs.Event.{Event}
-use Rattle.pef_model.specs.Target.{Ask, Alone, AtFrame, frame_of, has_real_place}
+use Rattle.pef_model.specs.Target.{Ask}
 use Rattle.pef_model.specs.Cpu.{CpuPart}
 use Rattle.pef_model.specs.GuestPart.{Page, GuestPart, page_of, is_shared}
 use Rattle.pef_model.specs.PageOut.{is_starting}
 use Rattle.pef_model.specs.Deed.{Deed, may_return_in, is_waiting, deed_return}
-use Rattle.pef_model.specs.History.{cpu_after, pool_after, deed_after, Extends, part_after, page_after}
+use Rattle.pef_model.specs.History.{cpu_after, pool_after, Extends, part_after, page_after}
 use Rattle.pef_model.specs.CauseLaw.{IsReadyIn, IsReadyOut, BeginCause, BeginsPageIn, BeginsPageOut, BeginsExactlyWhere, EntersExactlyWhere}
+use Rattle.pef_model.specs.AnswerLaw.{can_answer}
+use Rattle.pef_model.proofs.AnswerRows.{deed_can}
 use Rattle.pef_model.proofs.PageCalls.{in_answer, out_answer, in_answers, out_answers, page_in_finds, page_out_finds, comes_unshared}
 use Rattle.pef_model.proofs.DeedOf.{ask_in, deed_in, deed_is}
 
@@ -58,16 +60,6 @@ ready_out p page h = (grind (arith, common_steps), not_starting p (grind (arith,
 out_ready : (p : Phase) (page : Page) → IsReadyOut p page → out_answer p page ≡ Step
 out_ready p page ready = rw (ready.0, starting_not p ready.1, ready.2) refl
 
--- no other command of the hypervisor begins a call
-load_begins_none : (plan : Plan) (past : List Event) (ask : Ask) (ra : ℕ) (b : Bool) → (deed_after plan past (record ask { before = ctx.Hv }) (HLd ra) (if b then AtFrame (frame_of plan ra) else Alone)).answer ≢ Step
-load_begins_none plan past ask ra b h = grind (arith, common_steps)
-
-store_begins_none : (plan : Plan) (past : List Event) (ask : Ask) (ra value : ℕ) (b : Bool) → (deed_after plan past (record ask { before = ctx.Hv }) (HSt ra value) (if b then AtFrame (frame_of plan ra) else Alone)).answer ≢ Step
-store_begins_none plan past ask ra value b h = grind (arith, common_steps)
-
-return_begins_none : (g : GuestPart) (ask : Ask) → (deed_return g ask).answer ≢ Step
-return_begins_none g ask h = grind (arith, common_steps)
-
 module _ (plan : Plan) (past : List Event) (e : Event) (extends : Extends plan past e) (before : e.saw.before ≡ ctx.Hv) where
   abbrev cpu : CpuPart
   cpu = cpu_after plan e.trace.cpu past
@@ -75,10 +67,9 @@ module _ (plan : Plan) (past : List Event) (e : Event) (extends : Extends plan p
   begins_from : (cmd : Cmd) → e.trace.cmd ≡ cmd → (deed_in plan past cpu ctx.Hv cmd).answer ≡ Step → BeginCause plan past e
   begins_from (UPagein lpid src gpa flags order) cmd_is h = BeginsPageIn (page_in_finds plan past (ask_in cpu ctx.Hv (UPagein lpid src gpa flags order)) lpid src gpa flags order IsReadyIn e Step before cmd_is refl h (λ other. ready_in (page_after plan past lpid (page_of plan gpa)) (pool_after plan past)))
   begins_from (UPageout lpid dest gpa flags order) cmd_is h = BeginsPageOut (page_out_finds plan past (ask_in cpu ctx.Hv (UPageout lpid dest gpa flags order)) lpid dest gpa flags order IsReadyOut e Step before cmd_is refl h (ready_out (part_after plan past lpid).phase (page_after plan past lpid (page_of plan gpa))))
-  begins_from (HLd ra) cmd_is h = absurd (load_begins_none plan past (ask_in cpu ctx.Hv (HLd ra)) ra (has_real_place plan ra) h)
-  begins_from (HSt ra value) cmd_is h = absurd (store_begins_none plan past (ask_in cpu ctx.Hv (HSt ra value)) ra value (has_real_place plan ra) h)
-  begins_from (UReturn r0 r2 outs) cmd_is h = absurd (return_begins_none (part_after plan past cpu.lpid) (ask_in cpu ctx.Hv (UReturn r0 r2 outs)) h)
-  begins_from cmd cmd_is h = cc
+  begins_from cmd cmd_is h =
+      let can : can_answer ctx.Hv cmd Step ≡ true = ap (can_answer ctx.Hv cmd) (sym h) ∙ deed_can plan past ctx.Hv (ask_in cpu ctx.Hv cmd) cmd in
+      absurd (cc)
 
   answer_is : (cmd : Cmd) → e.trace.cmd ≡ cmd → e.trace.answer ≡ (deed_in plan past cpu ctx.Hv cmd).answer
   answer_is cmd cmd_is = ap (λ (d : Deed). d.answer) (deed_is plan past e ctx.Hv cmd extends before cmd_is)

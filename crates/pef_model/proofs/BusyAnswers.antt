@@ -1,27 +1,27 @@
 -- Where U_BUSY comes.
-use Rattle.std.proofs.Common.{◌≡◌, ◌≢◌, ℕ, List, Bool, true, false, ◌||◌, if◌then◌else◌, refl, ap, sym, ◌∙◌, ◌⊎◌, inl, inr, arith}
+use Rattle.std.proofs.Common.{◌≡◌, ℕ, List, Bool, true, false, ◌||◌, refl, ap, sym, ◌∙◌, ◌⊎◌, inl, inr, arith}
 use Rattle.std.specs.Prelude.{is_some, IsSome}
 use Rattle.std.proofs.lemmas.Grind.{common_steps}
 use Rattle.pef_model.specs.declared.state.Phase.{Phase}
 use Rattle.pef_model.specs.declared.state.Phase.TheVariants as phase
-use Rattle.pef_model.specs.declared.state.Move.{Move}
 use Rattle.pef_model.specs.declared.state.Run.{Run}
-use Rattle.pef_model.specs.declared.state.Work.TheVariants.{Inward, Outward}
+use Rattle.pef_model.specs.declared.state.Work.{Work}
 use Rattle.pef_model.specs.declared.state.Ctx.{Ctx}
 use Rattle.pef_model.specs.declared.state.Ctx.TheVariants as ctx
 use Rattle.pef_model.specs.declared.command.Code.TheVariants.{UBusy}
 use Rattle.pef_model.specs.declared.command.Cmd.{Cmd}
-use Rattle.pef_model.specs.declared.command.Cmd.TheVariants.{HLd, HSt, UPagein, UPageout, UReturn, Go}
+use Rattle.pef_model.specs.declared.command.Cmd.TheVariants.{UPagein, UPageout}
 use Rattle.pef_model.specs.declared.entry.Answer.TheVariants.{Ret}
 use Rattle.pef_model.specs.Plan.{Plan}
 use Rattle.pef_model.specs.Event.{Event}
-use Rattle.pef_model.specs.Target.{Ask, Alone, AtGuest, AtFrame, frame_of, has_real_place}
 use Rattle.pef_model.specs.Cpu.{CpuPart}
-use Rattle.pef_model.specs.GuestPart.{Page, GuestPart, page_of, is_shared}
+use Rattle.pef_model.specs.GuestPart.{Page, page_of, is_shared}
 use Rattle.pef_model.specs.PageOut.{is_starting}
-use Rattle.pef_model.specs.Deed.{Deed, deed_return}
-use Rattle.pef_model.specs.History.{cpu_after, pool_after, deed_after, Extends, part_after, page_after}
+use Rattle.pef_model.specs.Deed.{Deed}
+use Rattle.pef_model.specs.History.{cpu_after, pool_after, Extends, part_after, page_after}
 use Rattle.pef_model.specs.CauseLaw.{IsBusyIn, IsBusyOut, BusyCause, BusyPageIn, BusyPageOut, BusyExactlyWhere}
+use Rattle.pef_model.specs.AnswerLaw.{can_answer}
+use Rattle.pef_model.proofs.AnswerRows.{deed_can}
 use Rattle.pef_model.proofs.PageCalls.{in_answer, out_answer, in_answers, out_answers, page_in_finds, page_out_finds, none_free}
 use Rattle.pef_model.proofs.DeedOf.{ask_in, deed_in, deed_is}
 
@@ -49,28 +49,13 @@ out_busy p page other (inr moves) =
     let stuck : (is_starting p || is_some page.mover) ≡ true = grind (arith, common_steps) in
     rw (other, stuck) refl
 
--- a load or store of the hypervisor isn't busy, with a place or without
-load_not_busy : (plan : Plan) (past : List Event) (ask : Ask) (ra : ℕ) (b : Bool) → (deed_after plan past (record ask { before = ctx.Hv }) (HLd ra) (if b then AtFrame (frame_of plan ra) else Alone)).answer ≢ Ret UBusy
-load_not_busy plan past ask ra b h = grind (arith, common_steps)
+-- no step of a call in progress is busy
+call_not_busy : (work : Work) (cmd : Cmd) → can_answer (ctx.Uv work) cmd (Ret UBusy) ≡ true → ⊥
+call_not_busy work cmd h = grind (arith, common_steps)
 
-store_not_busy : (plan : Plan) (past : List Event) (ask : Ask) (ra value : ℕ) (b : Bool) → (deed_after plan past (record ask { before = ctx.Hv }) (HSt ra value) (if b then AtFrame (frame_of plan ra) else Alone)).answer ≢ Ret UBusy
-store_not_busy plan past ask ra value b h = grind (arith, common_steps)
-
-return_not_busy : (g : GuestPart) (ask : Ask) → (deed_return g ask).answer ≢ Ret UBusy
-return_not_busy g ask h = grind (arith, common_steps)
-
--- nor is a step of a call in progress
-inward_not_busy : (plan : Plan) (past : List Event) (ask : Ask) (move : Move) (b : Bool) →
-    (deed_after plan past (record ask { before = ctx.Uv (Inward move) }) Go (if b then AtGuest move.lpid else AtFrame move.frame)).answer ≢ Ret UBusy
-inward_not_busy plan past ask move b h = grind (arith, common_steps)
-
-outward_not_busy : (plan : Plan) (past : List Event) (ask : Ask) (move : Move) (b : Bool) →
-    (deed_after plan past (record ask { before = ctx.Uv (Outward move) }) Go (if b then AtGuest move.lpid else AtFrame move.frame)).answer ≢ Ret UBusy
-outward_not_busy plan past ask move b h = grind (arith, common_steps)
-
--- nor is a step of a vCPU
-guest_not_busy : (plan : Plan) (past : List Event) (run : Run) (ask : Ask) (cmd : Cmd) → (deed_after plan past (record ask { before = ctx.Guest run }) cmd (AtGuest run.lpid)).answer ≢ Ret UBusy
-guest_not_busy plan past run ask cmd h = grind (arith, common_steps)
+-- nor is one of a vCPU
+vcpu_not_busy : (run : Run) (cmd : Cmd) → can_answer (ctx.Guest run) cmd (Ret UBusy) ≡ true → ⊥
+vcpu_not_busy run cmd h = grind (arith, common_steps)
 
 module _ (plan : Plan) (past : List Event) (e : Event) (extends : Extends plan past e) where
   abbrev cpu : CpuPart
@@ -79,18 +64,11 @@ module _ (plan : Plan) (past : List Event) (e : Event) (extends : Extends plan p
   busy_from : (c : Ctx) (cmd : Cmd) → e.saw.before ≡ c → e.trace.cmd ≡ cmd → (deed_in plan past cpu c cmd).answer ≡ Ret UBusy → BusyCause plan past e
   busy_from ctx.Hv (UPagein lpid src gpa flags order) before cmd_is h = BusyPageIn (page_in_finds plan past (ask_in cpu ctx.Hv (UPagein lpid src gpa flags order)) lpid src gpa flags order IsBusyIn e (Ret UBusy) before cmd_is refl h (busy_in (page_after plan past lpid (page_of plan gpa)) (pool_after plan past)))
   busy_from ctx.Hv (UPageout lpid dest gpa flags order) before cmd_is h = BusyPageOut (page_out_finds plan past (ask_in cpu ctx.Hv (UPageout lpid dest gpa flags order)) lpid dest gpa flags order IsBusyOut e (Ret UBusy) before cmd_is refl h (busy_out (part_after plan past lpid).phase (page_after plan past lpid (page_of plan gpa))))
-  busy_from ctx.Hv (HLd ra) before cmd_is h = absurd (load_not_busy plan past (ask_in cpu ctx.Hv (HLd ra)) ra (has_real_place plan ra) h)
-  busy_from ctx.Hv (HSt ra value) before cmd_is h = absurd (store_not_busy plan past (ask_in cpu ctx.Hv (HSt ra value)) ra value (has_real_place plan ra) h)
-  busy_from ctx.Hv (UReturn r0 r2 outs) before cmd_is h = absurd (return_not_busy (part_after plan past cpu.lpid) (ask_in cpu ctx.Hv (UReturn r0 r2 outs)) h)
-  busy_from ctx.Hv cmd before cmd_is h = cc
-  busy_from (ctx.Uv (Inward move)) Go before cmd_is h = absurd (inward_not_busy plan past (ask_in cpu (ctx.Uv (Inward move)) Go) move move.copied h)
-  busy_from (ctx.Uv (Inward move)) cmd before cmd_is h = cc
-  busy_from (ctx.Uv (Outward move)) Go before cmd_is h = absurd (outward_not_busy plan past (ask_in cpu (ctx.Uv (Outward move)) Go) move move.copied h)
-  busy_from (ctx.Uv (Outward move)) cmd before cmd_is h = cc
-  busy_from (ctx.Guest run) (HLd ra) before cmd_is h = cc
-  busy_from (ctx.Guest run) (HSt ra value) before cmd_is h = cc
-  busy_from (ctx.Guest run) Go before cmd_is h = cc
-  busy_from (ctx.Guest run) cmd before cmd_is h = absurd (guest_not_busy plan past run (ask_in cpu (ctx.Guest run) cmd) cmd h)
+  busy_from ctx.Hv cmd before cmd_is h =
+      let can : can_answer ctx.Hv cmd (Ret UBusy) ≡ true = ap (can_answer ctx.Hv cmd) (sym h) ∙ deed_can plan past ctx.Hv (ask_in cpu ctx.Hv cmd) cmd in
+      absurd (cc)
+  busy_from (ctx.Uv work) cmd before cmd_is h = absurd (call_not_busy work cmd (ap (can_answer (ctx.Uv work) cmd) (sym h) ∙ deed_can plan past (ctx.Uv work) (ask_in cpu (ctx.Uv work) cmd) cmd))
+  busy_from (ctx.Guest run) cmd before cmd_is h = absurd (vcpu_not_busy run cmd (ap (can_answer (ctx.Guest run) cmd) (sym h) ∙ deed_can plan past (ctx.Guest run) (ask_in cpu (ctx.Guest run) cmd) cmd))
 
   busy_to : BusyCause plan past e → e.trace.answer ≡ Ret UBusy
   busy_to (BusyPageIn asks) =

@@ -1,7 +1,10 @@
 -- What a step can change: its CPU, the public part of one guest, the pool.
-use Rattle.std.proofs.Common.{◌≡◌, ◌≢◌, ℕ, ◌+◌, ◌<◌, List, ◌∷◌, Bool, true, false, refl, ap, sym, ◌∙◌, ◌==◌, ◌&&◌, if◌then◌else◌, None}
+use Rattle.std.proofs.Common.{◌≡◌, ◌≢◌, ℕ, ◌+◌, ◌<◌, List, ◌∷◌, Bool, true, false, not, refl, ap, sym, ◌∙◌, ◌==◌, ◌&&◌, ◌||◌, ◌⊎◌, if◌then◌else◌, None}
 use Rattle.pef_model.specs.declared.state.Kind.TheVariants.{Secure, Out}
 use Rattle.pef_model.specs.declared.state.Pending.TheVariants as pending
+use Rattle.pef_model.specs.declared.state.Phase.{Phase}
+use Rattle.pef_model.specs.declared.state.Phase.TheVariants as phase
+use Rattle.pef_model.specs.declared.state.VState.TheVariants as vstate
 use Rattle.pef_model.specs.declared.state.Run.{Run}
 use Rattle.pef_model.specs.declared.state.Move.{Move}
 use Rattle.pef_model.specs.declared.state.Work.{Work}
@@ -13,10 +16,12 @@ use Rattle.pef_model.specs.Plan.{Plan, IsWithin}
 use Rattle.pef_model.specs.Event.{Event, Mark}
 use Rattle.pef_model.specs.Target.{Ask, Target, Alone, AtGuest, target_in, target_of, is_guest}
 use Rattle.pef_model.specs.Cpu.{CpuPart, next_cpu}
-use Rattle.pef_model.specs.GuestPart.{GuestPart, put, is_invalid, next_part, with_secure_page, with_running_vcpu, with_parked_vcpu, with_page_leaving, with_page_out, with_page_coming, with_page_refused}
+use Rattle.pef_model.specs.GuestPart.{GuestPart, put, is_invalid, next_part, with_secure_page, with_running_vcpu, with_parked_vcpu, with_page_leaving, with_page_out, with_page_coming, with_page_refused, with_entry, ended_normal}
+use Rattle.pef_model.specs.Entry.{may_write_in, may_enter_in}
 use Rattle.pef_model.specs.Guest.{next_guest}
 use Rattle.pef_model.specs.PageOut.{sealed_page}
-use Rattle.pef_model.specs.Deed.{Deed, may_return_in, is_waiting}
+use Rattle.pef_model.specs.PageIn.{may_page_in_in}
+use Rattle.pef_model.specs.Deed.{Deed, may_return_in}
 use Rattle.pef_model.specs.History.{guest_after, pool_after, frame_after, deed_after, ask_of, entry_of, part_after, begins_out}
 use Rattle.pef_model.proofs.Folds.{test_same}
 use Rattle.pef_model.proofs.Works.{move_of}
@@ -50,6 +55,7 @@ pub record BeginsMove (plan : Plan) (past : List Event) (cpu : CpuPart) (e : Eve
   pub kind_is : ((part_after plan past move.lpid).pages move.gfn).kind ≡ Secure
   pub at_rest : ((part_after plan past move.lpid).pages move.gfn).mover ≡ None
   pub sealed : e.bytes ≡ sealed_page plan (guest_after plan move.lpid past) move.lpid move.gfn
+  pub secure : (part_after plan past move.lpid).phase ≡ phase.Secure
   pub begins : (lpid gfn : ℕ) → begins_out plan lpid gfn e ≡ (move.lpid == lpid) && (move.gfn == gfn)
   pub cpu_is : LeavesCpu cpu e (ctx.Uv (Outward move)) e.bytes cpu.lpid
   pub parts : PutsPart plan past e move.lpid (with_page_leaving (part_after plan past move.lpid) move.gfn e.trace.cpu e.bytes)
@@ -90,6 +96,7 @@ pub record ComesIn (plan : Plan) (past : List Event) (cpu : CpuPart) (e : Event)
   pub at_rest : ((part_after plan past move.lpid).pages move.gfn).mover ≡ None
   pub placed : move.gfn < plan.pages
   pub number : IsWithin 1 plan.guests move.lpid
+  pub allowed : may_page_in_in (part_after plan past move.lpid).phase ≡ true
   pub cpu_is : LeavesCpu cpu e (ctx.Uv (Inward move)) cpu.hand cpu.lpid
   pub parts : PutsPart plan past e move.lpid (with_page_coming (part_after plan past move.lpid) move.gfn e.trace.cpu)
   pub pool : pool_after plan (e ∷ past) + 1 ≡ pool_after plan past
@@ -121,19 +128,45 @@ pub record RefusesPage (plan : Plan) (past : List Event) (cpu : CpuPart) (e : Ev
   pub parts : PutsPart plan past e move.lpid (with_page_refused (part_after plan past move.lpid) move.gfn)
   pub pool : pool_after plan (e ∷ past) ≡ pool_after plan past + 1
 
--- a vCPU of the selected guest that waits is taken up
+-- whether a guest in this phase runs: UV_RETURN is for it, or h.enter
+abbrev pub may_run_in : Phase → Bool
+may_run_in p = may_return_in p || may_enter_in p
+
+-- a vCPU that doesn't run is taken up
 pub record TakesUp (plan : Plan) (past : List Event) (cpu : CpuPart) (e : Event) : Type 0 where
+  pub lpid : ℕ
+  pub vid : ℕ
   pub before : cpu.ctx ≡ ctx.Hv
-  pub allowed : may_return_in (part_after plan past cpu.lpid).phase ≡ true
-  pub waits : is_waiting ((part_after plan past cpu.lpid).vcpus cpu.vid).state ≡ true
-  pub cpu_is : LeavesCpu cpu e (ctx.Guest (record { lpid = cpu.lpid; vid = cpu.vid; generation = (part_after plan past cpu.lpid).generation })) cpu.hand cpu.lpid
-  pub parts : PutsPart plan past e cpu.lpid (with_running_vcpu (part_after plan past cpu.lpid) cpu.vid e.trace.cpu)
+  pub allowed : may_run_in (part_after plan past lpid).phase ≡ true
+  pub rests : (n : ℕ) → ((part_after plan past lpid).vcpus vid).state ≡ vstate.Running n → ⊥
+  pub number : lpid ≡ cpu.lpid ⊎ IsWithin 1 plan.guests lpid
+  pub cpu_is : LeavesCpu cpu e (ctx.Guest (record { lpid = lpid; vid = vid; generation = (part_after plan past lpid).generation })) cpu.hand cpu.lpid
+  pub parts : PutsPart plan past e lpid (with_running_vcpu (part_after plan past lpid) vid e.trace.cpu)
+  pub pool : pool_after plan (e ∷ past) ≡ pool_after plan past
+
+-- the partition entry of a guest is set, and the guest is in normal memory or ends
+pub record WritesEntry (plan : Plan) (past : List Event) (cpu : CpuPart) (e : Event) : Type 0 where
+  pub lpid : ℕ
+  pub base : ℕ
+  pub length_ : ℕ
+  pub allowed : may_write_in (part_after plan past lpid).phase ≡ true
+  pub cpu_is : LeavesCpu cpu e cpu.ctx cpu.hand cpu.lpid
+  pub parts : PutsPart plan past e lpid (with_entry (part_after plan past lpid) base length_)
+  pub pool : pool_after plan (e ∷ past) ≡ pool_after plan past
+
+-- a vCPU is selected
+pub record Selects (plan : Plan) (past : List Event) (cpu : CpuPart) (e : Event) : Type 0 where
+  pub lpid : ℕ
+  pub number : IsWithin 1 plan.guests lpid
+  pub cpu_is : LeavesCpu cpu e cpu.ctx cpu.hand lpid
+  pub parts : KeepsParts plan past e
   pub pool : pool_after plan (e ∷ past) ≡ pool_after plan past
 
 -- an interrupt takes a vCPU from its CPU
 pub record Parks (plan : Plan) (past : List Event) (cpu : CpuPart) (e : Event) : Type 0 where
   pub run : Run
   pub before : cpu.ctx ≡ ctx.Guest run
+  pub generation : run.generation ≡ (part_after plan past run.lpid).generation
   pub cpu_is : LeavesCpu cpu e ctx.Hv cpu.hand run.lpid
   pub parts : PutsPart plan past e run.lpid (with_parked_vcpu (part_after plan past run.lpid) run.vid pending.Irq)
   pub pool : pool_after plan (e ∷ past) ≡ pool_after plan past
@@ -146,11 +179,17 @@ pub record FindsGone (plan : Plan) (past : List Event) (cpu : CpuPart) (e : Even
   pub parts : KeepsParts plan past e
   pub pool : pool_after plan (e ∷ past) ≡ pool_after plan past
 
+-- whether an access of a guest in this phase may back a page: one in normal memory goes through its partition entry
+abbrev pub is_backed_in : Phase → Bool
+is_backed_in p = not (may_enter_in p)
+
 -- an access backs an Invalid page with a free frame
 pub record BacksPage (plan : Plan) (past : List Event) (cpu : CpuPart) (e : Event) : Type 0 where
   pub run : Run
   pub gfn : ℕ
   pub before : cpu.ctx ≡ ctx.Guest run
+  pub generation : run.generation ≡ (part_after plan past run.lpid).generation
+  pub backed : is_backed_in (part_after plan past run.lpid).phase ≡ true
   pub invalid : is_invalid ((part_after plan past run.lpid).pages gfn) ≡ true
   pub at_rest : ((part_after plan past run.lpid).pages gfn).mover ≡ None
   pub placed : gfn < plan.pages
@@ -173,6 +212,16 @@ pub data Change (plan : Plan) (past : List Event) (cpu : CpuPart) (e : Event) : 
   Parked : Parks plan past cpu e → Change plan past cpu e
   Gone : FindsGone plan past cpu e → Change plan past cpu e
   Backs : BacksPage plan past cpu e → Change plan past cpu e
+  Writes : WritesEntry plan past cpu e → Change plan past cpu e
+  Selected : Selects plan past cpu e → Change plan past cpu e
+
+-- what holds of a guest in normal memory with this entry, and of one that ends, holds where the entry is set
+pub entry_gives : (P : GuestPart → Type 0) (g : GuestPart) (dw0 dw1 : ℕ) →
+    P (record g { entry = record { base = dw0; length_ = dw1 }; phase = phase.Normal }) → P (ended_normal (record g { entry = record { base = dw0; length_ = dw1 } })) → P (with_entry g dw0 dw1)
+entry_gives P g dw0 dw1 set ended = by_length (dw1 == 0) where
+  by_length : (b : Bool) → P (if b then ended_normal (record g { entry = record { base = dw0; length_ = dw1 } }) else record g { entry = record { base = dw0; length_ = dw1 }; phase = phase.Normal })
+  by_length true = ended
+  by_length false = set
 
 -- an entry that aims at no guest changes none
 pub at_none : (plan : Plan) (past : List Event) (e : Event) → ((lpid : ℕ) → is_guest lpid (target_of plan e) ≡ false) → KeepsParts plan past e

@@ -1,15 +1,17 @@
 -- What an entry leaves of the CPUs and of the guests, field by field.
-use Rattle.std.proofs.Common.{◌≡◌, ℕ, List, ◌∷◌, Bool, true, false, ap, sym, refl, ◌∙◌, ◌==◌, if◌then◌else◌}
+use Rattle.std.proofs.Common.{◌≡◌, ℕ, List, ◌∷◌, Bool, true, false, ap, sym, subst, refl, ◌∙◌, ◌==◌, if◌then◌else◌, inl, inr}
+use Rattle.std.proofs.lemmas.Bool.{cases_eq}
+use Rattle.pef_model.specs.declared.state.Phase.TheVariants.{Normal}
 use Rattle.pef_model.specs.declared.state.Ctx.{Ctx}
 use Rattle.pef_model.specs.Plan.{Plan}
 use Rattle.pef_model.specs.Event.{Event}
 use Rattle.pef_model.specs.Target.{touches_cpu}
 use Rattle.pef_model.specs.Cpu.{CpuPart, start_cpu, next_cpu}
-use Rattle.pef_model.specs.GuestPart.{GuestPart, put}
+use Rattle.pef_model.specs.GuestPart.{GuestPart, put, with_entry, ended_normal}
 use Rattle.pef_model.specs.History.{cpu_after, part_after}
 use Rattle.pef_model.proofs.Folds.{test_same, counts, skips}
-use Rattle.pef_model.proofs.Puts.{not_swapped, put-ap, put-same}
-use Rattle.pef_model.proofs.Changes.{LeavesCpu, KeepsParts, PutsPart}
+use Rattle.pef_model.proofs.Puts.{not_swapped, put-ap, put-same, put-here, put-other}
+use Rattle.pef_model.proofs.Changes.{LeavesCpu, KeepsParts, PutsPart, entry_gives}
 
 -- the contexts of the CPUs
 abbrev pub ctxs : Plan → List Event → ℕ → Ctx
@@ -75,3 +77,22 @@ module _ (plan : Plan) (past : List Event) (e : Event) where
   -- a field where no part changes
   pub kept_field : {X : Type 0} (f : GuestPart → X) → KeepsParts plan past e → of_each f plan past ≡ of_each f plan (e ∷ past)
   kept_field f parts = (λ i lpid. f (sym (parts lpid) i))
+
+  -- a field where a partition entry is set that leaves it
+  pub entry_field : {X : Type 0} (f : GuestPart → X) (l base length : ℕ) → PutsPart plan past e l (with_entry (part_after plan past l) base length) →
+      f (record (part_after plan past l) { entry = record { base = base; length_ = length }; phase = Normal }) ≡ f (part_after plan past l) →
+      f (ended_normal (record (part_after plan past l) { entry = record { base = base; length_ = length } })) ≡ f (part_after plan past l) →
+      of_each f plan past ≡ of_each f plan (e ∷ past)
+  entry_field f l base length parts set ended =
+      same_field f l (with_entry (part_after plan past l) base length) parts (entry_gives (λ (g : GuestPart). f g ≡ f (part_after plan past l)) (part_after plan past l) base length set ended)
+
+  -- what holds of each part before an entry that changes none holds after it
+  pub holds_same : (P : GuestPart → Type 0) → KeepsParts plan past e → ((lpid : ℕ) → P (part_after plan past lpid)) → (lpid : ℕ) → P (part_after plan (e ∷ past) lpid)
+  holds_same P parts h lpid = subst P (sym (parts lpid)) (h lpid)
+
+  -- and after one that changes one part, where it holds of the new one
+  pub holds_one : (P : GuestPart → Type 0) (l : ℕ) (new : GuestPart) → PutsPart plan past e l new → P new → ((lpid : ℕ) → P (part_after plan past lpid)) → (lpid : ℕ) → P (part_after plan (e ∷ past) lpid)
+  holds_one P l new parts here h lpid = subst P (sym (parts lpid)) (elim (cases_eq lpid l) [
+    | inl same ↦ subst P (sym (ap (put (part_after plan past) l new) same ∙ put-here (part_after plan past) l new)) here
+    | inr other ↦ subst P (sym (put-other (part_after plan past) l new lpid other)) (h lpid)
+  ])

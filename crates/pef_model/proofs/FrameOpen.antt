@@ -4,8 +4,9 @@ use Rattle.pef_model.specs.declared.state.Work.TheVariants.{Inward, Outward}
 use Rattle.pef_model.specs.declared.state.Ctx.{Ctx}
 use Rattle.pef_model.specs.declared.state.Ctx.TheVariants as ctx
 use Rattle.pef_model.specs.declared.command.Cmd.{Cmd}
-use Rattle.pef_model.specs.declared.command.Cmd.TheVariants.{GLi}
+use Rattle.pef_model.specs.declared.command.Cmd.TheVariants.{GLi, GSt}
 use Rattle.pef_model.specs.declared.entry.Answer.{Answer}
+use Rattle.pef_model.specs.declared.entry.Answer.TheVariants.{Done}
 use Rattle.pef_model.specs.SecretLaw.{open_cmd, open_answer}
 use Rattle.pef_model.specs.Memory.{write_in, writes_in}
 
@@ -15,6 +16,9 @@ write_open shift ctx.Hv cmd a bytes n = refl
 write_open shift (ctx.Uv (Inward move)) cmd a bytes n = refl
 write_open shift (ctx.Uv (Outward move)) (GLi rd value) a bytes n = refl
 write_open shift (ctx.Uv (Outward move)) cmd a bytes n = refl
+write_open shift (ctx.Guest run) (GLi rd value) a bytes n = refl
+write_open shift (ctx.Guest run) (GSt rs gpa) Done bytes n = refl
+write_open shift (ctx.Guest run) (GSt rs gpa) a bytes n = refl
 write_open shift (ctx.Guest run) cmd a bytes n = refl
 
 pub writes_open : (shift : ℕ) (c : Ctx) (cmd : Cmd) (a : Answer) (bytes : List ℕ) (frame : Option ℕ) → writes_in shift c cmd a bytes frame ≡ writes_in shift c (open_cmd cmd) (open_answer c a) bytes frame

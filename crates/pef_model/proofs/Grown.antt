@@ -12,6 +12,7 @@ use Rattle.pef_model.specs.History.{part_after}
 use Rattle.pef_model.proofs.Folds.{same_test}
 use Rattle.pef_model.proofs.Times.{times, times_passed, times_stopped, same_filter, filter_all}
 use Rattle.pef_model.proofs.Puts.{put-here, put-other}
+use Rattle.pef_model.proofs.Changes.{entry_gives}
 use Rattle.pef_model.proofs.Parts.{IsKept, holds_after}
 use Rattle.pef_model.proofs.Orders.{times-behind}
 
@@ -49,6 +50,7 @@ listed_kept g h = record {
         let same : times gfn (g.order ++ at ∷ []) ≡ times gfn g.order = times-behind at gfn g.order other in
         ap is_secure (put-other g.pages at (secured (g.pages at)) gfn other) ∙ h gfn (omega arith)
   ];
+  written = λ dw0 dw1. entry_gives IsListed g dw0 dw1 h h;
 }
 
 -- so they are after each history
@@ -82,6 +84,7 @@ grows_kept g h = record {
   secure = λ at. grows_by g (with_secure_page g at) g.order
       (filter_all (λ n. is_secure (put g.pages at (secured (g.pages at)) n)) g.order (λ gfn some. secure_put g at (secured (g.pages at)) (λ secure. refl) gfn (h gfn some)))
       (take-append_seam g.order (at ∷ []));
+  written = λ dw0 dw1. entry_gives (Grows g) g dw0 dw1 (all_still g refl (λ gfn secure. secure)) (all_still g refl (λ gfn secure. secure));
 } where
   all_still : (new : GuestPart) → new.order ≡ g.order → ((gfn : ℕ) → is_secure (g.pages gfn) ≡ true → is_secure (new.pages gfn) ≡ true) → Grows g new
   all_still new same still = grows_by g new g.order (filter_all (λ gfn. is_secure (new.pages gfn)) g.order (λ gfn some. still gfn (h gfn some)))

@@ -16,23 +16,17 @@ use Rattle.pef_model.specs.Clash.{clashes}
 use Rattle.pef_model.specs.Sound.{clashes_at, is_clash, is_clean}
 use Rattle.pef_model.specs.GuestLaw.{WordsAreCounted, CleanIsEachGuests}
 use Rattle.pef_model.proofs.Folds.{keeps, leaves}
-use Rattle.pef_model.proofs.Parts.{holds_after}
+use Rattle.pef_model.proofs.Changes.{entry_gives}
+use Rattle.pef_model.proofs.Parts.{holds_after, life_kept}
 
 -- no entry changes how many entropy words a guest has left
 words_stay : (plan : Plan) (past : List Event) (lpid : ℕ) → ((part_after plan past lpid).words ≡ plan.words lpid) × ((guest_after plan lpid past).words ≡ plan.entropy lpid)
 words_stay plan [] lpid = (refl, refl)
 words_stay plan (e ∷ past) lpid =
     let before = words_stay plan past lpid in (
-      holds_after (λ (g : GuestPart). g.words ≡ plan.words lpid) plan past e lpid (record {
-        same = before.0;
-        running = λ vid cpu. before.0;
-        parked = λ vid pending. before.0;
-        leaving = λ gfn cpu bytes. before.0;
-        out = λ gfn. before.0;
-        coming = λ gfn cpu. before.0;
-        refused = λ gfn. before.0;
-        secure = λ gfn. before.0;
-      }),
+      holds_after (λ (new : GuestPart). new.words ≡ plan.words lpid) plan past e lpid
+          (life_kept (λ (new : GuestPart). new.words ≡ plan.words lpid) (part_after plan past lpid) (λ pages vcpus order. before.0)
+          (λ dw0 dw1. entry_gives (λ (new : GuestPart). new.words ≡ plan.words lpid) (part_after plan past lpid) dw0 dw1 before.0 before.0)),
       by_test (touches_guest plan lpid e) before.1,
     ) where
       by_test : (b : Bool) → (guest_after plan lpid past).words ≡ plan.entropy lpid → (if b then next_guest plan (guest_after plan lpid past) e else guest_after plan lpid past).words ≡ plan.entropy lpid

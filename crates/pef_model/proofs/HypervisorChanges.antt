@@ -1,9 +1,11 @@
 -- Which change a step of the hypervisor makes, and one of its call in progress.
-use Rattle.std.proofs.Common.{◌≡◌, ℕ, nat_lt, List, Bool, true, false, not, refl, ap, sym, ◌==◌, ◌&&◌, ◌||◌, if◌then◌else◌, Option, Some, None, is_some, arith}
+use Rattle.std.proofs.Common.{◌≡◌, ℕ, nat_lt, List, Bool, true, false, not, refl, ap, sym, ◌∙◌, ◌==◌, ◌&&◌, ◌||◌, if◌then◌else◌, Option, Some, None, is_some, inl, arith}
 use Rattle.std.proofs.lemmas.Bool.{and_parts, not-false, or_parts}
 use Rattle.std.proofs.lemmas.Bool.Decides.{nat_tests}
 use Rattle.pef_model.specs.declared.state.Phase.{Phase}
 use Rattle.pef_model.specs.declared.state.Phase.TheVariants as phase
+use Rattle.pef_model.specs.declared.state.VState.{VState}
+use Rattle.pef_model.specs.declared.state.VState.TheVariants as vstate
 use Rattle.pef_model.specs.declared.state.Kind.{Kind}
 use Rattle.pef_model.specs.declared.state.Kind.TheVariants as kind
 use Rattle.pef_model.specs.declared.state.Move.{Move}
@@ -24,6 +26,7 @@ use Rattle.pef_model.specs.Cpu.{CpuPart}
 use Rattle.pef_model.specs.GuestPart.{Page, GuestPart, page_of, with_running_vcpu, with_page_leaving, with_page_out, is_shared}
 use Rattle.pef_model.specs.Guest.{Guest}
 use Rattle.pef_model.specs.PageOut.{may_page_out_in, has_frame, has_page, can_go_out, is_starting, page_out_code, bytes_out}
+use Rattle.pef_model.specs.Entry.{may_enter_in}
 use Rattle.pef_model.specs.Deed.{Deed, answering, giving, coming_back, returning, may_return_in, is_waiting, deed_page_out_begin, deed_return}
 use Rattle.pef_model.specs.History.{guest_after, deed_after, part_after}
 use Rattle.pef_model.proofs.Folds.{test_same}
@@ -73,6 +76,10 @@ page_begins plan g dest gpa flags order h =
     let rests = or_parts (is_starting g.phase) (is_some page.mover) busy.0 in
     (secure_kind page.kind goes.1 shared.0, no_mover page.mover rests.1, secure_phase g.phase (not-false (may_page_out_in g.phase) phases.0) rests.0)
 
+-- a vCPU that waits doesn't run
+waits_not : (state : VState) (n : ℕ) → state ≡ vstate.Running n → is_waiting state ≡ true → ⊥
+waits_not state n runs waits = let none : false ≡ true = ap is_waiting (sym runs) ∙ waits in cc
+
 -- the next step of a call in progress aims as its move says
 pub work_aims : (plan : Plan) (work : Work) (b : Bool) → (move_of work).copied ≡ b → target_of_aim plan (aim_of_work work Go) ≡ (if b then AtGuest (move_of work).lpid else AtFrame (move_of work).frame)
 work_aims plan (Inward move) b t = ap (λ (c : Bool). if c then AtGuest move.lpid else AtFrame move.frame) t
@@ -108,8 +115,11 @@ module _ (plan : Plan) (past : List Event) (cpu : CpuPart) (mark : Mark) where
         let parts = and_parts (may_return_in g.phase) (is_waiting (g.vcpus cpu.vid).state) t in
         Takes (record {
           before = h;
-          allowed = parts.0;
-          waits = parts.1;
+          lpid = cpu.lpid;
+          vid = cpu.vid;
+          allowed = ap (λ (b : Bool). b || may_enter_in g.phase) parts.0;
+          rests = λ n runs. waits_not (g.vcpus cpu.vid).state n runs parts.1;
+          number = inl refl;
           cpu_is = record { ctx_is = refl; hand_is = refl; lpid_is = refl };
           parts = at_guest plan past (entry cpu ctx.Hv mark (UReturn r0 r2 outs) (deed true)) cpu.lpid (with_running_vcpu g cpu.vid mark.cpu) refl refl;
           pool = refl;
@@ -139,6 +149,7 @@ module _ (plan : Plan) (past : List Event) (cpu : CpuPart) (mark : Mark) where
           kind_is = begins.0;
           at_rest = begins.1;
           sealed = ap (λ (p : Phase). bytes_out p plan g lpid (page_of plan gpa)) begins.2;
+          secure = begins.2;
           begins = λ named gfn. refl;
           cpu_is = record { ctx_is = refl; hand_is = refl; lpid_is = refl };
           parts = at_guest plan past (entry cpu ctx.Hv mark (UPageout lpid dest gpa flags order) (deed None)) lpid (with_page_leaving g.part (page_of plan gpa) mark.cpu (bytes_out g.part.phase plan g lpid (page_of plan gpa))) target refl;

@@ -4,6 +4,7 @@ pub mod NextSteps
 pub mod GoAll
 pub mod OneNext
 pub mod Runs
+pub mod OwnWrites
 pub mod NextValues
 pub mod Opened
 pub mod Secrets
@@ -18,6 +19,7 @@ pub mod Aims
 pub mod Works
 pub mod OwnRegisters
 pub mod Outcomes
+pub mod LetOut
 pub mod Steps
 pub mod Moves
 pub mod Puts
@@ -25,12 +27,14 @@ pub mod Changes
 pub mod HypervisorChanges
 pub mod PageInChanges
 pub mod GuestChanges
+pub mod EntryChanges
 pub mod ChangeOf
 pub mod Fields
 pub mod Moving
 pub mod Paging
 pub mod Begun
 mod Tags
+pub mod Reached
 pub mod Running
 pub mod Parts
 pub mod Times
@@ -50,8 +54,11 @@ pub mod Filled
 pub mod Streams
 pub mod Pairs
 pub mod Placed
+pub mod Through
+pub mod Whole
 pub mod Hands
 pub mod Normal
+pub mod ThroughStores
 pub mod Written
 pub mod FrameOpen
 pub mod AlikeEntries
@@ -76,6 +83,9 @@ pub mod PageCalls
 pub mod BusyAnswers
 mod Unworded
 mod Taken
+mod Lives
 mod AnswerRows
 mod PartedAddresses
 mod BeginAnswers
+mod EntryAnswers
+mod ExitAnswers

@@ -1,25 +1,31 @@
 -- What an entry makes of a vCPU's registers.
-use Rattle.std.proofs.Common.{◌≡◌, ℕ, List, ◌∷◌, Bool, true, false, refl, ap, sym, subst, ◌∙◌, ◌==◌, if◌then◌else◌, Some, Option, unwrap_or}
+use Rattle.std.proofs.Common.{◌≡◌, ℕ, List, ◌∷◌, Bool, true, false, refl, ap, sym, subst, ◌∙◌, ◌==◌, ◌&&◌, nat_le, if◌then◌else◌, Some, Option, unwrap_or, arith}
+use Rattle.std.proofs.lemmas.Grind.{common_steps}
+use Rattle.pef_model.specs.declared.state.Phase.TheVariants.{Normal}
 use Rattle.pef_model.specs.declared.state.Run.{Run}
 use Rattle.pef_model.specs.declared.state.Regs.{Regs}
 use Rattle.pef_model.specs.declared.state.Ctx.{Ctx}
 use Rattle.pef_model.specs.declared.state.Ctx.TheVariants as ctx
+use Rattle.pef_model.specs.declared.command.Code.{Code}
+use Rattle.pef_model.specs.declared.command.Code.TheVariants.{USuccess}
 use Rattle.pef_model.specs.declared.command.Cmd.{Cmd}
-use Rattle.pef_model.specs.declared.command.Cmd.TheVariants.{HLd, HSt, UPagein, UPageout, UReturn, GLi, GLd, GSt, GIrq, Go}
-use Rattle.pef_model.specs.declared.entry.Exit.TheVariants as exit
+use Rattle.pef_model.specs.declared.command.Cmd.TheVariants.{HLd, HSt, HSelect, HEnter, UPate, UReturn, Go}
 use Rattle.pef_model.specs.declared.entry.Answer.{Answer}
-use Rattle.pef_model.specs.declared.entry.Answer.TheVariants.{Done, Val, Ret, Enter, Exit, Again, Gone, Hole, Context}
+use Rattle.pef_model.specs.declared.entry.Answer.TheVariants.{Ret, Enter}
 use Rattle.pef_model.specs.declared.state.Work.TheVariants.{Inward, Outward}
 use Rattle.pef_model.specs.Plan.{Plan}
 use Rattle.pef_model.specs.Event.{Event}
 use Rattle.pef_model.specs.Target.{target_in, is_guest, touches_guest, vcpu_in}
-use Rattle.pef_model.specs.Guest.{Guest, next_guest, registers_after_command, registers_in, entered_at}
+use Rattle.pef_model.specs.GuestPart.{ends_guest, part_of_write, part_of_hypervisor, part_in, ended_normal}
+use Rattle.pef_model.specs.Registers.{fresh_registers}
+use Rattle.pef_model.specs.Guest.{Guest, start_guest, next_guest, registers_after_command, registers_in, entered_at}
 use Rattle.pef_model.specs.History.{guest_after}
-use Rattle.pef_model.specs.StepLaw.{Steps, IsInterrupted, IsStepOf, TakesUp, registers_of, EachEntryLeavesRegisters}
-use Rattle.pef_model.proofs.Folds.{either_same, same_test, test_same}
-use Rattle.pef_model.proofs.Assigned.{gpr_in_hypervisor}
+use Rattle.pef_model.specs.StepLaw.{Steps, IsInterrupted, IsStepOf, TakesUp, KeepsRegisters, registers_of, EachEntryLeavesRegisters}
+use Rattle.pef_model.proofs.Folds.{either_same, same_test, test_same, counts}
+use Rattle.pef_model.proofs.Assigned.{ends_by, gpr_in_hypervisor}
 use Rattle.pef_model.proofs.Aims.{own_guest}
 use Rattle.pef_model.proofs.Outcomes.{Outcome, outcome}
+use Rattle.pef_model.proofs.Taken.{IsThereIn, there_is}
 
 -- a vCPU's registers after an entry, by the fields of the entry
 abbrev registers_by : Plan → Ctx → ℕ → ℕ → Cmd → Answer → Guest → ℕ → ℕ → Regs
@@ -38,25 +44,7 @@ registers_by_is plan past e lpid vid = by_test (touches_guest plan lpid e) where
 
 steps : (g : Guest) (regs : Regs) (run : Run) (cmd : Cmd) (a : Answer) (after : Ctx) (shown : List ℕ) → Outcome (ctx.Guest run) cmd a after shown →
     Steps g.part.phase cmd a regs (registers_after_command g regs cmd a)
-steps g regs run (HLd ra) Context after shown h = record { nip = refl; srr0 = λ other. refl }
-steps g regs run (HSt ra value) Context after shown h = record { nip = refl; srr0 = λ other. refl }
-steps g regs run (UPagein lpid src gpa flags order) (Ret code) after shown h = record { nip = refl; srr0 = λ other. refl }
-steps g regs run (UPageout lpid dest gpa flags order) (Ret code) after shown h = record { nip = refl; srr0 = λ other. refl }
-steps g regs run (UReturn r0 r2 outs) (Ret code) after shown h = record { nip = refl; srr0 = λ other. refl }
-steps g regs run (GLi rd value) Done after shown h = record { nip = refl; srr0 = λ other. refl }
-steps g regs run (GLd rd gpa) (Val value) after shown h = record { nip = refl; srr0 = λ other. refl }
-steps g regs run (GLd rd gpa) Hole after shown h = record { nip = refl; srr0 = λ other. refl }
-steps g regs run (GLd rd gpa) Again after shown h = record { nip = refl; srr0 = λ other. refl }
-steps g regs run (GSt rs gpa) Done after shown h = record { nip = refl; srr0 = λ other. refl }
-steps g regs run (GSt rs gpa) Hole after shown h = record { nip = refl; srr0 = λ other. refl }
-steps g regs run (GSt rs gpa) Again after shown h = record { nip = refl; srr0 = λ other. refl }
-steps g regs run GIrq (Exit exit.Irq) after shown h = record { nip = refl; srr0 = λ other. refl }
-steps g regs run Go Context after shown h = record { nip = refl; srr0 = λ other. refl }
-steps g regs run (HLd ra) a after shown h = absurd h
-steps g regs run (HSt ra value) a after shown h = absurd h
-steps g regs run Go a after shown h = absurd h
-steps g regs run cmd Gone after shown h = record { nip = refl; srr0 = λ other. refl }
-steps g regs run cmd a after shown h = absurd h
+steps g regs run cmd a after shown h = record { nip = grind (arith, common_steps); srr0 = λ other. grind (arith, common_steps) }
 
 -- a step that aims at its own guest leaves its vCPU these registers
 aimed_registers : (run : Run) (v : ℕ) (cmd : Cmd) (a : Answer) (g : Guest) (lpid vid : ℕ) → run.lpid ≡ lpid → run.vid ≡ vid →
@@ -71,12 +59,18 @@ own_registers : (plan : Plan) (run : Run) (l v : ℕ) (cmd : Cmd) (a : Answer) (
     registers_by plan (ctx.Guest run) l v cmd a g lpid vid ≡ registers_after_command g (g.registers vid) cmd a
 own_registers plan run l v (HLd ra) a g lpid vid here this = refl
 own_registers plan run l v (HSt ra value) a g lpid vid here this = refl
+own_registers plan run l v (HSelect named entered) a g lpid vid here this = refl
+own_registers plan run l v (HEnter named entered value) a g lpid vid here this = refl
 own_registers plan run l v Go a g lpid vid here this = refl
 own_registers plan run l v cmd a g lpid vid here this = aimed_registers run v cmd a g lpid vid here this
 
 taken_registers : (plan : Plan) (r0 r2 : ℕ) (outs : List ℕ) (g : Guest) (lpid vid : ℕ) →
     registers_by plan ctx.Hv lpid vid (UReturn r0 r2 outs) Enter g lpid vid ≡ entered_at (g.registers vid) r2
 taken_registers plan r0 r2 outs g lpid vid = rw (same_test lpid, same_test vid) refl
+
+-- one that ends a guest of the machine leaves each vCPU of it zero registers
+ended_registers : (plan : Plan) (l v : ℕ) (dw0 : ℕ) (g : Guest) (lpid vid : ℕ) → (nat_le 1 lpid && nat_le lpid plan.guests) ≡ true → registers_by plan ctx.Hv l v (UPate lpid dw0 0) (Ret USuccess) g lpid vid ≡ fresh_registers
+ended_registers plan l v dw0 g lpid vid there = rw (there, same_test lpid) refl
 
 is_interrupted : (regs : Regs) (r2 : ℕ) → IsInterrupted r2 regs (entered_at regs r2)
 is_interrupted regs r2 = record { nip = nip (r2 == 0); srr0 = srr0 (r2 == 0) } where
@@ -97,32 +91,44 @@ put_elsewhere true registers regs lpid vid v h = by_test (vid == v) refl where
   by_test true t = h t refl
   by_test false t = refl
 
--- an entry that neither runs a vCPU nor takes it up leaves its registers
-others_stay : (plan : Plan) (c : Ctx) (l v : ℕ) (cmd : Cmd) (a : Answer) (g : Guest) (lpid vid : ℕ) →
+-- a step of the hypervisor doesn't end this guest
+abbrev GoesOn : Plan → Ctx → ℕ → Cmd → Answer → ℕ → Type 0
+GoesOn plan ctx.Hv l cmd a lpid = is_guest lpid (target_in plan ctx.Hv l cmd) ≡ true → ends_by cmd a ≡ false
+GoesOn plan c l cmd a lpid = Unit {0}
+
+-- one that writes its partition entry leaves its registers
+unended : (b ends : Bool) (registers : ℕ → Regs) (vid : ℕ) → (b ≡ true → ends ≡ false) → (if b then (if ends then (λ n. fresh_registers) else registers) vid else registers vid) ≡ registers vid
+unended true ends registers vid goes_on = ap (λ (x : Bool). (if x then (λ n. fresh_registers) else registers) vid) (goes_on refl)
+unended false ends registers vid goes_on = refl
+
+-- an entry that neither runs a vCPU nor takes it up, and doesn't end the guest, leaves its registers
+others_stay : (plan : Plan) (c : Ctx) (l v : ℕ) (cmd : Cmd) (a : Answer) (g : Guest) (lpid vid : ℕ) → GoesOn plan c l cmd a lpid →
     ((run : Run) → c ≡ ctx.Guest run → run.lpid ≡ lpid → run.vid ≡ vid → ⊥) →
     ((r0 r2 : ℕ) (outs : List ℕ) → c ≡ ctx.Hv → cmd ≡ UReturn r0 r2 outs → a ≡ Enter → l ≡ lpid → v ≡ vid → ⊥) →
     registers_by plan c l v cmd a g lpid vid ≡ g.registers vid
-others_stay plan ctx.Hv l v (UReturn r0 r2 outs) Enter g lpid vid own taken =
+others_stay plan ctx.Hv l v (UReturn r0 r2 outs) Enter g lpid vid goes_on own taken =
     put_elsewhere (l == lpid) g.registers (entered_at (g.registers v) r2) lpid vid v
     (λ t u. absurd (taken r0 r2 outs refl refl refl (test_same l lpid u) (sym (test_same vid v t))))
-others_stay plan ctx.Hv l v cmd Enter g lpid vid own taken = either_same (is_guest lpid (target_in plan ctx.Hv l cmd)) (g.registers vid)
-others_stay plan ctx.Hv l v cmd a g lpid vid own taken = either_same (is_guest lpid (target_in plan ctx.Hv l cmd)) (g.registers vid)
-others_stay plan (ctx.Uv (Inward move)) l v cmd a g lpid vid own taken = either_same (is_guest lpid (target_in plan (ctx.Uv (Inward move)) l cmd)) (g.registers vid)
-others_stay plan (ctx.Uv (Outward move)) l v cmd a g lpid vid own taken = either_same (is_guest lpid (target_in plan (ctx.Uv (Outward move)) l cmd)) (g.registers vid)
-others_stay plan (ctx.Guest run) l v cmd a g lpid vid own taken =
+others_stay plan ctx.Hv l v cmd Enter g lpid vid goes_on own taken = either_same (is_guest lpid (target_in plan ctx.Hv l cmd)) (g.registers vid)
+others_stay plan ctx.Hv l v (UPate named dw0 dw1) (Ret code) g lpid vid goes_on own taken =
+    unended (is_guest lpid (target_in plan ctx.Hv l (UPate named dw0 dw1))) (ends_guest code dw1) g.registers vid goes_on
+others_stay plan ctx.Hv l v cmd a g lpid vid goes_on own taken = either_same (is_guest lpid (target_in plan ctx.Hv l cmd)) (g.registers vid)
+others_stay plan (ctx.Uv (Inward move)) l v cmd a g lpid vid goes_on own taken = either_same (is_guest lpid (target_in plan (ctx.Uv (Inward move)) l cmd)) (g.registers vid)
+others_stay plan (ctx.Uv (Outward move)) l v cmd a g lpid vid goes_on own taken = either_same (is_guest lpid (target_in plan (ctx.Uv (Outward move)) l cmd)) (g.registers vid)
+others_stay plan (ctx.Guest run) l v cmd a g lpid vid goes_on own taken =
     put_elsewhere (is_guest lpid (target_in plan (ctx.Guest run) l cmd)) g.registers (registers_after_command g (g.registers run.vid) cmd a) lpid vid run.vid
     (λ t u. absurd (own run refl (own_guest plan run l lpid cmd u) (sym (test_same vid run.vid t))))
 
-gpr_stays : (plan : Plan) (c : Ctx) (l v : ℕ) (cmd : Cmd) (a : Answer) (g : Guest) (lpid vid : ℕ) →
+gpr_stays : (plan : Plan) (c : Ctx) (l v : ℕ) (cmd : Cmd) (a : Answer) (g : Guest) (lpid vid : ℕ) → GoesOn plan c l cmd a lpid →
     ((run : Run) → c ≡ ctx.Guest run → run.lpid ≡ lpid → run.vid ≡ vid → ⊥) → (registers_by plan c l v cmd a g lpid vid).gpr ≡ (g.registers vid).gpr
-gpr_stays plan ctx.Hv l v cmd a g lpid vid own = by_test (is_guest lpid (target_in plan ctx.Hv l cmd)) where
-  by_test : (b : Bool) → (if b then registers_in ctx.Hv g v cmd a vid else g.registers vid).gpr ≡ (g.registers vid).gpr
-  by_test true = gpr_in_hypervisor g v a cmd vid
-  by_test false = refl
-gpr_stays plan (ctx.Uv work) l v cmd a g lpid vid own =
-    ap (λ (x : Regs). x.gpr) (others_stay plan (ctx.Uv work) l v cmd a g lpid vid own (λ r0 r2 outs h cmd_is answer_is here this. let no : ⊥ = cc in no))
-gpr_stays plan (ctx.Guest run) l v cmd a g lpid vid own =
-    ap (λ (x : Regs). x.gpr) (others_stay plan (ctx.Guest run) l v cmd a g lpid vid own (λ r0 r2 outs h cmd_is answer_is here this. let no : ⊥ = cc in no))
+gpr_stays plan ctx.Hv l v cmd a g lpid vid goes_on own = by_test (is_guest lpid (target_in plan ctx.Hv l cmd)) refl where
+  by_test : (b : Bool) → is_guest lpid (target_in plan ctx.Hv l cmd) ≡ b → (if b then registers_in ctx.Hv g v cmd a vid else g.registers vid).gpr ≡ (g.registers vid).gpr
+  by_test true t = gpr_in_hypervisor g v a cmd vid (goes_on t)
+  by_test false t = refl
+gpr_stays plan (ctx.Uv work) l v cmd a g lpid vid goes_on own =
+    ap (λ (x : Regs). x.gpr) (others_stay plan (ctx.Uv work) l v cmd a g lpid vid tt own (λ r0 r2 outs h cmd_is answer_is here this. let no : ⊥ = cc in no))
+gpr_stays plan (ctx.Guest run) l v cmd a g lpid vid goes_on own =
+    ap (λ (x : Regs). x.gpr) (others_stay plan (ctx.Guest run) l v cmd a g lpid vid tt own (λ r0 r2 outs h cmd_is answer_is here this. let no : ⊥ = cc in no))
 
 -- the hypervisor's calls alone are in progress
 pub runs_alone : (c : Ctx) (run : Run) → vcpu_in c ≡ Some run → c ≡ ctx.Guest run
@@ -130,6 +136,32 @@ runs_alone ctx.Hv run h = cc
 runs_alone (ctx.Uv (Inward move)) run h = cc
 runs_alone (ctx.Uv (Outward move)) run h = cc
 runs_alone (ctx.Guest other) run h = ap ctx.Guest (ap (λ (o : Option Run). unwrap_or o other) h)
+
+-- a guest that keeps its generation doesn't end
+goes_on_is : (plan : Plan) (past : List Event) (e : Event) (lpid : ℕ) → KeepsRegisters plan past e lpid → GoesOn plan e.saw.before e.saw.lpid e.trace.cmd e.trace.answer lpid
+goes_on_is plan past e lpid keeps = by_ctx e.saw.before refl where
+  g : Guest
+  g = guest_after plan lpid past
+
+  by_end : (cmd : Cmd) (a : Answer) → (part_of_hypervisor plan g.part e.saw.vid e.trace.cpu e.bytes a cmd).generation ≡ g.part.generation → ends_by cmd a ≡ false
+  by_end (UPate named dw0 dw1) (Ret code) same = by_code code same where
+    by_length : (b : Bool) → (if b then ended_normal (record g.part { entry = record { base = dw0; length_ = dw1 } }) else record g.part { entry = record { base = dw0; length_ = dw1 }; phase = Normal }).generation ≡ g.part.generation → b ≡ false
+    by_length true same = absurd (omega (arith, same))
+    by_length false same = refl
+
+    by_code : (code : Code) → (part_of_write g.part code dw0 dw1).generation ≡ g.part.generation → ends_guest code dw1 ≡ false
+    by_code USuccess same = by_length (dw1 == 0) same
+    by_code code same = refl
+  by_end cmd a same = refl
+
+  by_ctx : (c : Ctx) → e.saw.before ≡ c → GoesOn plan c e.saw.lpid e.trace.cmd e.trace.answer lpid
+  by_ctx ctx.Hv before = λ aims.
+      by_end e.trace.cmd e.trace.answer
+      (ap (λ (c : Ctx). (part_in plan g.part c e.trace.answer e.trace.cmd e.saw.pool e.saw.vid e.trace.cpu e.bytes).generation) (sym before)
+      ∙ ap (λ (x : Guest). x.part.generation) (sym (counts (touches_guest plan lpid) (next_guest plan) (start_guest plan lpid) e past (ap (λ (c : Ctx). is_guest lpid (target_in plan c e.saw.lpid e.trace.cmd)) before ∙ aims)))
+      ∙ keeps.generation)
+  by_ctx (ctx.Uv work) before = tt
+  by_ctx (ctx.Guest run) before = tt
 
 pub each_entry_leaves_registers : EachEntryLeavesRegisters
 each_entry_leaves_registers plan past e lpid vid extends =
@@ -152,11 +184,19 @@ each_entry_leaves_registers plan past e lpid vid extends =
           ∙ ap (λ (v : ℕ). registers_by plan ctx.Hv lpid v (UReturn r0 r2 outs) Enter g lpid vid) takes.vcpu_is
           ∙ taken_registers plan r0 r2 outs g lpid vid))
           (is_interrupted (registers vid) r2);
+      ended = λ dw0 before cmd_is answer_is.
+          let there : IsThereIn ctx.Hv plan (UPate lpid dw0 0) (Ret USuccess) =
+          subst (λ (a : Answer). IsThereIn ctx.Hv plan (UPate lpid dw0 0) a) answer_is
+          (subst (λ (cmd : Cmd). IsThereIn ctx.Hv plan cmd e.trace.answer) cmd_is (subst (λ (c : Ctx). IsThereIn c plan e.trace.cmd e.trace.answer) before (there_is plan past e extends))) in
+          is ∙ ap (λ (c : Ctx). registers_by plan c e.saw.lpid e.saw.vid e.trace.cmd e.trace.answer g lpid vid) before
+          ∙ ap (λ (cmd : Cmd). registers_by plan ctx.Hv e.saw.lpid e.saw.vid cmd e.trace.answer g lpid vid) cmd_is
+          ∙ ap (λ (a : Answer). registers_by plan ctx.Hv e.saw.lpid e.saw.vid (UPate lpid dw0 0) a g lpid vid) answer_is
+          ∙ ended_registers plan e.saw.lpid e.saw.vid dw0 g lpid vid (there refl);
       others = λ keeps own taken.
-          is ∙ others_stay plan e.saw.before e.saw.lpid e.saw.vid e.trace.cmd e.trace.answer g lpid vid
+          is ∙ others_stay plan e.saw.before e.saw.lpid e.saw.vid e.trace.cmd e.trace.answer g lpid vid (goes_on_is plan past e lpid keeps)
           (λ run before here this. own run (record { before = ap vcpu_in before; guest_is = here; vcpu_is = this }))
           (λ r0 r2 outs before cmd_is answer_is here this. taken r0 r2 outs (record { before = before; cmd_is = cmd_is; answer_is = answer_is; guest_is = here; vcpu_is = this }));
       gpr = λ keeps own taken.
-          ap (λ (x : Regs). x.gpr) is ∙ gpr_stays plan e.saw.before e.saw.lpid e.saw.vid e.trace.cmd e.trace.answer g lpid vid
+          ap (λ (x : Regs). x.gpr) is ∙ gpr_stays plan e.saw.before e.saw.lpid e.saw.vid e.trace.cmd e.trace.answer g lpid vid (goes_on_is plan past e lpid keeps)
           (λ run before here this. own run (record { before = ap vcpu_in before; guest_is = here; vcpu_is = this }));
     }

@@ -253,3 +253,18 @@ module _ (ctxs : ℕ → Ctx) (hands : ℕ → List ℕ) (pages : ℕ → ℕ �
 
     g : ℕ
     g = (move_of work).gfn
+
+  -- a guest of which no page moves has another generation, in which no call in progress names a page of it
+  pub moved_renewed : (l generation : ℕ) → ((gfn : ℕ) → (pages l gfn).mover ≡ None) → ((n : ℕ) (work : Work) → ctxs n ≡ ctx.Uv work → (move_of work).lpid ≡ l → (move_of work).generation ≡ generation → ⊥) →
+      AreMoved ctxs hands pages (put generations l generation)
+  moved_renewed l generation rest none = record {
+    moves = λ n work is same. elim (cases_eq (move_of work).lpid l) [
+      | inl here ↦ absurd (none n work is here (same ∙ ap (put generations l generation) here ∙ put-here generations l generation))
+      | inr other ↦ h.moves n work is (same ∙ put-other generations l generation (move_of work).lpid other)
+    ];
+    moved = λ lpid gfn mover is. elim (cases_eq lpid l) [
+      | inl here ↦ let rests : None ≡ Some mover = sym (ap (λ (x : ℕ). (pages x gfn).mover) here ∙ rest gfn) ∙ is in cc
+      | inr other ↦ subst (HasCall (ctxs mover.cpu) mover.way lpid gfn) (sym (put-other generations l generation lpid other)) (h.moved lpid gfn mover is)
+    ];
+    keeps = h.keeps;
+  }

@@ -4,20 +4,21 @@ use Rattle.pef_model.specs.declared.state.Work.TheVariants.{Inward, Outward}
 use Rattle.pef_model.specs.declared.state.Ctx.{Ctx}
 use Rattle.pef_model.specs.declared.state.Ctx.TheVariants as ctx
 use Rattle.pef_model.specs.declared.command.Cmd.{Cmd}
-use Rattle.pef_model.specs.declared.command.Cmd.TheVariants.{GSt, HSt, UPagein, UPageout, UReturn, Go}
+use Rattle.pef_model.specs.declared.command.Cmd.TheVariants.{GSt, HSt, HEnter, UPagein, UPageout, UReturn, Go}
 use Rattle.pef_model.specs.declared.entry.Answer.{Answer}
 use Rattle.pef_model.specs.declared.entry.Answer.TheVariants.{Done, Step, Enter}
 use Rattle.pef_model.specs.declared.entry.PoolSaw.{PoolSaw}
 use Rattle.pef_model.specs.Plan.{Plan}
 use Rattle.pef_model.specs.Event.{Event}
-use Rattle.pef_model.specs.Target.{touches_cpu, touches_guest, touches_pool, touches_frame, is_sealing, takes_bytes, is_copying}
+use Rattle.pef_model.specs.Target.{touches_cpu, touches_guest, touches_pool, touches_frame, is_sealing, takes_bytes}
 use Rattle.pef_model.specs.Cpu.{CpuPart, start_cpu, next_cpu, cpu_in, cpu_by}
 use Rattle.pef_model.specs.GuestPart.{GuestPart, part_in, page_of, next_part, with_running_vcpu, with_page_coming, with_page_leaving}
 use Rattle.pef_model.specs.Clash.{clashes, clashes_in, ends_in_clash}
 use Rattle.pef_model.specs.Guest.{Guest, start_guest, next_guest, next_registers, registers_of_hypervisor, registers_in, stored_by, stored_in}
-use Rattle.pef_model.specs.Memory.{start_pool, next_pool, pool_with, start_frame, next_frame, after_writes, writes_of, writes_in, write_in}
-use Rattle.pef_model.specs.ReadLaw.{EachOwnEntriesDecide, AgreeForCpu, AgreeForGuest, AgreeForFrame, IsReturn, GivesCpu, TheseFieldsDecide, tells_guest}
+use Rattle.pef_model.specs.Memory.{start_pool, next_pool, pool_with, start_frame, next_frame, after_writes, writes_of, writes_in, write_in, offset_by}
+use Rattle.pef_model.specs.ReadLaw.{EachOwnEntriesDecide, AgreeForCpu, AgreeForGuest, AgreeForFrame, IsReturn, GivesCpu, TheseFieldsDecide, tells_guest, tells_frame}
 use Rattle.pef_model.proofs.Folds.{value_after-filter}
+use Rattle.pef_model.proofs.OwnWrites.{own_entries_write}
 use Rattle.std.specs.Prelude.{unwrap_or}
 
 pub own_entries_decide : EachOwnEntriesDecide
@@ -29,6 +30,7 @@ own_entries_decide plan past =
       pool = value_after-filter touches_pool next_pool (start_pool plan) past;
       frame = λ n. value_after-filter (touches_frame n) (next_frame plan n) (start_frame plan) past;
       store = λ lpid gpa. ap (λ (g : Guest). g.content gpa) (guest lpid);
+      norm = λ ra. own_entries_write plan ra past;
       register = λ lpid vid r. ap (λ (g : Guest). slice_index (g.registers vid).gpr r) (guest lpid);
     }
 
@@ -58,6 +60,7 @@ part_by_reads plan g ctx.Hv Step (UPageout lpid dest gpa flags order) pool v w m
     ap (λ (cpu : ℕ). with_page_leaving g (page_of plan gpa) cpu x) (k tt) ∙ ap (with_page_leaving g (page_of plan gpa) n) (l refl)
 part_by_reads plan g ctx.Hv Enter (UReturn r0 r2 outs) pool v w m n x y h k l =
     ap (λ (vid : ℕ). with_running_vcpu g vid m) (h tt) ∙ ap (with_running_vcpu g w) (k tt)
+part_by_reads plan g ctx.Hv Enter (HEnter lpid named value) pool v w m n x y h k l = ap (with_running_vcpu g named) (k tt)
 part_by_reads plan g c a cmd pool v w m n x y h k l = refl
 
 -- a page-out that begins tells the guest its bytes
@@ -104,12 +107,13 @@ guest_agrees plan e f g h =
     (λ gpa. stored_reads plan g e.saw.before e.trace.cmd e.trace.answer e.saw.frame e.bytes f.bytes gpa h.bytes ∙ λ i. stored_in (h.before i) plan g (h.cmd i) (h.answer i) (h.frame i) f.bytes gpa) in
     (λ i. record g { part = part i; content = λ gpa. unwrap_or (stored gpa i) (g.content gpa); registers = registers i; clean = g.clean && not (clash i) })
 
--- the bytes count for a normal frame where a page is copied
-frame_reads : (shift : ℕ) (c : Ctx) (cmd : Cmd) (a : Answer) (x y : List ℕ) (frame : Option ℕ) → (is_copying c cmd a ≡ true → x ≡ y) → writes_in shift c cmd a x frame ≡ writes_in shift c cmd a y frame
+-- the bytes count for a normal frame where they tell it something
+frame_reads : (shift : ℕ) (c : Ctx) (cmd : Cmd) (a : Answer) (x y : List ℕ) (frame : Option ℕ) → (tells_frame c cmd a ≡ true → x ≡ y) → writes_in shift c cmd a x frame ≡ writes_in shift c cmd a y frame
 frame_reads shift c cmd a x y None h = refl
 frame_reads shift c cmd a x y (Some n) h = by_ctx c cmd a h where
-  by_ctx : (c : Ctx) (cmd : Cmd) (a : Answer) → (is_copying c cmd a ≡ true → x ≡ y) → write_in shift c cmd a x n ≡ write_in shift c cmd a y n
+  by_ctx : (c : Ctx) (cmd : Cmd) (a : Answer) → (tells_frame c cmd a ≡ true → x ≡ y) → write_in shift c cmd a x n ≡ write_in shift c cmd a y n
   by_ctx (ctx.Uv (Outward move)) Go Step h = ap (λ (bytes : List ℕ). record { frame = n; offset = 0; bytes = bytes } ∷ []) (h refl)
+  by_ctx (ctx.Guest run) (GSt rs gpa) Done h = ap (λ (bytes : List ℕ). record { frame = n; offset = offset_by shift gpa; bytes = bytes } ∷ []) (h refl)
   by_ctx ctx.Hv (HSt ra value) Done h = refl
   by_ctx c cmd a h = refl
 

@@ -9,14 +9,13 @@ use Rattle.pef_model.specs.declared.state.Work.TheVariants.{Inward, Outward}
 use Rattle.pef_model.specs.declared.state.Ctx.{Ctx}
 use Rattle.pef_model.specs.declared.state.Ctx.TheVariants as ctx
 use Rattle.pef_model.specs.declared.command.Cmd.{Cmd}
-use Rattle.pef_model.specs.declared.command.Cmd.TheVariants.{HSt, Go}
-use Rattle.pef_model.specs.declared.entry.Answer.{Answer}
-use Rattle.pef_model.specs.declared.entry.Answer.TheVariants.{Done, Step}
+use Rattle.pef_model.specs.declared.command.Cmd.TheVariants.{HSt}
+use Rattle.pef_model.specs.declared.entry.Answer.TheVariants.{Done}
 use Rattle.pef_model.specs.Commands.{IsCommand}
 use Rattle.pef_model.specs.Plan.{Plan, plan_of, IsInRange}
 use Rattle.pef_model.specs.Event.{Event}
 use Rattle.pef_model.specs.Doubleword.{doubleword, with_doubleword}
-use Rattle.pef_model.specs.Target.{frame_of, has_real_place, target_in, is_guest, is_number, touches_guest, touches_frame}
+use Rattle.pef_model.specs.Target.{frame_of, target_in, is_guest, is_number, touches_guest, touches_frame}
 use Rattle.pef_model.specs.Memory.{offset_of, write_in, writes_in, after_writes, overwritten, next_frame, start_frame, Write, either_of, writes_of, covers, written_at}
 use Rattle.pef_model.specs.Guest.{start_guest, next_guest}
 use Rattle.pef_model.specs.History.{frame_after, last_norm, IsLegal}
@@ -26,8 +25,9 @@ use Rattle.pef_model.proofs.Written.{doubleword_overwrites, frame_written}
 use Rattle.pef_model.proofs.Folds.{test_same, same_test, skips}
 use Rattle.pef_model.proofs.Aims.{address_is_no_guest}
 use Rattle.pef_model.proofs.Doublewords.{doubleword-put, doubleword-zeros, overwritten_inside, overwritten_outside, length-overwritten}
-use Rattle.pef_model.proofs.Places.{room_at, offset_aligned, doublewords_of}
-use Rattle.pef_model.proofs.Placed.{store_is_placed, copy_is_placed, aligned}
+use Rattle.pef_model.proofs.Places.{room_at, offset_aligned}
+use Rattle.pef_model.proofs.Placed.{store_is_placed, aligned}
+use Rattle.pef_model.proofs.Whole.{IsWhole, all_whole}
 use Rattle.pef_model.proofs.Hands.{all_fill}
 
 -- a step changes no normal frame but the one that it tells
@@ -58,14 +58,8 @@ pub record Holds (plan : Plan) (bytes : List ℕ) (ra value : ℕ) : Type 0 wher
   pub size : length bytes ≡ 2 ^ plan.shift
   pub value_is : doubleword bytes (offset_of plan ra) ≡ value
 
--- a write lies within a frame, and is made of doublewords
-pub record IsWhole (plan : Plan) (write : Write) : Type 0 where
-  pub offset : write.offset % 8 ≡ 0
-  pub size : length write.bytes % 8 ≡ 0
-  pub room : write.offset + length write.bytes ≤ 2 ^ plan.shift
-
 -- what one write leaves at an address of its frame
-write_holds : (plan : Plan) (bytes : List ℕ) (ra old : ℕ) (write : Write) → 8 ≤ plan.shift → has_real_place plan ra ≡ true → IsWhole plan write → Holds plan bytes ra old →
+write_holds : (plan : Plan) (bytes : List ℕ) (ra old : ℕ) (write : Write) → 8 ≤ plan.shift → ra % 8 ≡ 0 → IsWhole plan write → Holds plan bytes ra old →
     Holds plan (if write.frame == frame_of plan ra then overwritten bytes write.offset write.bytes else bytes) ra
     (unwrap_or (if covers plan write ra then Some (doubleword write.bytes (offset_of plan ra - write.offset)) else None) old)
 write_holds plan bytes ra old write least here whole holds = by_frame (write.frame == frame_of plan ra) where
@@ -73,7 +67,7 @@ write_holds plan bytes ra old write least here whole holds = by_frame (write.fra
   off = offset_of plan ra
 
   at_eight : off % 8 ≡ 0
-  at_eight = offset_aligned plan.shift ra least (aligned plan ra here)
+  at_eight = offset_aligned plan.shift ra least here
 
   fits : write.offset + length write.bytes ≤ length bytes
   fits = let size = holds.size in let room = whole.room in omega arith
@@ -108,7 +102,7 @@ either_or (Some v) y old = refl
 either_or None y old = refl
 
 -- what writes leave there, one after another
-writes_hold : (plan : Plan) (ra : ℕ) (writes : List Write) (bytes : List ℕ) (old : ℕ) → 8 ≤ plan.shift → has_real_place plan ra ≡ true → AllByRecursion (IsWhole plan) writes → Holds plan bytes ra old →
+writes_hold : (plan : Plan) (ra : ℕ) (writes : List Write) (bytes : List ℕ) (old : ℕ) → 8 ≤ plan.shift → ra % 8 ≡ 0 → AllByRecursion (IsWhole plan) writes → Holds plan bytes ra old →
     Holds plan (after_writes (frame_of plan ra) bytes writes) ra (unwrap_or (written_at plan ra writes) old)
 writes_hold plan ra [] bytes old least here whole holds = holds
 writes_hold plan ra (write ∷ more) bytes old least here whole holds =
@@ -116,35 +110,12 @@ writes_hold plan ra (write ∷ more) bytes old least here whole holds =
     subst (λ (v : ℕ). Holds plan (after_writes (frame_of plan ra) bytes (write ∷ more)) ra v) (sym (either_or (written_at plan ra more) value old))
     (writes_hold plan ra more (if write.frame == frame_of plan ra then overwritten bytes write.offset write.bytes else bytes) (unwrap_or value old) least here whole.1 (write_holds plan bytes ra old write least here whole.0 holds))
 
--- a page is some number of doublewords
-page_is_whole : (shift : ℕ) → 8 ≤ shift → 2 ^ shift % 8 ≡ 0
-page_is_whole shift least = let size = doublewords_of shift least in omega arith
-
--- each write of an entry that extends a history is so
-module _ (config : Config) (past : List Event) (e : Event) (range : IsInRange config) (legal : IsLegal (plan_of config) (e ∷ past)) where
-  abbrev plan : Plan
-  plan = plan_of config
-
-  write_whole : (c : Ctx) (cmd : Cmd) (a : Answer) (n : ℕ) → e.saw.before ≡ c → e.trace.cmd ≡ cmd → e.trace.answer ≡ a → AllByRecursion (IsWhole plan) (write_in plan.shift c cmd a e.bytes n)
-  write_whole ctx.Hv (HSt at value) Done n before cmd_is answer_is =
-      let placed = store_is_placed plan past e at value legal.0 before cmd_is answer_is in
-      let eight = aligned plan at placed.place in
-      (record { offset = offset_aligned plan.shift at range.shift.0 eight; size = refl; room = room_at plan.shift at range.shift.0 eight }, tt)
-  write_whole (ctx.Uv (Outward move)) Go Step n before cmd_is answer_is =
-      let copied = copy_is_placed plan past e move legal.0 before cmd_is answer_is in
-      let fill = all_fill config past range legal.1 in
-      let long : length e.bytes ≡ 2 ^ plan.shift = ap length copied.bytes ∙ fill.hands e.trace.cpu in
-      (record { offset = refl; size = ap (λ (m : ℕ). m % 8) long ∙ page_is_whole plan.shift range.shift.0; room = omega (arith, long) }, tt)
-  write_whole c cmd a n before cmd_is answer_is = tt
-
-  pub all_whole : AllByRecursion (IsWhole plan) (writes_of plan e)
-  all_whole = by_frame e.saw.frame where
-    by_frame : (frame : Option ℕ) → AllByRecursion (IsWhole plan) (writes_in plan.shift e.saw.before e.trace.cmd e.trace.answer e.bytes frame)
-    by_frame None = tt
-    by_frame (Some n) = write_whole e.saw.before e.trace.cmd e.trace.answer n refl refl refl
+-- each write of a legal history is made of doublewords within a frame
+written_whole : (config : Config) (past : List Event) (e : Event) → IsInRange config → IsLegal (plan_of config) (e ∷ past) → AllByRecursion (IsWhole (plan_of config)) (writes_of (plan_of config) e)
+written_whole config past e range legal = let fill = all_fill config past range legal.1 in all_whole (plan_of config) past e range.shift.0 legal.0 (fill.hands e.trace.cpu)
 
 -- so the frames hold what was last written
-pub frame_holds : (config : Config) (past : List Event) (ra : ℕ) → IsInRange config → IsLegal (plan_of config) past → has_real_place (plan_of config) ra ≡ true →
+pub frame_holds : (config : Config) (past : List Event) (ra : ℕ) → IsInRange config → IsLegal (plan_of config) past → ra % 8 ≡ 0 →
     Holds (plan_of config) (frame_after (plan_of config) (frame_of (plan_of config) ra) past) ra (last_norm (plan_of config) past ra)
 frame_holds config [] ra range legal here = record {
   size = length-replicate (2 ^ config.shift) 0;
@@ -154,11 +125,11 @@ frame_holds config (e ∷ past) ra range legal here =
     let plan : Plan = plan_of config in
     let n : ℕ = frame_of plan ra in
     subst (λ (bytes : List ℕ). Holds plan bytes ra (last_norm plan (e ∷ past) ra)) (sym (frame_written plan e past n))
-    (writes_hold plan ra (writes_of plan e) (frame_after plan n past) (last_norm plan past ra) range.shift.0 here (all_whole config past e range legal) (frame_holds config past ra range legal.1 here))
+    (writes_hold plan ra (writes_of plan e) (frame_after plan n past) (last_norm plan past ra) range.shift.0 here (written_whole config past e range legal) (frame_holds config past ra range legal.1 here))
 
 -- the doubleword at an address is the one last written there
 pub frames_hold_last_norm : FramesHoldLastNorm
-frames_hold_last_norm config past ra range legal placed = let holds = frame_holds config past ra range legal placed in holds.value_is
+frames_hold_last_norm config past ra range legal placed = let holds = frame_holds config past ra range legal (aligned (plan_of config) ra placed) in holds.value_is
 
 -- after a store it is the value that was stored
 pub store_is_last_norm : StoreIsLastNorm
@@ -169,7 +140,7 @@ store_is_last_norm config past e ra value range legal before cmd_is answer_is =
     let old : List ℕ = frame_after plan n past in
     let command : IsCommand (HSt ra value) = subst IsCommand cmd_is legal.0.command in
     let placed = store_is_placed plan past e ra value legal.0 before cmd_is answer_is in
-    let now = frame_holds config past ra range legal.1 placed.place in
+    let now = frame_holds config past ra range legal.1 (aligned plan ra placed.place) in
     let fits : off + 8 ≤ length old = let room = room_at plan.shift ra range.shift.0 (aligned plan ra placed.place) in let size = now.size in omega arith in
     let writes : writes_of plan e ≡ write_in plan.shift ctx.Hv (HSt ra value) Done e.bytes n = (λ i. writes_in plan.shift (before i) (cmd_is i) (answer_is i) e.bytes (placed.frame i)) in
     let written : frame_after plan n (e ∷ past) ≡ with_doubleword old off value =

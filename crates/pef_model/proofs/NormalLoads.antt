@@ -13,13 +13,9 @@ use Rattle.pef_model.specs.Target.{Ask, Alone, AtFrame, frame_of, has_real_place
 use Rattle.pef_model.specs.Cpu.{CpuPart}
 use Rattle.pef_model.specs.History.{cpu_after, deed_after, ask_of, last_norm, IsLegal}
 use Rattle.pef_model.specs.Doubleword.{doubleword}
+use Rattle.pef_model.specs.ToldLaw.{value_in}
 use Rattle.pef_model.specs.NormalLaw.{LoadGivesLastNorm}
 use Rattle.pef_model.proofs.Normal.{frames_hold_last_norm}
-
--- the value of an answer
-value_in : Answer → ℕ
-value_in (Val value) = value
-value_in a = 0
 
 module _ (config : Config) (past : List Event) (e : Event) (ra value : ℕ) (range : IsInRange config) (legal : IsLegal (plan_of config) (e ∷ past)) (before : e.saw.before ≡ ctx.Hv) (cmd_is : e.trace.cmd ≡ HLd ra) (answer_is : e.trace.answer ≡ Val value) where
   abbrev plan : Plan
@@ -43,7 +39,7 @@ module _ (config : Config) (past : List Event) (e : Event) (ra value : ℕ) (ran
 
   -- which has a value only where the address has its frame
   by : (b : Bool) → has_real_place plan ra ≡ b → deed_answer b ≡ Val value → value ≡ last_norm plan past ra
-  unfolding value_in doubleword
+  unfolding doubleword
   by true there k = sym (ap value_in k) ∙ frames_hold_last_norm config past ra range legal.1 there
   by false none k = cc
 

@@ -13,8 +13,9 @@ use Rattle.pef_model.specs.History.{cpu_after, IsLegal, part_after}
 use Rattle.pef_model.proofs.Folds.{same_test}
 use Rattle.pef_model.proofs.Times.{times, times-append, times_passed, times_stopped}
 use Rattle.pef_model.proofs.Puts.{put-here, put-other}
-use Rattle.pef_model.proofs.Changes.{Change, Quiet, Begins, Copies, Ends, Drops, Comes, Reads, Accepts, Refuses, Takes, Parked, Gone, Backs, KeepsParts, PutsPart}
+use Rattle.pef_model.proofs.Changes.{Change, Quiet, Begins, Copies, Ends, Drops, Comes, Reads, Accepts, Refuses, Takes, Parked, Gone, Backs, Writes, Selected, KeepsParts, PutsPart, entry_gives}
 use Rattle.pef_model.proofs.ChangeOf.{change}
+use Rattle.pef_model.proofs.Fields.{holds_same, holds_one}
 use Rattle.pef_model.proofs.Paging.{pages, AllMoved, all_moved}
 
 -- an Invalid page isn't Secure
@@ -67,14 +68,11 @@ CountsAll plan past = (lpid gfn : ℕ) → CountsPage gfn (part_after plan past 
 
 -- where no part changes
 counts_same : (plan : Plan) (past : List Event) (e : Event) → KeepsParts plan past e → CountsAll plan past → CountsAll plan (e ∷ past)
-counts_same plan past e parts h lpid gfn = subst (CountsPage gfn) (sym (parts lpid)) (h lpid gfn)
+counts_same plan past e parts h lpid gfn = holds_same plan past e (CountsPage gfn) parts (λ l. h l gfn) lpid
 
 -- where one part changes
 counts_one : (plan : Plan) (past : List Event) (e : Event) (l : ℕ) (new : GuestPart) → PutsPart plan past e l new → ((gfn : ℕ) → CountsPage gfn new) → CountsAll plan past → CountsAll plan (e ∷ past)
-counts_one plan past e l new parts counted h lpid gfn = subst (CountsPage gfn) (sym (parts lpid)) (elim (cases_eq lpid l) [
-  | inl same ↦ subst (CountsPage gfn) (sym (ap (put (part_after plan past) l new) same ∙ put-here (part_after plan past) l new)) (counted gfn)
-  | inr other ↦ subst (CountsPage gfn) (sym (put-other (part_after plan past) l new lpid other)) (h lpid gfn)
-])
+counts_one plan past e l new parts counted h lpid gfn = holds_one plan past e (CountsPage gfn) l new parts (counted gfn) (λ n. h n gfn) lpid
 
 -- a page that moves inward isn't Secure
 pub out_not_secure : (page : Page) → page.kind ≡ kind.Out → is_secure page ≡ false
@@ -99,11 +97,14 @@ counts_by plan past e all h (Accepts x) =
 counts_by plan past e all h (Refuses x) =
     let g : GuestPart = part_after plan past x.move.lpid in
     counts_one plan past e _ _ x.parts (counts_put g x.move.gfn (refused_in (g.pages x.move.gfn)) g.order (h x.move.lpid) (λ gfn other. refl) (h x.move.lpid x.move.gfn)) h
-counts_by plan past e all h (Takes x) = counts_one plan past e _ _ x.parts (h (cpu_after plan e.trace.cpu past).lpid) h
+counts_by plan past e all h (Takes x) = counts_one plan past e _ _ x.parts (h x.lpid) h
 counts_by plan past e all h (Parked x) = counts_one plan past e _ _ x.parts (h x.run.lpid) h
 counts_by plan past e all h (Gone x) = counts_same plan past e x.parts h
 counts_by plan past e all h (Backs x) =
     counts_one plan past e _ _ x.parts (counts_behind (part_after plan past x.run.lpid) x.gfn (invalid_not_secure (pages plan past x.run.lpid x.gfn) x.invalid) (h x.run.lpid)) h
+counts_by plan past e all h (Writes x) =
+    counts_one plan past e _ _ x.parts (entry_gives (λ (g : GuestPart). (gfn : ℕ) → CountsPage gfn g) (part_after plan past x.lpid) x.base x.length_ (h x.lpid) (h x.lpid)) h
+counts_by plan past e all h (Selected x) = counts_same plan past e x.parts h
 
 -- so an order has each Secure page once after a legal history
 pub order_has_secure_pages : (plan : Plan) (past : List Event) (lpid gfn : ℕ) → IsLegal plan past → CountsPage gfn (part_after plan past lpid)

@@ -1,5 +1,7 @@
 -- What each step's answer tells of the rest of its entry.
-use Rattle.std.proofs.Common.{◌≡◌, ℕ, List, [], ◌∷◌, Bool, true, false, refl, sym, subst, ◌==◌, ◌&&◌, if◌then◌else◌, nat_le, nat_lt, Option, Some, None, slice_index}
+use Rattle.std.proofs.Common.{◌≡◌, ℕ, List, [], ◌∷◌, Bool, true, false, refl, sym, subst, ◌==◌, ◌&&◌, if◌then◌else◌, nat_le, nat_lt, Option, Some, None, slice_index, arith}
+use Rattle.std.proofs.lemmas.Grind.{common_steps}
+use Rattle.pef_model.specs.declared.state.Phase.{Phase}
 use Rattle.pef_model.specs.declared.state.Run.{Run}
 use Rattle.pef_model.specs.declared.state.Move.{Move}
 use Rattle.pef_model.specs.declared.state.Work.{Work}
@@ -9,19 +11,19 @@ use Rattle.pef_model.specs.declared.state.Ctx.TheVariants as ctx
 use Rattle.pef_model.specs.declared.command.Code.{Code}
 use Rattle.pef_model.specs.declared.command.Code.TheVariants.{USuccess, UParameter, UInvalid}
 use Rattle.pef_model.specs.declared.command.Cmd.{Cmd}
-use Rattle.pef_model.specs.declared.command.Cmd.TheVariants.{HLd, HSt, UPagein, UPageout, UReturn, GLi, GLd, GSt, GIrq, Go}
-use Rattle.pef_model.specs.declared.entry.Exit.TheVariants as exit
+use Rattle.pef_model.specs.declared.command.Cmd.TheVariants.{HLd, HSt, HSelect, HEnter, UPate, UPagein, UPageout, UReturn, GLi, GLd, GSt, GIrq, Go}
 use Rattle.pef_model.specs.declared.entry.Answer.{Answer}
 use Rattle.pef_model.specs.declared.entry.Answer.TheVariants.{Done, Val, Ret, Step, Enter, Exit, Again, Gone, Hole, Context}
 use Rattle.pef_model.specs.Memory.{offset_of}
 use Rattle.pef_model.specs.Plan.{Plan}
 use Rattle.pef_model.specs.Event.{Event, Mark, mark_of}
 use Rattle.pef_model.specs.Target.{Ask, Alone, AtGuest, AtFrame, frame_of, has_real_place, target_in}
-use Rattle.pef_model.specs.GuestPart.{GuestPart, Meeting, Moves, Private, Unbacked, meets}
+use Rattle.pef_model.specs.GuestPart.{GuestPart, Meeting, Moves, Private, Normal, Unbacked, meets}
 use Rattle.pef_model.specs.Guest.{Guest}
 use Rattle.pef_model.specs.PageOut.{page_out_code}
 use Rattle.pef_model.specs.PageIn.{page_in_operands, is_last_sealed}
-use Rattle.pef_model.specs.Deed.{Deed, answering, giving, coming_back, returning, may_return_in, is_waiting, deed_page_out_begin, deed_page_in_with, deed_page_in_test, deed_return, deed_access, deed_running, deed_gone}
+use Rattle.pef_model.specs.Entry.{enter_code}
+use Rattle.pef_model.specs.Deed.{Deed, answering, deed_alone, giving, coming_back, returning, may_return_in, is_waiting, deed_page_out_begin, deed_page_in_with, deed_page_in_test, deed_return, deed_access, deed_through, deed_interrupt, deed_running, deed_gone}
 use Rattle.pef_model.specs.History.{cpu_after, guest_after, pool_after, deed_after, ask_of, next_entry, Extends, found_after}
 use Rattle.pef_model.proofs.Works.{with_copy}
 
@@ -35,7 +37,7 @@ abbrev pub BeginsIn : ℕ → Ctx → Type 0
 BeginsIn lpid (ctx.Uv (Inward move)) = (move.lpid ≡ lpid) × (move.copied ≡ false)
 BeginsIn lpid other = ⊥
 
--- the answers that a step can give, each with the context after it and the values that it lets out
+-- the answers that a step can give, each with the context after it, and where no vCPU runs that it lets nothing out
 abbrev pub Outcome : Ctx → Cmd → Answer → Ctx → List ℕ → Type 0
 Outcome ctx.Hv (HLd ra) (Val value) after shown = (after ≡ ctx.Hv) × (shown ≡ [])
 Outcome ctx.Hv (HLd ra) Hole after shown = (after ≡ ctx.Hv) × (shown ≡ [])
@@ -43,6 +45,14 @@ Outcome ctx.Hv (HLd ra) a after shown = ⊥
 Outcome ctx.Hv (HSt ra value) Done after shown = (after ≡ ctx.Hv) × (shown ≡ [])
 Outcome ctx.Hv (HSt ra value) Hole after shown = (after ≡ ctx.Hv) × (shown ≡ [])
 Outcome ctx.Hv (HSt ra value) a after shown = ⊥
+Outcome ctx.Hv (HSelect lpid vid) Done after shown = (after ≡ ctx.Hv) × (shown ≡ [])
+Outcome ctx.Hv (HSelect lpid vid) (Ret code) after shown = (after ≡ ctx.Hv) × (shown ≡ [])
+Outcome ctx.Hv (HSelect lpid vid) a after shown = ⊥
+Outcome ctx.Hv (HEnter lpid vid value) Enter after shown = shown ≡ []
+Outcome ctx.Hv (HEnter lpid vid value) (Ret code) after shown = (after ≡ ctx.Hv) × (shown ≡ [])
+Outcome ctx.Hv (HEnter lpid vid value) a after shown = ⊥
+Outcome ctx.Hv (UPate lpid dw0 dw1) (Ret code) after shown = (after ≡ ctx.Hv) × (shown ≡ [])
+Outcome ctx.Hv (UPate lpid dw0 dw1) a after shown = ⊥
 Outcome ctx.Hv (UPagein lpid src gpa flags order) Step after shown = BeginsIn lpid after × (shown ≡ [])
 Outcome ctx.Hv (UPagein lpid src gpa flags order) (Ret code) after shown = (after ≡ ctx.Hv) × (shown ≡ [])
 Outcome ctx.Hv (UPagein lpid src gpa flags order) a after shown = ⊥
@@ -59,44 +69,54 @@ Outcome (ctx.Uv work) Go (Ret code) after shown = (after ≡ ctx.Hv) × (shown �
 Outcome (ctx.Uv work) Go a after shown = ⊥
 Outcome (ctx.Uv work) cmd Context after shown = (after ≡ ctx.Uv work) × (shown ≡ [])
 Outcome (ctx.Uv work) cmd a after shown = ⊥
-Outcome (ctx.Guest run) (HLd ra) Context after shown = (after ≡ ctx.Guest run) × (shown ≡ [])
+Outcome (ctx.Guest run) (HLd ra) Context after shown = after ≡ ctx.Guest run
 Outcome (ctx.Guest run) (HLd ra) a after shown = ⊥
-Outcome (ctx.Guest run) (HSt ra value) Context after shown = (after ≡ ctx.Guest run) × (shown ≡ [])
+Outcome (ctx.Guest run) (HSt ra value) Context after shown = after ≡ ctx.Guest run
 Outcome (ctx.Guest run) (HSt ra value) a after shown = ⊥
-Outcome (ctx.Guest run) Go Context after shown = (after ≡ ctx.Guest run) × (shown ≡ [])
+Outcome (ctx.Guest run) (HSelect lpid vid) Context after shown = after ≡ ctx.Guest run
+Outcome (ctx.Guest run) (HSelect lpid vid) a after shown = ⊥
+Outcome (ctx.Guest run) (HEnter lpid vid value) Context after shown = after ≡ ctx.Guest run
+Outcome (ctx.Guest run) (HEnter lpid vid value) a after shown = ⊥
+Outcome (ctx.Guest run) Go Context after shown = after ≡ ctx.Guest run
 Outcome (ctx.Guest run) Go a after shown = ⊥
-Outcome (ctx.Guest run) cmd Gone after shown = (after ≡ ctx.Hv) × (shown ≡ [])
-Outcome (ctx.Guest run) (UPagein lpid src gpa flags order) (Ret code) after shown = (after ≡ ctx.Guest run) × (shown ≡ lpid ∷ src ∷ gpa ∷ flags ∷ order ∷ [])
-Outcome (ctx.Guest run) (UPageout lpid dest gpa flags order) (Ret code) after shown = (after ≡ ctx.Guest run) × (shown ≡ lpid ∷ dest ∷ gpa ∷ flags ∷ order ∷ [])
-Outcome (ctx.Guest run) (UReturn r0 r2 outs) (Ret code) after shown = (after ≡ ctx.Guest run) × (shown ≡ r0 ∷ r2 ∷ outs)
-Outcome (ctx.Guest run) (GLi rd value) Done after shown = (after ≡ ctx.Guest run) × (shown ≡ [])
-Outcome (ctx.Guest run) (GLd rd gpa) (Val value) after shown = (after ≡ ctx.Guest run) × (shown ≡ [])
-Outcome (ctx.Guest run) (GLd rd gpa) Hole after shown = (after ≡ ctx.Guest run) × (shown ≡ [])
-Outcome (ctx.Guest run) (GLd rd gpa) Again after shown = (after ≡ ctx.Guest run) × (shown ≡ [])
-Outcome (ctx.Guest run) (GSt rs gpa) Done after shown = (after ≡ ctx.Guest run) × (shown ≡ [])
-Outcome (ctx.Guest run) (GSt rs gpa) Hole after shown = (after ≡ ctx.Guest run) × (shown ≡ [])
-Outcome (ctx.Guest run) (GSt rs gpa) Again after shown = (after ≡ ctx.Guest run) × (shown ≡ [])
-Outcome (ctx.Guest run) GIrq (Exit exit.Irq) after shown = (after ≡ ctx.Hv) × (shown ≡ [])
+Outcome (ctx.Guest run) cmd Gone after shown = after ≡ ctx.Hv
+Outcome (ctx.Guest run) (UPate lpid dw0 dw1) (Ret code) after shown = after ≡ ctx.Guest run
+Outcome (ctx.Guest run) (UPagein lpid src gpa flags order) (Ret code) after shown = after ≡ ctx.Guest run
+Outcome (ctx.Guest run) (UPageout lpid dest gpa flags order) (Ret code) after shown = after ≡ ctx.Guest run
+Outcome (ctx.Guest run) (UReturn r0 r2 outs) (Ret code) after shown = after ≡ ctx.Guest run
+Outcome (ctx.Guest run) (GLi rd value) Done after shown = after ≡ ctx.Guest run
+Outcome (ctx.Guest run) (GLd rd gpa) (Val value) after shown = after ≡ ctx.Guest run
+Outcome (ctx.Guest run) (GLd rd gpa) Hole after shown = after ≡ ctx.Guest run
+Outcome (ctx.Guest run) (GLd rd gpa) Again after shown = after ≡ ctx.Guest run
+Outcome (ctx.Guest run) (GSt rs gpa) Done after shown = after ≡ ctx.Guest run
+Outcome (ctx.Guest run) (GSt rs gpa) Hole after shown = after ≡ ctx.Guest run
+Outcome (ctx.Guest run) (GSt rs gpa) Again after shown = after ≡ ctx.Guest run
+Outcome (ctx.Guest run) GIrq (Exit exit) after shown = after ≡ ctx.Hv
 Outcome (ctx.Guest run) cmd a after shown = ⊥
 
 -- the deed of a step has such an outcome
 abbrev Comes : Ctx → Cmd → Deed → Type 0
 Comes c cmd deed = Outcome c cmd deed.answer deed.after deed.shown
 
-access_comes : (run : Run) (ask : Ask) (cmd : Cmd) (success : Answer) (through : ℕ → Answer) (out : List ℕ) (any : Bool) (m : Meeting) → ask.before ≡ ctx.Guest run → Comes (ctx.Guest run) cmd (answering ask success) →
-    Comes (ctx.Guest run) cmd (answering ask Hole) → Comes (ctx.Guest run) cmd (answering ask Again) → Comes (ctx.Guest run) cmd (deed_access ask success through out any m)
-access_comes run ask cmd success through out true Unbacked h done hole again = done
-access_comes run ask cmd success through out false Unbacked h done hole again = hole
-access_comes run ask cmd success through out any Private h done hole again = done
-access_comes run ask cmd success through out any Moves h done hole again = again
-access_comes run ask cmd success through out any m h done hole again = hole
+access_comes : (run : Run) (ask : Ask) (cmd : Cmd) (success : Answer) (through : ℕ → Answer) (out : List ℕ) (any : Bool) (m : Meeting) → Comes (ctx.Guest run) cmd (answering ask success) →
+    ((n : ℕ) → Comes (ctx.Guest run) cmd (deed_through ask (through n) out n)) → Comes (ctx.Guest run) cmd (answering ask Hole) → Comes (ctx.Guest run) cmd (answering ask Again) →
+    Comes (ctx.Guest run) cmd (deed_access ask success through out any m)
+access_comes run ask cmd success through out true Unbacked done written hole again = done
+access_comes run ask cmd success through out false Unbacked done written hole again = hole
+access_comes run ask cmd success through out any Private done written hole again = done
+access_comes run ask cmd success through out any Moves done written hole again = again
+access_comes run ask cmd success through out any (Normal n) done written hole again = written n
+access_comes run ask cmd success through out any m done written hole again = hole
+
+interrupt_comes : (run : Run) (ask : Ask) (p : Phase) (gpr : List ℕ) → Comes (ctx.Guest run) GIrq (deed_interrupt p gpr ask)
+interrupt_comes run ask p gpr = grind (arith, common_steps)
 
 running_comes : (plan : Plan) (g : Guest) (found : ℕ → ℕ → ℕ) (any : Bool) (run : Run) (ask : Ask) (cmd : Cmd) → ask.before ≡ ctx.Guest run →
     Comes (ctx.Guest run) cmd (deed_running plan run g found any ask cmd)
-running_comes plan g found any run ask (GLd rd gpa) h = access_comes run ask (GLd rd gpa) (Val (g.content gpa)) (λ n. Val (found n (offset_of plan gpa))) [] any (meets plan g.part gpa) h (h, refl) (h, refl) (h, refl)
-running_comes plan g found any run ask (GSt rs gpa) h = access_comes run ask (GSt rs gpa) Done (λ n. Done) (slice_index (g.registers run.vid).gpr rs ∷ []) any (meets plan g.part gpa) h (h, refl) (h, refl) (h, refl)
-running_comes plan g found any run ask GIrq h = (refl, refl)
-running_comes plan g found any run ask cmd h = (h, refl)
+running_comes plan g found any run ask (GLd rd gpa) h = access_comes run ask (GLd rd gpa) (Val (g.content gpa)) (λ n. Val (found n (offset_of plan gpa))) [] any (meets plan g.part gpa) h (λ n. h) h h
+running_comes plan g found any run ask (GSt rs gpa) h = access_comes run ask (GSt rs gpa) Done (λ n. Done) (slice_index (g.registers run.vid).gpr rs ∷ []) any (meets plan g.part gpa) h (λ n. h) h h
+running_comes plan g found any run ask GIrq h = interrupt_comes run ask g.part.phase (g.registers run.vid).gpr
+running_comes plan g found any run ask cmd h = h
 
 return_comes : (g : GuestPart) (asked : Ask) (r0 r2 : ℕ) (outs : List ℕ) → Comes ctx.Hv (UReturn r0 r2 outs) (deed_return g (record asked { before = ctx.Hv }))
 return_comes g asked r0 r2 outs = by_test (may_return_in g.phase && is_waiting (g.vcpus asked.vid).state) where
@@ -200,10 +220,40 @@ normal_store_comes : (plan : Plan) (past : List Event) (asked : Ask) (ra value :
 normal_store_comes plan past asked ra value true = (refl, refl)
 normal_store_comes plan past asked ra value false = (refl, refl)
 
-deed_comes : (plan : Plan) (past : List Event) (c : Ctx) (asked : Ask) (cmd : Cmd) →
+-- a selection, whatever it names
+select_comes : (plan : Plan) (asked : Ask) (lpid vid : ℕ) → Comes ctx.Hv (HSelect lpid vid) (deed_alone plan (record asked { before = ctx.Hv }) (HSelect lpid vid))
+select_comes plan asked lpid vid = grind (arith, common_steps)
+
+-- the entry of a vCPU in normal memory, whether it names a guest or not
+enter_comes : (plan : Plan) (past : List Event) (asked : Ask) (lpid vid value : ℕ) (b : Bool) →
+    Comes ctx.Hv (HEnter lpid vid value) (deed_after plan past (record asked { before = ctx.Hv }) (HEnter lpid vid value) (if b then AtGuest lpid else Alone))
+enter_comes plan past asked lpid vid value false = (refl, refl)
+enter_comes plan past asked lpid vid value true = by_code (enter_code plan (guest_after plan lpid past).part vid) where
+  ask : Ask
+  ask = record asked { before = ctx.Hv }
+
+  g : GuestPart
+  g = (guest_after plan lpid past).part
+
+  by_code : (code : Option Code) → Comes ctx.Hv (HEnter lpid vid value)
+      (returning ask code (record (answering ask Enter) { after = ctx.Guest (record { lpid = lpid; vid = vid; generation = g.generation }) }))
+  by_code None = refl
+  by_code (Some code) = (refl, refl)
+
+-- a partition entry that is written likewise
+write_comes : (plan : Plan) (past : List Event) (asked : Ask) (lpid dw0 dw1 : ℕ) (b : Bool) →
+    Comes ctx.Hv (UPate lpid dw0 dw1) (deed_after plan past (record asked { before = ctx.Hv }) (UPate lpid dw0 dw1) (if b then AtGuest lpid else Alone))
+write_comes plan past asked lpid dw0 dw1 false = (refl, refl)
+write_comes plan past asked lpid dw0 dw1 true = (refl, refl)
+
+-- a step's deed has such an outcome
+pub deed_comes : (plan : Plan) (past : List Event) (c : Ctx) (asked : Ask) (cmd : Cmd) →
     Comes c cmd (deed_after plan past (record asked { before = c }) cmd (target_in plan c asked.lpid cmd))
 deed_comes plan past ctx.Hv asked (HLd ra) = normal_load_comes plan past asked ra (has_real_place plan ra)
 deed_comes plan past ctx.Hv asked (HSt ra value) = normal_store_comes plan past asked ra value (has_real_place plan ra)
+deed_comes plan past ctx.Hv asked (HSelect lpid vid) = select_comes plan asked lpid vid
+deed_comes plan past ctx.Hv asked (HEnter lpid vid value) = enter_comes plan past asked lpid vid value (nat_le 1 lpid && nat_le lpid plan.guests)
+deed_comes plan past ctx.Hv asked (UPate lpid dw0 dw1) = write_comes plan past asked lpid dw0 dw1 (nat_le 1 lpid && nat_le lpid plan.guests)
 deed_comes plan past ctx.Hv asked (UPagein lpid src gpa flags order) = page_in_comes plan past asked lpid src gpa flags order (nat_le 1 lpid && nat_le lpid plan.guests)
 deed_comes plan past ctx.Hv asked (UPageout lpid dest gpa flags order) = page_out_comes plan past asked lpid dest gpa flags order (nat_le 1 lpid && nat_le lpid plan.guests)
 deed_comes plan past ctx.Hv asked (UReturn r0 r2 outs) = return_comes (guest_after plan asked.lpid past).part asked r0 r2 outs
@@ -212,10 +262,12 @@ deed_comes plan past (ctx.Uv (Inward move)) asked Go = inward_comes plan past as
 deed_comes plan past (ctx.Uv (Inward move)) asked cmd = (refl, refl)
 deed_comes plan past (ctx.Uv (Outward move)) asked Go = outward_comes plan past asked move move.copied
 deed_comes plan past (ctx.Uv (Outward move)) asked cmd = (refl, refl)
-deed_comes plan past (ctx.Guest run) asked (HLd ra) = (refl, refl)
-deed_comes plan past (ctx.Guest run) asked (HSt ra value) = (refl, refl)
-deed_comes plan past (ctx.Guest run) asked Go = (refl, refl)
-deed_comes plan past (ctx.Guest run) asked cmd = guest_comes plan past run asked cmd (λ ask. (refl, refl))
+deed_comes plan past (ctx.Guest run) asked (HLd ra) = refl
+deed_comes plan past (ctx.Guest run) asked (HSt ra value) = refl
+deed_comes plan past (ctx.Guest run) asked (HSelect lpid vid) = refl
+deed_comes plan past (ctx.Guest run) asked (HEnter lpid vid value) = refl
+deed_comes plan past (ctx.Guest run) asked Go = refl
+deed_comes plan past (ctx.Guest run) asked cmd = guest_comes plan past run asked cmd (λ ask. refl)
 
 -- the entry that a step adds to a history has such an outcome
 pub next_outcome : (plan : Plan) (past : List Event) (mark : Mark) (cmd : Cmd) →

@@ -22,10 +22,10 @@ use Rattle.pef_model.specs.CauseLaw.{IsRightIn, IsRightOut, PageInFinds, PageOut
 use Rattle.pef_model.proofs.Folds.{same_test, test_same}
 
 -- a number is within limits where the tests of it hold
-within_test : (n m : ℕ) → (nat_le 1 n && nat_le n m) ≡ true → IsWithin 1 m n
+pub within_test : (n m : ℕ) → (nat_le 1 n && nat_le n m) ≡ true → IsWithin 1 m n
 within_test n m h = (grind (arith, nat_tests, common_steps), grind (arith, nat_tests, common_steps))
 
-test_within : (n m : ℕ) → IsWithin 1 m n → (nat_le 1 n && nat_le n m) ≡ true
+pub test_within : (n m : ℕ) → IsWithin 1 m n → (nat_le 1 n && nat_le n m) ≡ true
 test_within n m h = let low : 1 ≤ n = h.0 in let high : n ≤ m = h.1 in grind (arith, nat_tests, common_steps)
 
 not_below : (m n : ℕ) → nat_lt m n ≡ false → n ≤ m

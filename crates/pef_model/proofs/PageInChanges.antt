@@ -35,6 +35,7 @@ out_kind p (kind.Shared frame fresh) comes = cc
 -- what UV_PAGE_IN begins to move: a page of the guest that is Out at rest
 record MayComeIn (plan : Plan) (g : GuestPart) (gfn : ℕ) : Type 0 where
   placed : gfn < plan.pages
+  allowed : may_page_in_in g.phase ≡ true
   kind_is : (g.pages gfn).kind ≡ kind.Out
   at_rest : (g.pages gfn).mover ≡ None
 
@@ -51,10 +52,10 @@ page_comes plan g src gpa flags order h =
     let comes = and_parts (has_page plan gpa) (can_come_in g.phase page.kind) (not-false (has_page plan gpa && can_come_in g.phase page.kind) pages.0) in
     let place = and_parts _ (nat_lt (page_of plan gpa) plan.pages) comes.0 in
     let below : nat_lt (page_of plan gpa) plan.pages ≡ true = place.1 in
-    record { placed = grind (arith, nat_tests); kind_is = out_kind g.phase page.kind comes.1; at_rest = no_mover page.mover busy.0 }
+    record { placed = grind (arith, nat_tests); allowed = not-false (may_page_in_in g.phase) phases.0; kind_is = out_kind g.phase page.kind comes.1; at_rest = no_mover page.mover busy.0 }
 
 -- a call that aims at the guest that it names names one of the machine
-numbered : (plan : Plan) (lpid : ℕ) (b : Bool) → (nat_le 1 lpid && nat_le lpid plan.guests) ≡ b → (if b then AtGuest lpid else Alone) ≡ AtGuest lpid → IsWithin 1 plan.guests lpid
+pub numbered : (plan : Plan) (lpid : ℕ) (b : Bool) → (nat_le 1 lpid && nat_le lpid plan.guests) ≡ b → (if b then AtGuest lpid else Alone) ≡ AtGuest lpid → IsWithin 1 plan.guests lpid
 numbered plan lpid true t aims = let parts = and_parts (nat_le 1 lpid) (nat_le lpid plan.guests) t in (grind (arith, nat_tests), grind (arith, nat_tests))
 numbered plan lpid false t aims = cc
 
@@ -82,6 +83,7 @@ module _ (plan : Plan) (past : List Event) (cpu : CpuPart) (mark : Mark) where
           kind_is = comes.kind_is;
           at_rest = comes.at_rest;
           placed = comes.placed;
+          allowed = comes.allowed;
           number = numbered plan lpid (nat_le 1 lpid && nat_le lpid plan.guests) refl target;
           cpu_is = record { ctx_is = refl; hand_is = refl; lpid_is = refl };
           parts = at_guest plan past (entry cpu ctx.Hv mark (UPagein lpid src gpa flags order) (deed None true)) lpid (with_page_coming g (page_of plan gpa) mark.cpu) target refl;

@@ -1,6 +1,8 @@
 -- In a legal history the calls in progress and the pages on the move are each other's.
-use Rattle.std.proofs.Common.{◌≡◌, ◌∙◌, ℕ, List, [], ◌∷◌, refl, ap, subst, None, is_some}
+use Rattle.std.proofs.Common.{◌≡◌, ◌∙◌, ℕ, ◌+◌, ◌≤◌, List, [], ◌∷◌, true, false, refl, ap, sym, subst, None, is_some, arith}
 use Rattle.std.specs.Prelude.{option_map}
+use Rattle.pef_model.specs.declared.state.Phase.{Phase}
+use Rattle.pef_model.specs.declared.state.Phase.TheVariants as phase
 use Rattle.pef_model.specs.declared.state.Way.{Way}
 use Rattle.pef_model.specs.declared.state.Way.TheVariants as way
 use Rattle.pef_model.specs.declared.state.Mover.{Mover}
@@ -9,18 +11,25 @@ use Rattle.pef_model.specs.declared.state.Work.TheVariants.{Inward, Outward}
 use Rattle.pef_model.specs.declared.state.Ctx.{Ctx}
 use Rattle.pef_model.specs.declared.state.Ctx.TheVariants as ctx
 use Rattle.pef_model.specs.declared.state.Move.{Move}
-use Rattle.pef_model.specs.declared.state.Kind.TheVariants.{Out}
+use Rattle.pef_model.specs.declared.state.Kind.{Kind}
+use Rattle.pef_model.specs.declared.state.Kind.TheVariants.{Invalid, Secure, Out, Shared}
 use Rattle.pef_model.specs.Plan.{Plan}
 use Rattle.pef_model.specs.Event.{Event}
-use Rattle.pef_model.specs.GuestPart.{Page, GuestPart, put, secured, begun_out, ended_out, begun_in, refused_in}
+use Rattle.pef_model.specs.GuestPart.{Page, GuestPart, put, is_invalid, secured, begun_out, ended_out, begun_in, refused_in}
+use Rattle.pef_model.specs.Entry.{may_write_in}
+use Rattle.pef_model.specs.PageIn.{may_page_in_in}
 use Rattle.pef_model.specs.History.{cpu_after, IsLegal, part_after}
 use Rattle.pef_model.specs.MoveLaw.{KeepsWhatIsSealed, EachCpuMovesItsPage, EachCpuMovesItsPageIn, EachMoverHasItsCall, EachPageKeepsWhatIsSealed}
+use Rattle.pef_model.specs.CountLaw.{EachNormalGuestIsPlain}
 use Rattle.pef_model.specs.Target.{work_by}
-use Rattle.pef_model.proofs.Fields.{ctxs, hands, ctxs_after, hands_after, same_ctxs, same_hands, field_after, same_field, kept_field}
-use Rattle.pef_model.proofs.Changes.{Change, Quiet, Begins, Copies, Ends, Drops, Comes, Reads, Accepts, Refuses, Takes, Parked, Gone, Backs, KeepsParts, PutsPart}
+use Rattle.pef_model.proofs.Fields.{ctxs, hands, ctxs_after, hands_after, same_ctxs, same_hands, field_after, same_field, kept_field, entry_field, holds_same, holds_one}
+use Rattle.pef_model.proofs.Changes.{Change, Quiet, Begins, Copies, Ends, Drops, Comes, Reads, Accepts, Refuses, Takes, Parked, Gone, Backs, Writes, Selected, KeepsParts, PutsPart, may_run_in, is_backed_in, entry_gives}
 use Rattle.pef_model.proofs.ChangeOf.{change}
 use Rattle.pef_model.proofs.Works.{way_of, move_of}
-use Rattle.pef_model.proofs.Moving.{AreMoved, IsMoving, moved_on, moved_copied, moved_dropped, moved_backed, moved_begun, moved_ended}
+use Rattle.pef_model.proofs.Moving.{AreMoved, IsMoving, moved_on, moved_copied, moved_dropped, moved_backed, moved_begun, moved_ended, moved_renewed}
+use Rattle.pef_model.proofs.Puts.{put-same}
+use Rattle.pef_model.proofs.Reached.{Reached, all_reached}
+use Rattle.pef_model.proofs.Running.{all_run, runs_in}
 
 -- the pages of the guests
 abbrev pub pages : Plan → List Event → ℕ → ℕ → Page
@@ -66,7 +75,34 @@ keeps_refused : (page : Page) (n : ℕ) (hand : List ℕ) → IsMoving way.Inwar
 keeps_refused page n hand moving old =
     record { sealed = old.sealed; pending = ((λ k. let none = old.pending.0 k in let inward = ap (option_map (λ (x : Mover). x.way)) moving.mover in cc), (λ k. cc)) }
 
-module _ (plan : Plan) (past : List Event) (e : Event) (all : AllMoved plan past) where
+-- a guest that isn't to be secure, nor was, has Invalid pages at rest alone
+abbrev IsPlain : GuestPart → Type 0
+IsPlain g = may_write_in g.phase ≡ true → (gfn : ℕ) → (is_invalid (g.pages gfn) ≡ true) × ((g.pages gfn).mover ≡ None)
+
+-- each guest is such
+abbrev pub AllPlain : Plan → List Event → Type 0
+AllPlain plan past = (lpid : ℕ) → IsPlain (part_after plan past lpid)
+
+-- a guest of which a page may go out or come in isn't such
+secure_not_plain : (p : Phase) → p ≡ phase.Secure → may_write_in p ≡ true → ⊥
+secure_not_plain p secure plain = let none : false ≡ true = ap may_write_in (sym secure) ∙ plain in cc
+
+in_not_plain : (p : Phase) → may_page_in_in p ≡ true → may_write_in p ≡ true → ⊥
+in_not_plain phase.Absent may plain = cc
+in_not_plain phase.Normal may plain = cc
+in_not_plain phase.Starting may plain = cc
+in_not_plain phase.Secure may plain = cc
+in_not_plain phase.Aborting may plain = cc
+
+-- nor is one that runs and backs a page
+backed_not_plain : (p : Phase) → may_run_in p ≡ true → is_backed_in p ≡ true → may_write_in p ≡ true → ⊥
+backed_not_plain phase.Absent runs backed plain = cc
+backed_not_plain phase.Normal runs backed plain = cc
+backed_not_plain phase.Starting runs backed plain = cc
+backed_not_plain phase.Secure runs backed plain = cc
+backed_not_plain phase.Aborting runs backed plain = cc
+
+module _ (plan : Plan) (past : List Event) (e : Event) (legal : IsLegal plan past) (all : AllMoved plan past) (plain : AllPlain plan past) where
   -- where no part changes
   no_parts : {c : ℕ → Ctx} {h : ℕ → List ℕ} → c ≡ ctxs plan (e ∷ past) → h ≡ hands plan (e ∷ past) → KeepsParts plan past e → AreMoved c h (pages plan past) (generations plan past) → AllMoved plan (e ∷ past)
   no_parts one two parts = carry one two (kept_field plan past e (λ (g : GuestPart). g.pages) parts) (kept_field plan past e (λ (g : GuestPart). g.generation) parts)
@@ -119,15 +155,62 @@ module _ (plan : Plan) (past : List Event) (e : Event) (all : AllMoved plan past
   moved_by (Backs x) =
       one_page _ _ (same_ctxs plan past e _ _ x.cpu_is) (same_hands plan past e _ _ x.cpu_is) x.parts refl
       (moved_backed _ _ _ _ m all x.run.lpid x.gfn (secured (pages plan past x.run.lpid x.gfn)) x.at_rest refl (keeps_secured (pages plan past x.run.lpid x.gfn)))
+  moved_by (Writes x) =
+      let g : GuestPart = part_after plan past x.lpid in
+      let rest : (gfn : ℕ) → (pages plan past x.lpid gfn).mover ≡ None = (λ gfn. let page = plain x.lpid x.allowed gfn in page.1) in
+      let reached : (n : ℕ) (work : Work) → ctxs plan past n ≡ ctx.Uv work → (move_of work).lpid ≡ x.lpid → (move_of work).generation ≤ g.generation =
+      (λ n work is here. subst (λ (l : ℕ). (move_of work).generation ≤ generations plan past l) here (subst (Reached (generations plan past)) is (all_reached plan past legal n))) in
+      carry (same_ctxs plan past e _ _ x.cpu_is) (same_hands plan past e _ _ x.cpu_is) (entry_field plan past e (λ (p : GuestPart). p.pages) x.lpid x.base x.length_ x.parts refl refl)
+      (field_after plan past e (λ (p : GuestPart). p.generation) _ _ x.parts)
+      (entry_gives (λ (p : GuestPart). AreMoved (ctxs plan past) (hands plan past) (pages plan past) (put (generations plan past) x.lpid p.generation)) g x.base x.length_
+      (carry refl refl refl (λ i n. sym (put-same (generations plan past) x.lpid n) i) all)
+      (moved_renewed _ _ _ _ m all x.lpid (g.generation + 1) rest (λ n work is here now. let low = reached n work is here in omega arith)))
+  moved_by (Selected x) = no_parts (same_ctxs plan past e _ _ x.cpu_is) (same_hands plan past e _ _ x.cpu_is) x.parts all
+
+  -- a page that moves in its guest's generation is none of a guest that isn't to be secure
+  no_call : (work : Work) → (cpu_after plan m past).ctx ≡ ctx.Uv work → (move_of work).generation ≡ generations plan past (move_of work).lpid → may_write_in (part_after plan past (move_of work).lpid).phase ≡ true → ⊥
+  no_call work before lives may =
+      let moving = all.moves m work before lives in
+      let page = plain (move_of work).lpid may (move_of work).gfn in
+      let none = sym moving.mover ∙ page.1 in cc
+
+  -- so each guest that isn't stays so
+  plain_by : Change plan past (cpu_after plan m past) e → AllPlain plan (e ∷ past)
+  plain_by (Quiet x) = holds_same plan past e IsPlain x.parts plain
+  plain_by (Begins x) = holds_one plan past e IsPlain _ _ x.parts (λ may. absurd (secure_not_plain _ x.secure may)) plain
+  plain_by (Copies x) = holds_same plan past e IsPlain x.parts plain
+  plain_by (Ends x) = holds_one plan past e IsPlain _ _ x.parts (λ may. absurd (no_call (Outward x.move) x.before x.generation may)) plain
+  plain_by (Drops x) = holds_same plan past e IsPlain x.parts plain
+  plain_by (Comes x) = holds_one plan past e IsPlain _ _ x.parts (λ may. absurd (in_not_plain _ x.allowed may)) plain
+  plain_by (Reads x) = holds_same plan past e IsPlain x.parts plain
+  plain_by (Accepts x) = holds_one plan past e IsPlain _ _ x.parts (λ may. absurd (no_call (Inward x.move) x.before x.generation may)) plain
+  plain_by (Refuses x) = holds_one plan past e IsPlain _ _ x.parts (λ may. absurd (no_call (Inward x.move) x.before x.generation may)) plain
+  plain_by (Takes x) = holds_one plan past e IsPlain _ _ x.parts (plain x.lpid) plain
+  plain_by (Parked x) = holds_one plan past e IsPlain _ _ x.parts (plain x.run.lpid) plain
+  plain_by (Gone x) = holds_same plan past e IsPlain x.parts plain
+  plain_by (Backs x) = holds_one plan past e IsPlain _ _ x.parts (λ may. absurd (backed_not_plain _ (runs_in plan past (all_run plan past legal) m x.run x.before x.generation) x.backed may)) plain
+  plain_by (Writes x) = holds_one plan past e IsPlain _ _ x.parts (entry_gives IsPlain (part_after plan past x.lpid) x.base x.length_ (λ may. plain x.lpid x.allowed) (λ may. plain x.lpid x.allowed)) plain
+  plain_by (Selected x) = holds_same plan past e IsPlain x.parts plain
 
 -- so it is after a legal history
+all_kept : (plan : Plan) (past : List Event) → IsLegal plan past → AllMoved plan past × AllPlain plan past
+all_kept plan [] legal = (
+  record {
+    moves = λ n work is same. cc;
+    moved = λ lpid gfn mover is. cc;
+    keeps = λ lpid gfn. record { sealed = ((λ k. cc), (λ k. cc)); pending = ((λ k. cc), (λ k. cc)) };
+  },
+  λ lpid may gfn. (refl, refl),
+)
+all_kept plan (e ∷ past) legal =
+    let kept = all_kept plan past legal.1 in
+    (moved_by plan past e legal.1 kept.0 kept.1 (change plan past e legal.0), plain_by plan past e legal.1 kept.0 kept.1 (change plan past e legal.0))
+
 pub all_moved : (plan : Plan) (past : List Event) → IsLegal plan past → AllMoved plan past
-all_moved plan [] legal = record {
-  moves = λ n work is same. cc;
-  moved = λ lpid gfn mover is. cc;
-  keeps = λ lpid gfn. record { sealed = ((λ k. cc), (λ k. cc)); pending = ((λ k. cc), (λ k. cc)) };
-}
-all_moved plan (e ∷ past) legal = moved_by plan past e (all_moved plan past legal.1) (change plan past e legal.0)
+all_moved plan past legal = let kept = all_kept plan past legal in kept.0
+
+pub all_plain : (plan : Plan) (past : List Event) → IsLegal plan past → AllPlain plan past
+all_plain plan past legal = let kept = all_kept plan past legal in kept.1
 
 -- a page-out in progress moves the page that it names
 pub each_cpu_moves_its_page : EachCpuMovesItsPage
@@ -174,3 +257,17 @@ each_mover_has_its_call plan past lpid gfn mover legal is =
 -- a page has sealed bytes where it is Out, and pending ones where it moves outward
 pub each_page_keeps_what_is_sealed : EachPageKeepsWhatIsSealed
 each_page_keeps_what_is_sealed plan past lpid gfn legal = let all = all_moved plan past legal in all.keeps lpid gfn
+
+-- an Invalid page has this kind
+invalid_kind : (page : Page) → is_invalid page ≡ true → page.kind ≡ Invalid
+invalid_kind page h = by_kind page.kind h where
+  by_kind : (k : Kind) → is_invalid (record page { kind = k }) ≡ true → k ≡ Invalid
+  by_kind Invalid h = refl
+  by_kind Secure h = cc
+  by_kind Out h = cc
+  by_kind (Shared frame fresh) h = cc
+
+pub each_normal_guest_is_plain : EachNormalGuestIsPlain
+each_normal_guest_is_plain plan past lpid gfn legal may =
+    let page = all_plain plan past legal lpid may gfn in
+    record { kind = invalid_kind (pages plan past lpid gfn) page.0; mover = page.1 }

@@ -7,7 +7,7 @@ use Rattle.pef_model.specs.declared.state.Ctx.{Ctx}
 use Rattle.pef_model.specs.declared.state.Ctx.TheVariants as ctx
 use Rattle.pef_model.specs.declared.command.Code.TheVariants.{USuccess, UParameter}
 use Rattle.pef_model.specs.declared.command.Cmd.{Cmd}
-use Rattle.pef_model.specs.declared.command.Cmd.TheVariants.{HLd, HSt, Go}
+use Rattle.pef_model.specs.declared.command.Cmd.TheVariants.{HSt, Go}
 use Rattle.pef_model.specs.declared.entry.Answer.TheVariants.{Done, Step}
 use Rattle.pef_model.specs.Plan.{Plan}
 use Rattle.pef_model.specs.Event.{Event}
@@ -22,12 +22,9 @@ pub record IsPlaced (plan : Plan) (e : Event) (at : ℕ) : Type 0 where
   pub place : has_real_place plan at ≡ true
   pub frame : e.saw.frame ≡ Some (frame_of plan at)
 
--- a command that aims at nothing isn't done
-alone_not_done : (plan : Plan) (c : Ctx) (cmd : Cmd) → answer_alone plan c cmd ≡ Done → ⊥
-alone_not_done plan ctx.Hv (HLd ra) h = cc
-alone_not_done plan ctx.Hv cmd h = cc
-alone_not_done plan (ctx.Uv work) cmd h = cc
-alone_not_done plan (ctx.Guest run) cmd h = cc
+-- a store that aims at nothing isn't done
+alone_not_done : (plan : Plan) (at value : ℕ) → answer_alone plan ctx.Hv (HSt at value) ≡ Done → ⊥
+alone_not_done plan at value h = cc
 
 -- by what a store does, in a frame or not
 pub store_is_placed : (plan : Plan) (past : List Event) (e : Event) (at value : ℕ) → Extends plan past e → e.saw.before ≡ ctx.Hv → e.trace.cmd ≡ HSt at value →
@@ -52,7 +49,7 @@ store_is_placed plan past e at value extends before cmd done_is = by_place (has_
     place = t;
     frame = ap (λ (x : Event). x.saw.frame) extends.is ∙ ap (λ (d : Deed). d.frame) same ∙ ap (λ (b : Bool). (deed b).frame) t;
   }
-  by_place false t = absurd (alone_not_done plan ctx.Hv (HSt at value) (
+  by_place false t = absurd (alone_not_done plan at value (
       sym (ap (λ (x : Event). x.trace.answer) extends.is ∙ ap (λ (d : Deed). d.answer) same ∙ ap (λ (b : Bool). (deed b).answer) t) ∙ done_is))
 
 -- an address with a place is a multiple of 8

@@ -9,11 +9,15 @@ doublewords_of shift least =
     let split : shift ≡ (shift - 3) + 3 = omega arith in
     ap (λ (n : ℕ). 2 ^ n) split ∙ pow-add 2 (shift - 3) 3
 
+-- an address is as far above a multiple of 8 as its offset
+pub offset_eighth : (shift gpa : ℕ) → 8 ≤ shift → gpa % 2 ^ shift % 8 ≡ gpa % 8
+offset_eighth shift gpa least =
+    let split : shift ≡ (shift - 3) + 3 = omega arith in
+    ap (λ (n : ℕ). gpa % 2 ^ n % 8) split ∙ mod-mod-pow gpa (shift - 3) 3
+
 -- the offset of a doubleword's address is a multiple of 8 too
 pub offset_aligned : (shift gpa : ℕ) → 8 ≤ shift → gpa % 8 ≡ 0 → gpa % 2 ^ shift % 8 ≡ 0
-offset_aligned shift gpa least aligned =
-    let split : shift ≡ (shift - 3) + 3 = omega arith in
-    ap (λ (n : ℕ). gpa % 2 ^ n % 8) split ∙ mod-mod-pow gpa (shift - 3) 3 ∙ aligned
+offset_aligned shift gpa least aligned = offset_eighth shift gpa least ∙ aligned
 
 -- a doubleword lies within its page
 pub room_at : (shift gpa : ℕ) → 8 ≤ shift → gpa % 8 ≡ 0 → gpa % 2 ^ shift + 8 ≤ 2 ^ shift

@@ -10,7 +10,7 @@ use Rattle.pef_model.specs.GuestPart.{put}
 use Rattle.pef_model.specs.Cpu.{CpuPart, next_cpu}
 use Rattle.pef_model.specs.History.{cpu_after, IsLegal}
 use Rattle.pef_model.proofs.Puts.{put-here, put-other}
-use Rattle.pef_model.proofs.Changes.{Change, Quiet, Begins, Copies, Ends, Drops, Comes, Reads, Accepts, Refuses, Takes, Parked, Gone, Backs, LeavesCpu}
+use Rattle.pef_model.proofs.Changes.{Change, Quiet, Begins, Copies, Ends, Drops, Comes, Reads, Accepts, Refuses, Takes, Parked, Gone, Backs, Writes, Selected, LeavesCpu}
 use Rattle.pef_model.proofs.ChangeOf.{change}
 use Rattle.pef_model.proofs.Fields.{cpus_after}
 
@@ -41,10 +41,15 @@ ranged_by plan past cpu e ranged (Comes x) = left_calm plan cpu e _ _ _ x.cpu_is
 ranged_by plan past cpu e ranged (Reads x) = left_calm plan cpu e _ _ _ x.cpu_is ranged.selects (λ run is. cc)
 ranged_by plan past cpu e ranged (Accepts x) = left_calm plan cpu e _ _ _ x.cpu_is ranged.selects (λ run is. cc)
 ranged_by plan past cpu e ranged (Refuses x) = left_calm plan cpu e _ _ _ x.cpu_is ranged.selects (λ run is. cc)
-ranged_by plan past cpu e ranged (Takes x) = left_calm plan cpu e _ _ _ x.cpu_is ranged.selects (λ run is. let same : cpu.lpid ≡ run.lpid = cc in subst (IsNumbered plan) same ranged.selects)
+ranged_by plan past cpu e ranged (Takes x) = left_calm plan cpu e _ _ _ x.cpu_is ranged.selects (λ run is. let same : x.lpid ≡ run.lpid = cc in subst (IsNumbered plan) same (elim x.number [
+  | inl selected ↦ subst (IsNumbered plan) (sym selected) ranged.selects
+  | inr named ↦ named
+]))
 ranged_by plan past cpu e ranged (Parked x) = left_calm plan cpu e _ _ _ x.cpu_is (ranged.runs x.run x.before) (λ run is. cc)
 ranged_by plan past cpu e ranged (Gone x) = left_calm plan cpu e _ _ _ x.cpu_is ranged.selects (λ run is. cc)
 ranged_by plan past cpu e ranged (Backs x) = left_calm plan cpu e _ _ _ x.cpu_is ranged.selects ranged.runs
+ranged_by plan past cpu e ranged (Writes x) = left_calm plan cpu e _ _ _ x.cpu_is ranged.selects ranged.runs
+ranged_by plan past cpu e ranged (Selected x) = left_calm plan cpu e _ _ _ x.cpu_is x.number ranged.runs
 
 -- so it is after a legal history
 pub all_ranged : (plan : Plan) (past : List Event) → 0 < plan.guests → IsLegal plan past → (n : ℕ) → IsRanged plan (cpu_after plan n past)

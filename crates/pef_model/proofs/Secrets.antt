@@ -5,14 +5,13 @@ use Rattle.pef_model.specs.declared.state.Ctx.{Ctx}
 use Rattle.pef_model.specs.declared.state.Ctx.TheVariants as ctx
 use Rattle.pef_model.specs.declared.command.Cmd.{Cmd}
 use Rattle.pef_model.specs.declared.command.Cmd.TheVariants.{GLi, GLd}
-use Rattle.pef_model.specs.declared.entry.Exit.TheVariants as exit
 use Rattle.pef_model.specs.declared.entry.Answer.{Answer}
-use Rattle.pef_model.specs.declared.entry.Answer.TheVariants.{Val, Exit, Done, Enter, Step}
+use Rattle.pef_model.specs.declared.entry.Answer.TheVariants.{Val, Ret, Exit, Done, Enter, Step}
 use Rattle.pef_model.specs.declared.entry.PoolSaw.{PoolSaw}
 use Rattle.pef_model.specs.Plan.{Plan}
 use Rattle.pef_model.specs.Event.{Event, value_after}
 use Rattle.pef_model.specs.Target.{is_guest, touches_cpu, touches_guest, touches_pool, touches_frame, takes_bytes}
-use Rattle.pef_model.specs.Cpu.{start_cpu, CpuPart, next_cpu, cpu_in, cpu_of_guest, own_after, last_after}
+use Rattle.pef_model.specs.Cpu.{start_cpu, CpuPart, next_cpu, cpu_in, cpu_of_guest, own_after, last_after, selecting}
 use Rattle.pef_model.specs.GuestPart.{start_part, GuestPart, part_in, next_part}
 use Rattle.pef_model.specs.Memory.{start_pool, next_pool, start_frame, next_frame, after_writes}
 use Rattle.pef_model.proofs.FrameOpen.{writes_open}
@@ -31,8 +30,12 @@ cpu_guest_open : (cpu : CpuPart) (run : Run) (a : Answer) (shown : List ℕ) →
 cpu_guest_open cpu run (Val value) shown = refl
 cpu_guest_open cpu run a shown = refl
 
+selecting_open : (cpu : CpuPart) (cmd : Cmd) (a : Answer) → selecting cpu cmd a ≡ selecting cpu (open_cmd cmd) a
+selecting_open cpu (GLi rd value) a = refl
+selecting_open cpu cmd a = refl
+
 cpu_in_open : (cpu : CpuPart) (c : Ctx) (cmd : Cmd) (a : Answer) (shown : List ℕ) → cpu_in c cpu cmd a shown ≡ cpu_in c cpu (open_cmd cmd) (open_answer c a) shown
-cpu_in_open cpu ctx.Hv cmd a shown = ap (λ (own : List ℕ). record cpu { own = own; last = last_after cpu.last a }) (own_open cpu.own cmd a)
+cpu_in_open cpu ctx.Hv cmd a shown = λ i. record (selecting_open cpu cmd a i) { own = own_open cpu.own cmd a i; last = last_after cpu.last a }
 cpu_in_open cpu (ctx.Uv work) cmd a shown = refl
 cpu_in_open cpu (ctx.Guest run) cmd a shown = cpu_guest_open cpu run a shown
 
@@ -55,11 +58,12 @@ cpu_open cpu e = λ i. record (cpu_in_open cpu e.saw.before e.trace.cmd e.trace.
 effect_open : (plan : Plan) (g : GuestPart) (cpu : ℕ) (bytes : List ℕ) (c : Ctx) (a : Answer) (cmd : Cmd) (pool : Option PoolSaw) (vid : ℕ) → part_in plan g c a cmd pool vid cpu bytes ≡ part_in plan g c (open_answer c a) (open_cmd cmd) pool vid cpu bytes
 effect_open plan g cpu bytes ctx.Hv Step (GLi rd value) pool vid = refl
 effect_open plan g cpu bytes ctx.Hv Enter (GLi rd value) pool vid = refl
+effect_open plan g cpu bytes ctx.Hv (Ret code) (GLi rd value) pool vid = refl
 effect_open plan g cpu bytes ctx.Hv a cmd pool vid = refl
 effect_open plan g cpu bytes (ctx.Uv work) a cmd pool vid = refl
 effect_open plan g cpu bytes (ctx.Guest run) Done (GLi rd value) pool vid = refl
 effect_open plan g cpu bytes (ctx.Guest run) (Val value) (GLd rd gpa) pool vid = refl
-effect_open plan g cpu bytes (ctx.Guest run) (Exit exit.Irq) (GLi rd value) pool vid = refl
+effect_open plan g cpu bytes (ctx.Guest run) (Exit exit) (GLi rd value) pool vid = refl
 effect_open plan g cpu bytes (ctx.Guest run) a cmd pool vid = refl
 
 guest_open : (plan : Plan) (g : GuestPart) (e : Event) → next_part plan g e ≡ next_part plan g (open_entry e)

@@ -1,6 +1,7 @@
 -- What an entry makes of its CPU and lets out.
-use Rattle.std.proofs.Common.{Option, Some, None, ◌≡◌, ℕ, ◌<◌, List, [], ◌∷◌, length, replicate, get_or, refl, ap, sym, subst, ◌∙◌, if◌then◌else◌, arith, Bool, true, false, ◌==◌, ◌≢◌, Option}
-use Rattle.std.specs.Prelude.{unwrap_or}
+use Rattle.std.proofs.Common.{Option, Some, None, ◌≡◌, ℕ, ◌<◌, List, ◌∷◌, length, replicate, get_or, refl, ap, sym, subst, ◌∙◌, if◌then◌else◌, arith, Bool, true, false, ◌==◌, ◌≢◌, Option}
+use Rattle.std.specs.Prelude.{unwrap_or, slice_get}
+use Rattle.std.proofs.lemmas.Option.{slice_get-get_or}
 use Rattle.std.proofs.lemmas.List.{get_or-replicate}
 use Rattle.std.proofs.lemmas.Grind.{common_steps}
 use Rattle.std.proofs.lemmas.Bool.Decides.{nat_tests}
@@ -11,24 +12,24 @@ use Rattle.pef_model.specs.declared.state.Ctx.{Ctx}
 use Rattle.pef_model.specs.declared.state.Ctx.TheVariants as ctx
 use Rattle.pef_model.specs.declared.command.TheConstants.{EXTERNAL_INTERRUPT}
 use Rattle.pef_model.specs.declared.command.Cmd.{Cmd}
-use Rattle.pef_model.specs.declared.command.Cmd.TheVariants.{HLd, HSt, UPagein, UPageout, UReturn, GLi, GLd, GSt, GIrq, Go}
+use Rattle.pef_model.specs.declared.command.Cmd.TheVariants.{HLd, HSt, HSelect, HEnter, UPate, UPagein, UPageout, UReturn, Go}
 use Rattle.pef_model.specs.declared.entry.Exit.TheVariants as exit
 use Rattle.pef_model.specs.declared.entry.Answer.{Answer}
-use Rattle.pef_model.specs.declared.entry.Answer.TheVariants.{Done, Val, Ret, Step, Enter, Exit, Again, Gone, Hole, Context}
+use Rattle.pef_model.specs.declared.entry.Answer.TheVariants.{Done, Val, Ret, Step, Exit, Gone, Context}
 use Rattle.pef_model.specs.Plan.{Plan}
 use Rattle.pef_model.specs.Event.{Event}
 use Rattle.pef_model.specs.Registers.{Call, number_of, call_of, interrupt_registers}
-use Rattle.pef_model.specs.Cpu.{CpuPart, start_cpu, next_cpu, cpu_in, cpu_by, cpu_of_guest, own_after, own_after_ultracall, own_after_load, last_after}
+use Rattle.pef_model.specs.Cpu.{CpuPart, start_cpu, next_cpu, cpu_in, cpu_by, cpu_of_guest, own_after, own_after_ultracall, own_after_call, own_after_load, last_after}
 use Rattle.pef_model.specs.Target.{touches_cpu, caller}
-use Rattle.pef_model.specs.History.{cpu_after, guest_after}
+use Rattle.pef_model.specs.History.{cpu_after}
 use Rattle.pef_model.specs.Commands.{IsCommand}
-use Rattle.pef_model.specs.StepLaw.{given_by_load, given_by_ultracall, given_by_command, own_given_in, selected_lpid, selected_vid, let_out, EachEntryLeavesCpu, is_kept, given_by_work}
+use Rattle.pef_model.specs.StepLaw.{given_by_coming_back, given_by_load, given_by_ultracall, given_by_command, own_given_in, selected_lpid, selected_vid, EachEntryLeavesCpu, is_kept, given_by_work}
 use Rattle.pef_model.proofs.Folds.{same_test, test_same, counts}
 use Rattle.pef_model.proofs.Assigned.{set_value}
 use Rattle.pef_model.proofs.Called.{loads_value, returns_value}
-use Rattle.pef_model.proofs.OwnRegisters.{own_registers}
+use Rattle.pef_model.proofs.OwnRegisters.{own_registers, IsFullExit, full_exit}
 use Rattle.pef_model.proofs.Outcomes.{Outcome, outcome, Moving, moving}
-use Rattle.pef_model.specs.Guest.{Guest}
+use Rattle.pef_model.proofs.LetOut.{shown_is}
 
 -- the context after a guest's step, by its answer
 abbrev pub ctx_after_guest : Run → Answer → Ctx
@@ -37,30 +38,15 @@ ctx_after_guest run Gone = ctx.Hv
 ctx_after_guest run a = ctx.Guest run
 
 pub after_guest : (run : Run) (cmd : Cmd) (a : Answer) (after : Ctx) (shown : List ℕ) → Outcome (ctx.Guest run) cmd a after shown → after ≡ ctx_after_guest run a
-after_guest run (HLd ra) Context after shown h = h.0
-after_guest run (HSt ra value) Context after shown h = h.0
-after_guest run (UPagein lpid src gpa flags order) (Ret code) after shown h = h.0
-after_guest run (UPageout lpid dest gpa flags order) (Ret code) after shown h = h.0
-after_guest run (UReturn r0 r2 outs) (Ret code) after shown h = h.0
-after_guest run (GLi rd value) Done after shown h = h.0
-after_guest run (GLd rd gpa) (Val value) after shown h = h.0
-after_guest run (GLd rd gpa) Hole after shown h = h.0
-after_guest run (GLd rd gpa) Again after shown h = h.0
-after_guest run (GSt rs gpa) Done after shown h = h.0
-after_guest run (GSt rs gpa) Hole after shown h = h.0
-after_guest run (GSt rs gpa) Again after shown h = h.0
-after_guest run GIrq (Exit exit.Irq) after shown h = h.0
-after_guest run Go Context after shown h = h.0
-after_guest run (HLd ra) a after shown h = absurd h
-after_guest run (HSt ra value) a after shown h = absurd h
-after_guest run Go a after shown h = absurd h
-after_guest run cmd Gone after shown h = h.0
-after_guest run cmd a after shown h = absurd h
+after_guest run cmd a after shown h = grind (arith, common_steps)
 
 -- a command of another context leaves the CPU as it is
 pub context_leaves : (cpu : CpuPart) (c after : Ctx) (cmd : Cmd) (shown bytes : List ℕ) → cpu.ctx ≡ c → Outcome c cmd Context after shown → cpu_by cpu c after cmd Context shown bytes ≡ cpu
 context_leaves cpu ctx.Hv after (HLd ra) shown bytes before h = absurd h
 context_leaves cpu ctx.Hv after (HSt ra value) shown bytes before h = absurd h
+context_leaves cpu ctx.Hv after (HSelect lpid vid) shown bytes before h = absurd h
+context_leaves cpu ctx.Hv after (HEnter lpid vid value) shown bytes before h = absurd h
+context_leaves cpu ctx.Hv after (UPate lpid dw0 dw1) shown bytes before h = absurd h
 context_leaves cpu ctx.Hv after (UPagein lpid src gpa flags order) shown bytes before h = absurd h
 context_leaves cpu ctx.Hv after (UPageout lpid dest gpa flags order) shown bytes before h = absurd h
 context_leaves cpu ctx.Hv after (UReturn r0 r2 outs) shown bytes before h = absurd h
@@ -69,9 +55,11 @@ context_leaves cpu (ctx.Uv (Inward move)) after Go shown bytes before h = absurd
 context_leaves cpu (ctx.Uv (Inward move)) after cmd shown bytes before h = (λ i. record cpu { ctx = (h.0 ∙ sym before) i })
 context_leaves cpu (ctx.Uv (Outward move)) after Go shown bytes before h = absurd h
 context_leaves cpu (ctx.Uv (Outward move)) after cmd shown bytes before h = (λ i. record cpu { ctx = (h.0 ∙ sym before) i })
-context_leaves cpu (ctx.Guest run) after (HLd ra) shown bytes before h = (λ i. record cpu { ctx = (h.0 ∙ sym before) i })
-context_leaves cpu (ctx.Guest run) after (HSt ra value) shown bytes before h = (λ i. record cpu { ctx = (h.0 ∙ sym before) i })
-context_leaves cpu (ctx.Guest run) after Go shown bytes before h = (λ i. record cpu { ctx = (h.0 ∙ sym before) i })
+context_leaves cpu (ctx.Guest run) after (HLd ra) shown bytes before h = (λ i. record cpu { ctx = (h ∙ sym before) i })
+context_leaves cpu (ctx.Guest run) after (HSt ra value) shown bytes before h = (λ i. record cpu { ctx = (h ∙ sym before) i })
+context_leaves cpu (ctx.Guest run) after (HSelect lpid vid) shown bytes before h = (λ i. record cpu { ctx = (h ∙ sym before) i })
+context_leaves cpu (ctx.Guest run) after (HEnter lpid vid value) shown bytes before h = (λ i. record cpu { ctx = (h ∙ sym before) i })
+context_leaves cpu (ctx.Guest run) after Go shown bytes before h = (λ i. record cpu { ctx = (h ∙ sym before) i })
 context_leaves cpu (ctx.Guest run) after cmd shown bytes before h = absurd h
 
 last_by_hypervisor : (old a : Answer) (after : Ctx) → last_after old a ≡ (if is_kept ctx.Hv a after then a else old)
@@ -120,10 +108,17 @@ by_call own cmd a r k full None = refl
 by_call own cmd (Ret code) r k full (Some call) = returns_value own cmd code r k full
 by_call own cmd a r k full (Some call) = loads_value own cmd r k full
 
+-- each of the hypervisor's registers after a command that gives R3 a code where it is refused
+by_code : (own : List ℕ) (a : Answer) (r : ℕ) → length own ≡ 32 → get_or (own_after_call own a) r 0 ≡ unwrap_or (given_by_coming_back a r) (get_or own r 0)
+by_code own (Ret code) r full = set_value own 3 (number_of code) r full (omega arith)
+by_code own a r full = refl
+
 -- each of the hypervisor's registers after a command of its own
 own_by_command : (own : List ℕ) (cmd : Cmd) (a : Answer) (r : ℕ) → IsCommand cmd → length own ≡ 32 →
     get_or (own_after own cmd a) r 0 ≡ unwrap_or (given_by_command cmd a r) (get_or own r 0)
 own_by_command own (HLd ra) a r k full = own_by_load own a r full
+own_by_command own (HSelect lpid vid) a r k full = by_code own a r full
+own_by_command own (HEnter lpid vid value) a r k full = by_code own a r full
 own_by_command own cmd a r k full = by_call own cmd a r k full (call_of cmd)
 
 -- R3 shows the interrupt, and every other register 0
@@ -133,18 +128,24 @@ interrupt_shows r small = by_test (r == 3) refl where
   by_test true t = ap (λ (n : ℕ). get_or interrupt_registers n 0) (test_same r 3 t)
   by_test false t = let other : 3 ≢ r = grind (arith, nat_tests) in let zero : get_or (replicate {A = ℕ} 32 0) r 0 ≡ 0 = get_or-replicate 32 r 0 0 small in grind (arith, common_steps)
 
+-- all that a guest lets out is shown
+whole_shows : (shown : List ℕ) (r old : ℕ) → r < length shown → get_or shown r 0 ≡ unwrap_or (slice_get shown r) old
+whole_shows shown r old small = ap (λ (o : Option ℕ). unwrap_or o old) (sym (slice_get-get_or shown r 0 small))
+
 -- each of the hypervisor's registers after a step
-own_left : (cpu : CpuPart) (c : Ctx) (cmd : Cmd) (a : Answer) (shown : List ℕ) (r : ℕ) → IsCommand cmd → length cpu.own ≡ 32 → r < 32 →
+own_left : (cpu : CpuPart) (c : Ctx) (cmd : Cmd) (a : Answer) (shown : List ℕ) (r : ℕ) → IsCommand cmd → IsFullExit a shown → length cpu.own ≡ 32 → r < 32 →
     get_or (cpu_in c cpu cmd a shown).own r 0 ≡ unwrap_or (own_given_in c cmd a shown r) (get_or cpu.own r 0)
-own_left cpu ctx.Hv cmd a shown r k full small = own_by_command cpu.own cmd a r k full
-own_left cpu (ctx.Uv work) cmd a shown r k full small = own_by_work cpu work cmd a shown r full
-own_left cpu (ctx.Guest run) cmd (Exit exit.Irq) shown r k full small = interrupt_shows r small
-own_left cpu (ctx.Guest run) cmd Gone shown r k full small = get_or-replicate 32 r 0 0 small
-own_left cpu (ctx.Guest run) cmd a shown r k full small = refl
+own_left cpu ctx.Hv cmd a shown r k whole full small = own_by_command cpu.own cmd a r k full
+own_left cpu (ctx.Uv work) cmd a shown r k whole full small = own_by_work cpu work cmd a shown r full
+own_left cpu (ctx.Guest run) cmd (Exit exit.Irq) shown r k whole full small = interrupt_shows r small
+own_left cpu (ctx.Guest run) cmd (Exit exit.Normal) shown r k whole full small = whole_shows shown r (get_or cpu.own r 0) (omega (arith, whole, small))
+own_left cpu (ctx.Guest run) cmd Gone shown r k whole full small = get_or-replicate 32 r 0 0 small
+own_left cpu (ctx.Guest run) cmd a shown r k whole full small = refl
 
 -- the selection after a step
 pub selection_left : (cpu : CpuPart) (c : Ctx) (cmd : Cmd) (a : Answer) (shown : List ℕ) →
     ((cpu_in c cpu cmd a shown).lpid ≡ selected_lpid c cmd a cpu.lpid) × ((cpu_in c cpu cmd a shown).vid ≡ selected_vid c cmd a cpu.vid)
+selection_left cpu ctx.Hv (HSelect lpid vid) Done shown = (refl, refl)
 selection_left cpu ctx.Hv cmd a shown = (refl, refl)
 selection_left cpu (ctx.Uv (Inward move)) cmd (Ret code) shown = (refl, refl)
 selection_left cpu (ctx.Uv (Inward move)) cmd a shown = (refl, refl)
@@ -153,52 +154,6 @@ selection_left cpu (ctx.Uv (Outward move)) cmd a shown = (refl, refl)
 selection_left cpu (ctx.Guest run) cmd (Exit exit) shown = (refl, refl)
 selection_left cpu (ctx.Guest run) cmd Gone shown = (refl, refl)
 selection_left cpu (ctx.Guest run) cmd a shown = (refl, refl)
-
--- a call in progress lets nothing out
-shown_by_work : (work : Work) (a : Answer) (after : Ctx) (shown : List ℕ) → Moving work a after shown → shown ≡ []
-shown_by_work work Step after shown h = h.1
-shown_by_work work (Ret code) after shown h = h.1
-shown_by_work work Context after shown h = h.1
-shown_by_work work a after shown h = absurd h
-
--- a step lets out what its answer says
-pub shown_is : (plan : Plan) (guests : ℕ → Guest) (frame : Option ℕ) (c : Ctx) (cmd : Cmd) (a : Answer) (after : Ctx) (shown : List ℕ) → Outcome c cmd a after shown → shown ≡ let_out plan guests c cmd a frame
-shown_is plan guests frame ctx.Hv (HLd ra) (Val value) after shown h = h.1
-shown_is plan guests frame ctx.Hv (HLd ra) Hole after shown h = h.1
-shown_is plan guests frame ctx.Hv (HLd ra) a after shown h = absurd h
-shown_is plan guests frame ctx.Hv (HSt ra value) Done after shown h = h.1
-shown_is plan guests frame ctx.Hv (HSt ra value) Hole after shown h = h.1
-shown_is plan guests frame ctx.Hv (HSt ra value) a after shown h = absurd h
-shown_is plan guests frame ctx.Hv (UPagein lpid src gpa flags order) Step after shown h = h.1
-shown_is plan guests frame ctx.Hv (UPagein lpid src gpa flags order) (Ret code) after shown h = h.1
-shown_is plan guests frame ctx.Hv (UPagein lpid src gpa flags order) a after shown h = absurd h
-shown_is plan guests frame ctx.Hv (UPageout lpid dest gpa flags order) Step after shown h = h.1
-shown_is plan guests frame ctx.Hv (UPageout lpid dest gpa flags order) (Ret code) after shown h = h.1
-shown_is plan guests frame ctx.Hv (UPageout lpid dest gpa flags order) a after shown h = absurd h
-shown_is plan guests frame ctx.Hv (UReturn r0 r2 outs) Enter after shown h = h
-shown_is plan guests frame ctx.Hv (UReturn r0 r2 outs) (Ret code) after shown h = h.1
-shown_is plan guests frame ctx.Hv (UReturn r0 r2 outs) a after shown h = absurd h
-shown_is plan guests frame ctx.Hv cmd Context after shown h = h.1
-shown_is plan guests frame (ctx.Uv work) cmd a after shown h = shown_by_work work a after shown (moving work cmd a after shown h)
-shown_is plan guests frame (ctx.Guest run) (HLd ra) Context after shown h = h.1
-shown_is plan guests frame (ctx.Guest run) (HLd ra) a after shown h = absurd h
-shown_is plan guests frame (ctx.Guest run) (HSt ra value) Context after shown h = h.1
-shown_is plan guests frame (ctx.Guest run) (HSt ra value) a after shown h = absurd h
-shown_is plan guests frame (ctx.Guest run) (UPagein lpid src gpa flags order) (Ret code) after shown h = h.1
-shown_is plan guests frame (ctx.Guest run) (UPageout lpid dest gpa flags order) (Ret code) after shown h = h.1
-shown_is plan guests frame (ctx.Guest run) (UReturn r0 r2 outs) (Ret code) after shown h = h.1
-shown_is plan guests frame (ctx.Guest run) (GLi rd value) Done after shown h = h.1
-shown_is plan guests frame (ctx.Guest run) (GLd rd gpa) (Val value) after shown h = h.1
-shown_is plan guests frame (ctx.Guest run) (GLd rd gpa) Hole after shown h = h.1
-shown_is plan guests frame (ctx.Guest run) (GLd rd gpa) Again after shown h = h.1
-shown_is plan guests frame (ctx.Guest run) (GSt rs gpa) Done after shown h = h.1
-shown_is plan guests frame (ctx.Guest run) (GSt rs gpa) Hole after shown h = h.1
-shown_is plan guests frame (ctx.Guest run) (GSt rs gpa) Again after shown h = h.1
-shown_is plan guests frame (ctx.Guest run) GIrq (Exit exit.Irq) after shown h = h.1
-shown_is plan guests frame (ctx.Guest run) Go Context after shown h = h.1
-shown_is plan guests frame (ctx.Guest run) Go a after shown h = absurd h
-shown_is plan guests frame (ctx.Guest run) cmd Gone after shown h = h.1
-shown_is plan guests frame c cmd a after shown h = absurd h
 
 -- a CPU after an entry of its own
 own_cpu : (plan : Plan) (past : List Event) (e : Event) → cpu_after plan e.trace.cpu (e ∷ past) ≡ next_cpu (cpu_after plan e.trace.cpu past) e
@@ -221,9 +176,9 @@ each_entry_leaves_cpu plan past e legal =
           is ∙ ap (λ (a : Answer). cpu_by cpu e.saw.before e.saw.after e.trace.cmd a e.saw.shown e.bytes) k
           ∙ context_leaves cpu e.saw.before e.saw.after e.trace.cmd e.saw.shown e.bytes before (subst (λ (a : Answer). Outcome e.saw.before e.trace.cmd a e.saw.after e.saw.shown) k h);
       last = ap (λ (x : CpuPart). x.last) is ∙ last_left cpu e.saw.before e.saw.after e.trace.cmd e.trace.answer e.saw.shown h;
-      own = λ r small. ap (λ (x : CpuPart). get_or x.own r 0) is ∙ own_left cpu e.saw.before e.trace.cmd e.trace.answer e.saw.shown r legal.0.command (own_registers plan past e.trace.cpu legal.1) small;
+      own = λ r small. ap (λ (x : CpuPart). get_or x.own r 0) is ∙ own_left cpu e.saw.before e.trace.cmd e.trace.answer e.saw.shown r legal.0.command (full_exit plan past e legal.0 legal.1) (own_registers plan past e.trace.cpu legal.1) small;
       lpid = ap (λ (x : CpuPart). x.lpid) is ∙ stays.0;
       vid = ap (λ (x : CpuPart). x.vid) is ∙ stays.1;
       hand = ap (λ (x : CpuPart). x.hand) is;
-      shown = shown_is plan (λ lpid. guest_after plan lpid past) e.saw.frame e.saw.before e.trace.cmd e.trace.answer e.saw.after e.saw.shown h;
+      shown = shown_is plan past e legal.0;
     }

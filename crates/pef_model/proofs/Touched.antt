@@ -1,11 +1,13 @@
 -- The objects that an entry touches decide whether it extends a history.
 use Rattle.std.proofs.Common.{◌∷◌, ◌≡◌, ℕ, Bool, true, false, ◌==◌, ◌&&◌, nat_lt, if◌then◌else◌, List, refl, ap, sym, ◌∙◌, Option, Some, None, subst, [], slice_index}
 use Rattle.std.specs.Prelude.{is_some}
+use Rattle.pef_model.specs.declared.state.Phase.{Phase}
+use Rattle.pef_model.specs.declared.state.Phase.TheVariants as phase
 use Rattle.pef_model.specs.declared.state.Work.TheVariants.{Inward, Outward}
 use Rattle.pef_model.specs.declared.state.Ctx.{Ctx}
 use Rattle.pef_model.specs.declared.state.Ctx.TheVariants as ctx
 use Rattle.pef_model.specs.declared.command.Cmd.{Cmd}
-use Rattle.pef_model.specs.declared.command.Cmd.TheVariants.{UPagein, UPageout, UReturn, GLd, GSt, Go}
+use Rattle.pef_model.specs.declared.command.Cmd.TheVariants.{HEnter, UPagein, UPageout, UReturn, GLd, GSt, GIrq, Go}
 use Rattle.pef_model.specs.declared.command.Code.{Code}
 use Rattle.pef_model.specs.declared.command.Code.TheVariants.{USuccess, UParameter, UInvalid}
 use Rattle.pef_model.specs.declared.entry.Answer.{Answer}
@@ -13,31 +15,38 @@ use Rattle.pef_model.specs.declared.entry.Answer.TheVariants.{Enter, Ret, Val, D
 use Rattle.pef_model.specs.declared.entry.PoolSaw.{PoolSaw}
 use Rattle.pef_model.specs.declared.state.Run.{Run}
 use Rattle.pef_model.specs.Memory.{offset_of}
+use Rattle.pef_model.specs.Doubleword.{doubleword}
 use Rattle.pef_model.specs.Plan.{Plan}
 use Rattle.pef_model.specs.Event.{Event, mark_of}
 use Rattle.pef_model.specs.Target.{Ask, Target, Alone, AtGuest, AtFrame, target_in, is_guest, is_number, touches_frame, touches_guest, touches_pool}
 use Rattle.pef_model.specs.Cpu.{CpuPart}
-use Rattle.pef_model.specs.GuestPart.{GuestPart, Meeting, Unbacked, meets}
+use Rattle.pef_model.specs.GuestPart.{GuestPart, Meeting, Normal, Unbacked, meets}
 use Rattle.pef_model.specs.Guest.{Guest}
 use Rattle.pef_model.specs.PageOut.{page_out_code}
 use Rattle.pef_model.specs.PageIn.{page_in_operands, is_last_sealed}
-use Rattle.pef_model.specs.Deed.{answering, giving, returning, coming_back, deed_page_out_begin, deed_page_in_with, deed_page_in_test, may_return_in, is_waiting, deed_backing, deed_access, deed_running, deed_gone, deed_hypervisor, deed_guest_in, deed_guest, deed_frame_in, deed_frame}
+use Rattle.pef_model.specs.Entry.{enter_code}
+use Rattle.pef_model.specs.Deed.{Deed, answering, giving, returning, coming_back, deed_page_out_begin, deed_page_in_with, deed_page_in_test, may_return_in, is_waiting, deed_backing, deed_through, deed_access, deed_interrupt, deed_running, deed_gone, deed_hypervisor, deed_guest_in, deed_guest, deed_frame_in, deed_frame}
 use Rattle.pef_model.specs.History.{cpu_after, guest_after, pool_after, frame_after, ask_of, entry_of, deed_after, next_entry, next_entry_by, found_after}
 use Rattle.pef_model.specs.ReadLaw.{TouchedObjectsDecide, AskedIsTold, IsTold}
 use Rattle.pef_model.proofs.Folds.{same_test}
 
--- an access that didn't ask for a frame is the same whether one is free or not
+-- an access that didn't ask for a frame is the same whether one is free or not, and reads no normal frame but the one that it tells
 access_asks : (ask : Ask) (success : Answer) (through other : ℕ → Answer) (out : List ℕ) (any free : Bool) (m : Meeting) → (is_some (deed_access ask success through out any m).pool ≡ true → any ≡ free) →
+    ((n : ℕ) → is_number n (deed_access ask success through out any m).frame ≡ true → through n ≡ other n) →
     deed_access ask success through out any m ≡ deed_access ask success other out free m
-access_asks ask success through other out true free Unbacked h = ap (λ (b : Bool). deed_backing ask success b) (h refl)
-access_asks ask success through other out false free Unbacked h = ap (λ (b : Bool). deed_backing ask success b) (h refl)
-access_asks ask success through other out any free m h = refl
+access_asks ask success through other out true free Unbacked h f = ap (λ (b : Bool). deed_backing ask success b) (h refl)
+access_asks ask success through other out false free Unbacked h f = ap (λ (b : Bool). deed_backing ask success b) (h refl)
+access_asks ask success through other out any free (Normal n) h f = ap (λ (a : Answer). deed_through ask a out n) (f n (same_test n))
+access_asks ask success through other out any free m h f = refl
 
 running_asks : (plan : Plan) (run : Run) (g : Guest) (found other : ℕ → ℕ → ℕ) (any free : Bool) (ask : Ask) (cmd : Cmd) → (is_some (deed_running plan run g found any ask cmd).pool ≡ true → any ≡ free) →
+    ((n : ℕ) → is_number n (deed_running plan run g found any ask cmd).frame ≡ true → found n ≡ other n) →
     deed_running plan run g found any ask cmd ≡ deed_running plan run g other free ask cmd
-running_asks plan run g found other any free ask (GLd rd gpa) h = access_asks ask (Val (g.content gpa)) (λ n. Val (found n (offset_of plan gpa))) (λ n. Val (other n (offset_of plan gpa))) [] any free (meets plan g.part gpa) h
-running_asks plan run g found other any free ask (GSt rs gpa) h = access_asks ask Done (λ n. Done) (λ n. Done) (slice_index (g.registers run.vid).gpr rs ∷ []) any free (meets plan g.part gpa) h
-running_asks plan run g found other any free ask cmd h = refl
+running_asks plan run g found other any free ask (GLd rd gpa) h f =
+    access_asks ask (Val (g.content gpa)) (λ n. Val (found n (offset_of plan gpa))) (λ n. Val (other n (offset_of plan gpa))) [] any free (meets plan g.part gpa) h
+    (λ n told. ap (λ (at : ℕ → ℕ). Val (at (offset_of plan gpa))) (f n told))
+running_asks plan run g found other any free ask (GSt rs gpa) h f = access_asks ask Done (λ n. Done) (λ n. Done) (slice_index (g.registers run.vid).gpr rs ∷ []) any free (meets plan g.part gpa) h (λ n told. refl)
+running_asks plan run g found other any free ask cmd h f = refl
 
 -- so is a page-in that came back before it asked
 page_in_asks : (plan : Plan) (g : GuestPart) (any free : Bool) (ask : Ask) (lpid src gpa : ℕ) (code : Option Code) →
@@ -52,17 +61,19 @@ hypervisor_asks : (plan : Plan) (g : Guest) (any free : Bool) (ask : Ask) (cmd :
 hypervisor_asks plan g any free ask (UPagein lpid src gpa flags order) h = page_in_asks plan g.part any free ask lpid src gpa (page_in_operands plan g.part src gpa flags order) h
 hypervisor_asks plan g any free ask cmd h = refl
 
--- what was not asked of the pool makes no difference
+-- what was not asked of the pool makes no difference, nor does a normal frame that isn't told
 deed_asks : (plan : Plan) (g : Guest) (found other : ℕ → ℕ → ℕ) (any free : Bool) (ask : Ask) (cmd : Cmd) (c : Ctx) → (is_some (deed_guest_in c plan g found any ask cmd).pool ≡ true → any ≡ free) →
+    ((n : ℕ) → is_number n (deed_guest_in c plan g found any ask cmd).frame ≡ true → found n ≡ other n) →
     deed_guest_in c plan g found any ask cmd ≡ deed_guest_in c plan g other free ask cmd
-deed_asks plan g found other any free ask cmd ctx.Hv h = hypervisor_asks plan g any free ask cmd h
-deed_asks plan g found other any free ask cmd (ctx.Uv (Inward move)) h = refl
-deed_asks plan g found other any free ask cmd (ctx.Uv (Outward move)) h = refl
-deed_asks plan g found other any free ask cmd (ctx.Guest run) h = by_test (run.generation == g.part.generation) h where
+deed_asks plan g found other any free ask cmd ctx.Hv h f = hypervisor_asks plan g any free ask cmd h
+deed_asks plan g found other any free ask cmd (ctx.Uv (Inward move)) h f = refl
+deed_asks plan g found other any free ask cmd (ctx.Uv (Outward move)) h f = refl
+deed_asks plan g found other any free ask cmd (ctx.Guest run) h f = by_test (run.generation == g.part.generation) h f where
   by_test : (b : Bool) → (is_some (if b then deed_running plan run g found any ask cmd else deed_gone ask).pool ≡ true → any ≡ free) →
+      ((n : ℕ) → is_number n (if b then deed_running plan run g found any ask cmd else deed_gone ask).frame ≡ true → found n ≡ other n) →
       (if b then deed_running plan run g found any ask cmd else deed_gone ask) ≡ (if b then deed_running plan run g other free ask cmd else deed_gone ask)
-  by_test true k = running_asks plan run g found other any free ask cmd k
-  by_test false k = refl
+  by_test true k l = running_asks plan run g found other any free ask cmd k l
+  by_test false k l = refl
 
 -- a step that aims at a normal frame touches it: none of a guest does
 at_frame : (plan : Plan) (n : ℕ) (bytes : List ℕ) (ask : Ask) (cmd : Cmd) → target_in plan ask.before ask.lpid cmd ≡ AtFrame n → is_number n (deed_frame plan n bytes ask cmd).frame ≡ true
@@ -97,7 +108,11 @@ touched_objects_decide plan past other e agree extends = record { cpu = extends.
       let touched : touches_guest plan lpid e ≡ true = ap (touches_guest plan lpid) extends.is ∙ ap (is_guest lpid) is ∙ same_test lpid in
       let asks : is_some (deed_guest plan (guest_after plan lpid past) (found_after plan past) (free past) ask e.trace.cmd).pool ≡ true → free past ≡ free other =
       (λ h. ap (nat_lt 0) (agree.pool (ap touches_pool extends.is ∙ ap (λ (t : Target). is_some (deed_after plan past ask e.trace.cmd t).pool) is ∙ h))) in
-      deed_asks plan (guest_after plan lpid past) (found_after plan past) (found_after plan other) (free past) (free other) ask e.trace.cmd ask.before asks
+      let reads : (n : ℕ) → is_number n (deed_guest plan (guest_after plan lpid past) (found_after plan past) (free past) ask e.trace.cmd).frame ≡ true → found_after plan past n ≡ found_after plan other n =
+      (λ n h.
+      let same = agree.frame n (ap (touches_frame n) extends.is ∙ ap (λ (t : Target). is_number n (deed_after plan past ask e.trace.cmd t).frame) is ∙ h) in
+      (λ i offset. doubleword (same i) offset)) in
+      deed_asks plan (guest_after plan lpid past) (found_after plan past) (found_after plan other) (free past) (free other) ask e.trace.cmd ask.before asks reads
       ∙ ap (λ (g : Guest). deed_guest plan g (found_after plan other) (free other) ask e.trace.cmd) (agree.guest lpid touched)
 
   frames : (n : ℕ) → target_in plan ask.before ask.lpid e.trace.cmd ≡ AtFrame n → frame_after plan n past ≡ frame_after plan n other
@@ -120,6 +135,10 @@ access_tells ask success through out any m saw h = cc
 running_tells : (plan : Plan) (run : Run) (g : Guest) (found : ℕ → ℕ → ℕ) (any : Bool) (ask : Ask) (cmd : Cmd) (saw : PoolSaw) → (deed_running plan run g found any ask cmd).pool ≡ Some saw → IsTold any saw
 running_tells plan run g found any ask (GLd rd gpa) saw h = access_tells ask (Val (g.content gpa)) (λ n. Val (found n (offset_of plan gpa))) [] any (meets plan g.part gpa) saw h
 running_tells plan run g found any ask (GSt rs gpa) saw h = access_tells ask Done (λ n. Done) (slice_index (g.registers run.vid).gpr rs ∷ []) any (meets plan g.part gpa) saw h
+running_tells plan run g found any ask GIrq saw h = by_phase g.part.phase h where
+  by_phase : (p : Phase) → (deed_interrupt p (g.registers run.vid).gpr ask).pool ≡ Some saw → IsTold any saw
+  by_phase phase.Normal k = cc
+  by_phase p k = cc
 running_tells plan run g found any ask cmd saw h = cc
 
 page_in_tells : (plan : Plan) (g : GuestPart) (any : Bool) (ask : Ask) (lpid src gpa : ℕ) (code : Option Code) (saw : PoolSaw) →
@@ -128,15 +147,15 @@ page_in_tells plan g any ask lpid src gpa (Some code) saw h = cc
 page_in_tells plan g true ask lpid src gpa None saw h = subst (IsTold true) (some_same h) refl
 page_in_tells plan g false ask lpid src gpa None saw h = subst (IsTold false) (some_same h) refl
 
--- a page-out that begins asks for no frame
-page_out_tells : (plan : Plan) (g : Guest) (any : Bool) (ask : Ask) (lpid dest gpa : ℕ) (code : Option Code) (saw : PoolSaw) →
-    (returning ask code (deed_page_out_begin plan g ask lpid dest gpa)).pool ≡ Some saw → IsTold any saw
-page_out_tells plan g any ask lpid dest gpa (Some code) saw h = cc
-page_out_tells plan g any ask lpid dest gpa None saw h = cc
+-- a call that comes back at once, or else doesn't ask
+returning_tells : (any : Bool) (ask : Ask) (code : Option Code) (deed : Deed) (saw : PoolSaw) → deed.pool ≡ None → (returning ask code deed).pool ≡ Some saw → IsTold any saw
+returning_tells any ask (Some code) deed saw unasked h = cc
+returning_tells any ask None deed saw unasked h = cc
 
 hypervisor_tells : (plan : Plan) (g : Guest) (any : Bool) (ask : Ask) (cmd : Cmd) (saw : PoolSaw) → (deed_hypervisor plan g any ask cmd).pool ≡ Some saw → IsTold any saw
 hypervisor_tells plan g any ask (UPagein lpid src gpa flags order) saw h = page_in_tells plan g.part any ask lpid src gpa (page_in_operands plan g.part src gpa flags order) saw h
-hypervisor_tells plan g any ask (UPageout lpid dest gpa flags order) saw h = page_out_tells plan g any ask lpid dest gpa (page_out_code plan g.part dest gpa flags order) saw h
+hypervisor_tells plan g any ask (UPageout lpid dest gpa flags order) saw h = returning_tells any ask (page_out_code plan g.part dest gpa flags order) (deed_page_out_begin plan g ask lpid dest gpa) saw refl h
+hypervisor_tells plan g any ask (HEnter lpid vid value) saw h = returning_tells any ask (enter_code plan g.part vid) _ saw refl h
 hypervisor_tells plan g any ask (UReturn r0 r2 outs) saw h = by_test (may_return_in g.part.phase && is_waiting (g.part.vcpus ask.vid).state) h where
   by_test : (b : Bool) → (if b then record (answering ask Enter) { after = ctx.Guest (record { lpid = ask.lpid; vid = ask.vid; generation = g.part.generation }) } else answering ask (Ret UInvalid)).pool ≡ Some saw → IsTold any saw
   by_test true k = cc

@@ -3,11 +3,13 @@ use Rattle.std.proofs.Common.{◌≡◌, ℕ, zero, suc, ◌-◌, List, [], ◌�
 use Rattle.std.specs.Prelude.{◌^◌, IsTrue}
 use Rattle.std.specs.List.{list_any, AllByRecursion}
 use Rattle.pef_model.specs.declared.config.Config.{Config}
+use Rattle.pef_model.specs.declared.state.Phase.{Phase}
+use Rattle.pef_model.specs.declared.state.Phase.TheVariants.{Normal}
 use Rattle.pef_model.specs.declared.state.Run.{Run}
 use Rattle.pef_model.specs.declared.state.Ctx.{Ctx}
 use Rattle.pef_model.specs.declared.state.Ctx.TheVariants as ctx
 use Rattle.pef_model.specs.declared.command.Cmd.{Cmd}
-use Rattle.pef_model.specs.declared.command.Cmd.TheVariants.{HLd, HSt, GLd, GSt, Go}
+use Rattle.pef_model.specs.declared.command.Cmd.TheVariants.{HLd, HSt, HSelect, HEnter, GLd, GSt, GIrq, Go}
 use Rattle.pef_model.specs.declared.entry.Answer.{Answer}
 use Rattle.pef_model.specs.declared.entry.Answer.TheVariants.{Done, Val}
 use Rattle.pef_model.specs.Plan.{Plan, plan_of, with_entropy}
@@ -18,7 +20,7 @@ use Rattle.pef_model.specs.Cpu.{CpuPart, start_cpu, next_cpu}
 use Rattle.pef_model.specs.GuestPart.{GuestPart, Meeting, Unbacked, meets, start_part, next_part}
 use Rattle.pef_model.specs.Memory.{writes_of, start_pool, next_pool, start_frame, next_frame, offset_of, either_of}
 use Rattle.pef_model.specs.Guest.{Guest}
-use Rattle.pef_model.specs.Deed.{deed_access, deed_running, deed_gone}
+use Rattle.pef_model.specs.Deed.{deed_access, deed_interrupt, deed_running, deed_gone}
 use Rattle.pef_model.specs.History.{public_state, cpu_after, guest_after, pool_after, ask_of, deed_after, next_entry_by, IsLegal, found_after}
 use Rattle.pef_model.specs.Report.{command_name}
 use Rattle.pef_model.specs.SecretLaw.{open_cmd, open_answer, open_answer_of_guest, SecretsStayIn}
@@ -50,9 +52,14 @@ running_gives_none plan past run l v last hand cmd = by_command cmd where
   by_reach success through out false Unbacked h = cc
   by_reach success through out any m h = cc
 
+  by_interrupt : (gpr : List ℕ) (p : Phase) → open_answer_of_guest (deed_interrupt p gpr ask).answer ≡ (deed_interrupt p gpr ask).answer
+  by_interrupt gpr Normal = refl
+  by_interrupt gpr p = refl
+
   by_running : (cmd : Cmd) → (deed_running plan run g (found_after plan past) free ask cmd).after ≡ ctx.Hv → open_answer_of_guest (deed_running plan run g (found_after plan past) free ask cmd).answer ≡ (deed_running plan run g (found_after plan past) free ask cmd).answer
   by_running (GLd rd gpa) h = by_reach (Val (g.content gpa)) (λ n. Val (found_after plan past n (offset_of plan gpa))) [] free (meets plan g.part gpa) h
   by_running (GSt rs gpa) h = by_reach Done (λ n. Done) (slice_index (g.registers run.vid).gpr rs ∷ []) free (meets plan g.part gpa) h
+  by_running GIrq h = by_interrupt (g.registers run.vid).gpr g.part.phase
   by_running cmd h = cc
 
   by_generation : (cmd : Cmd) (b : Bool) → (if b then deed_running plan run g (found_after plan past) free ask cmd else deed_gone ask).after ≡ ctx.Hv →
@@ -64,6 +71,8 @@ running_gives_none plan past run l v last hand cmd = by_command cmd where
       open_answer_of_guest (deed_after plan past ask cmd (target_in plan (ctx.Guest run) l cmd)).answer ≡ (deed_after plan past ask cmd (target_in plan (ctx.Guest run) l cmd)).answer
   by_command (HLd ra) h = refl
   by_command (HSt ra value) h = refl
+  by_command (HSelect lpid vid) h = refl
+  by_command (HEnter lpid vid value) h = refl
   by_command Go h = refl
   by_command cmd h = by_generation cmd (run.generation == g.part.generation) h
 

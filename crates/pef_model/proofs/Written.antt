@@ -8,7 +8,7 @@ use Rattle.pef_model.specs.declared.state.Work.TheVariants.{Outward}
 use Rattle.pef_model.specs.declared.state.Ctx.{Ctx}
 use Rattle.pef_model.specs.declared.state.Ctx.TheVariants as ctx
 use Rattle.pef_model.specs.declared.command.Cmd.{Cmd}
-use Rattle.pef_model.specs.declared.command.Cmd.TheVariants.{HSt, Go}
+use Rattle.pef_model.specs.declared.command.Cmd.TheVariants.{HSt, GSt, Go}
 use Rattle.pef_model.specs.declared.entry.Answer.{Answer}
 use Rattle.pef_model.specs.declared.entry.Answer.TheVariants.{Done, Step}
 use Rattle.pef_model.specs.Plan.{Plan}
@@ -33,6 +33,7 @@ all_overwritten old bytes same =
 elsewhere : (shift : ℕ) (n m : ℕ) (old : List ℕ) (c : Ctx) (cmd : Cmd) (a : Answer) (bytes : List ℕ) → (m == n) ≡ false → after_writes n old (write_in shift c cmd a bytes m) ≡ old
 elsewhere shift n m old ctx.Hv (HSt ra value) Done bytes other = ap (λ (b : Bool). if b then overwritten old (offset_by shift ra) (big_bytes 8 value) else old) other
 elsewhere shift n m old (ctx.Uv (Outward move)) Go Step bytes other = ap (λ (b : Bool). if b then overwritten old 0 bytes else old) other
+elsewhere shift n m old (ctx.Guest run) (GSt rs gpa) Done bytes other = ap (λ (b : Bool). if b then overwritten old (offset_by shift gpa) bytes else old) other
 elsewhere shift n m old c cmd a bytes other = refl
 
 pub untouched : (shift : ℕ) (n : ℕ) (old : List ℕ) (c : Ctx) (cmd : Cmd) (a : Answer) (bytes : List ℕ) (frame : Option ℕ) → is_number n frame ≡ false → after_writes n old (writes_in shift c cmd a bytes frame) ≡ old

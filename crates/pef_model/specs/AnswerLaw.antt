@@ -7,8 +7,8 @@ use Rattle.pef_model.specs.declared.state.Ctx.TheVariants as ctx
 use Rattle.pef_model.specs.declared.command.Code.{Code}
 use Rattle.pef_model.specs.declared.command.Code.TheVariants.{USuccess, UParameter, UP2, UP3, UP4, UP5, UFunction, UBusy, UPermission, UInvalid}
 use Rattle.pef_model.specs.declared.command.Cmd.{Cmd}
-use Rattle.pef_model.specs.declared.command.Cmd.TheVariants.{HLd, HSt, UPagein, UPageout, UReturn, GLi, GLd, GSt, GIrq}
-use Rattle.pef_model.specs.declared.entry.Exit.TheVariants.{Irq}
+use Rattle.pef_model.specs.declared.command.Cmd.TheVariants.{HLd, HSt, HSelect, HEnter, UPate, UPagein, UPageout, UReturn, GLi, GLd, GSt, GIrq}
+use Rattle.pef_model.specs.declared.entry.Exit.TheVariants.{Normal, Irq}
 use Rattle.pef_model.specs.declared.entry.Answer.{Answer}
 use Rattle.pef_model.specs.declared.entry.Answer.TheVariants.{Done, Val, Ret, Step, Enter, Exit, Again, Gone, Hole, Context}
 use Rattle.pef_model.specs.Plan.{Plan}
@@ -44,6 +44,17 @@ can_answer_hypervisor (HLd ra) (Val value) = true
 can_answer_hypervisor (HLd ra) Hole = true
 can_answer_hypervisor (HSt ra value) Done = true
 can_answer_hypervisor (HSt ra value) Hole = true
+can_answer_hypervisor (HSelect lpid vid) Done = true
+can_answer_hypervisor (HSelect lpid vid) (Ret UParameter) = true
+can_answer_hypervisor (HSelect lpid vid) (Ret UP2) = true
+can_answer_hypervisor (HEnter lpid vid value) Enter = true
+can_answer_hypervisor (HEnter lpid vid value) (Ret UParameter) = true
+can_answer_hypervisor (HEnter lpid vid value) (Ret UP2) = true
+can_answer_hypervisor (UPate lpid dw0 dw1) (Ret UParameter) = true
+can_answer_hypervisor (UPate lpid dw0 dw1) (Ret UPermission) = true
+can_answer_hypervisor (UPate lpid dw0 dw1) (Ret UP2) = true
+can_answer_hypervisor (UPate lpid dw0 dw1) (Ret UP3) = true
+can_answer_hypervisor (UPate lpid dw0 dw1) (Ret USuccess) = true
 can_answer_hypervisor (UPagein lpid src gpa flags order) Step = true
 can_answer_hypervisor (UPagein lpid src gpa flags order) (Ret code) = is_of_page_in code
 can_answer_hypervisor (UPageout lpid dest gpa flags order) Step = true
@@ -70,6 +81,7 @@ can_answer_outward move a = false
 -- whether a command of a vCPU can have an answer: each answers Gone where its guest has ended
 abbrev pub can_answer_vcpu : Cmd → Answer → Bool
 can_answer_vcpu cmd Gone = true
+can_answer_vcpu (UPate lpid dw0 dw1) (Ret UPermission) = true
 can_answer_vcpu (UPagein lpid src gpa flags order) (Ret UPermission) = true
 can_answer_vcpu (UPageout lpid dest gpa flags order) (Ret UPermission) = true
 can_answer_vcpu (UReturn r0 r2 outs) (Ret UInvalid) = true
@@ -81,6 +93,7 @@ can_answer_vcpu (GSt rs gpa) Done = true
 can_answer_vcpu (GSt rs gpa) Hole = true
 can_answer_vcpu (GSt rs gpa) Again = true
 can_answer_vcpu GIrq (Exit Irq) = true
+can_answer_vcpu GIrq (Exit Normal) = true
 can_answer_vcpu cmd a = false
 
 -- whether a command of its CPU's context can have an answer

@@ -1,16 +1,17 @@
 -- Laws of causes: where U_BUSY, Again, Hole, Context and Gone come.
-use Rattle.std.specs.Prelude.{◌≡◌, ◌≢◌, ◌⊎◌, ◌↔◌, ℕ, ◌%◌, ◌≤◌, ◌<◌, Bool, true, false, List, ◌∷◌, Option, Some, None, IsSome, is_some}
+use Rattle.std.specs.Prelude.{◌≡◌, ◌≢◌, ◌⊎◌, ◌↔◌, ℕ, ◌+◌, ◌%◌, ◌≤◌, ◌<◌, Bool, true, false, List, ◌∷◌, Option, Some, None, IsSome, is_some}
 use Rattle.pef_model.specs.declared.state.Phase.{Phase}
-use Rattle.pef_model.specs.declared.state.Phase.TheVariants.{Starting, Normal}
+use Rattle.pef_model.specs.declared.state.Phase.TheVariants.{Absent, Starting, Normal}
 use Rattle.pef_model.specs.declared.state.Kind.{Kind}
-use Rattle.pef_model.specs.declared.state.Kind.TheVariants.{Invalid, Secure}
+use Rattle.pef_model.specs.declared.state.Kind.TheVariants.{Invalid, Secure, Shared}
 use Rattle.pef_model.specs.declared.state.Run.{Run}
 use Rattle.pef_model.specs.declared.state.Ctx.{Ctx}
 use Rattle.pef_model.specs.declared.state.Ctx.TheVariants as ctx
 use Rattle.pef_model.specs.declared.command.TheConstants.{PAGE_IN_FLAGS}
-use Rattle.pef_model.specs.declared.command.Code.TheVariants.{UBusy}
+use Rattle.pef_model.specs.declared.command.Code.TheVariants.{USuccess, UBusy}
 use Rattle.pef_model.specs.declared.command.Cmd.{Cmd}
-use Rattle.pef_model.specs.declared.command.Cmd.TheVariants.{HLd, HSt, UPagein, UPageout, UReturn}
+use Rattle.pef_model.specs.declared.command.Cmd.TheVariants.{HLd, HSt, HSelect, HEnter, UPate, UPagein, UPageout, UReturn, GIrq}
+use Rattle.pef_model.specs.declared.entry.Exit.TheVariants as exit
 use Rattle.pef_model.specs.declared.entry.Answer.TheVariants as answer
 use Rattle.pef_model.specs.Plan.{Plan, IsWithin}
 use Rattle.pef_model.specs.Event.{Event}
@@ -20,6 +21,7 @@ use Rattle.pef_model.specs.Cpu.{CpuPart}
 use Rattle.pef_model.specs.GuestPart.{Page, GuestPart, page_of, has_place, is_shared}
 use Rattle.pef_model.specs.PageOut.{may_page_out_in, can_go_out, has_frame, has_page}
 use Rattle.pef_model.specs.PageIn.{may_page_in_in, may_come_in}
+use Rattle.pef_model.specs.Entry.{can_be_entered}
 use Rattle.pef_model.specs.Deed.{may_return_in, is_waiting}
 use Rattle.pef_model.specs.History.{cpu_after, pool_after, Extends, part_after, page_after, ChangesNoMemory}
 
@@ -108,6 +110,35 @@ EntersExactlyWhere =
     (plan : Plan) (past : List Event) (e : Event) (r0 r2 : ℕ) (outs : List ℕ) → Extends plan past e → e.saw.before ≡ ctx.Hv → e.trace.cmd ≡ UReturn r0 r2 outs →
     (e.trace.answer ≡ answer.Enter) ↔ ((may_return_in (part_after plan past e.saw.lpid).phase ≡ true) × (is_waiting ((part_after plan past e.saw.lpid).vcpus e.saw.vid).state ≡ true))
 
+-- h.enter enters exactly where it names a vCPU of a guest of the machine that is Normal, and that vCPU hasn't run or waits
+abbrev pub EntersNormalExactlyWhere : Type 0
+EntersNormalExactlyWhere =
+    (plan : Plan) (past : List Event) (e : Event) (lpid vid value : ℕ) → Extends plan past e → e.saw.before ≡ ctx.Hv → e.trace.cmd ≡ HEnter lpid vid value →
+    (e.trace.answer ≡ answer.Enter)
+    ↔ (IsWithin 1 plan.guests lpid × ((part_after plan past lpid).phase ≡ Normal) × (vid < plan.vcpus) × (can_be_entered ((part_after plan past lpid).vcpus vid).state ≡ true))
+
+-- a partition entry may be written of a guest of the machine that is Absent or Normal
+pub record MayBeWritten (plan : Plan) (past : List Event) (lpid dw0 dw1 : ℕ) : Type 0 where
+  pub guest : IsWithin 1 plan.guests lpid
+  pub phase : ((part_after plan past lpid).phase ≡ Absent) ⊎ ((part_after plan past lpid).phase ≡ Normal)
+  -- from a normal frame on
+  pub frame : has_frame plan dw0 ≡ true
+  -- with at most as many pages as a guest has, and a normal frame for each
+  pub pages : dw1 ≤ plan.pages
+  pub frames : frame_of plan dw0 + dw1 ≤ plan.normal
+
+-- UV_WRITE_PATE of the hypervisor writes it exactly there
+abbrev pub WritesExactlyWhere : Type 0
+WritesExactlyWhere =
+    (plan : Plan) (past : List Event) (e : Event) (lpid dw0 dw1 : ℕ) → Extends plan past e → e.saw.before ≡ ctx.Hv → e.trace.cmd ≡ UPate lpid dw0 dw1 →
+    (e.trace.answer ≡ answer.Ret USuccess) ↔ MayBeWritten plan past lpid dw0 dw1
+
+-- h.select selects exactly a vCPU of a guest of the machine
+abbrev pub SelectsExactlyWhere : Type 0
+SelectsExactlyWhere =
+    (plan : Plan) (past : List Event) (e : Event) (lpid vid : ℕ) → Extends plan past e → e.saw.before ≡ ctx.Hv → e.trace.cmd ≡ HSelect lpid vid →
+    (e.trace.answer ≡ answer.Done) ↔ (IsWithin 1 plan.guests lpid × (vid < plan.vcpus))
+
 -- an entry is a load or store of a vCPU at a guest address, under its guest's generation
 pub record IsAccess (plan : Plan) (past : List Event) (e : Event) (run : Run) (gpa : ℕ) : Type 0 where
   pub before : e.saw.before ≡ ctx.Guest run
@@ -147,15 +178,20 @@ is_access_in (ctx.Guest run) cmd = is_some (guest_address_in cmd)
 abbrev pub IsOutside : Plan → ℕ → Type 0
 IsOutside plan ra = (ra % 8 ≢ 0) ⊎ (plan.normal ≤ frame_of plan ra)
 
--- a page of this kind is out of reach: it is Out or Shared, or Invalid and no secure frame is free
+-- a page of this kind is out of reach: it is Out, or Shared without a frame, or Invalid and no secure frame is free
 abbrev pub IsOutOfReach : Kind → ℕ → Type 0
 IsOutOfReach Invalid free = free ≡ 0
 IsOutOfReach Secure free = ⊥
+IsOutOfReach (Shared (Some n) fresh) free = ⊥
 IsOutOfReach other free = Unit {0}
 
 -- an address of a guest that isn't Normal can't be accessed: it is none of a doubleword of a page, or its page is at rest and out of reach
 abbrev pub CannotBeAccessed : Plan → GuestPart → ℕ → ℕ → Type 0
 CannotBeAccessed plan g free gpa = (gpa % 8 ≢ 0) ⊎ ((plan.pages ≤ page_of plan gpa) ⊎ (((g.pages (page_of plan gpa)).mover ≡ None) × IsOutOfReach (g.pages (page_of plan gpa)).kind free))
+
+-- an address is none of a doubleword of a page in a guest's partition entry
+abbrev pub IsOutsideEntry : Plan → GuestPart → ℕ → Type 0
+IsOutsideEntry plan g gpa = (gpa % 8 ≢ 0) ⊎ (g.entry.length_ ≤ page_of plan gpa)
 
 -- where Hole comes
 pub record HoleComes (plan : Plan) (past : List Event) (e : Event) : Type 0 where
@@ -164,11 +200,30 @@ pub record HoleComes (plan : Plan) (past : List Event) (e : Event) : Type 0 wher
   -- at a load or store of a guest that isn't Normal exactly where the address can't be accessed
   pub guest : (run : Run) (gpa : ℕ) → IsAccess plan past e run gpa → (part_after plan past run.lpid).phase ≢ Normal →
       (e.trace.answer ≡ answer.Hole) ↔ CannotBeAccessed plan (part_after plan past run.lpid) (pool_after plan past) gpa
+  -- at one of a Normal guest exactly outside its partition entry
+  pub normal : (run : Run) (gpa : ℕ) → IsAccess plan past e run gpa → (part_after plan past run.lpid).phase ≡ Normal →
+      (e.trace.answer ≡ answer.Hole) ↔ IsOutsideEntry plan (part_after plan past run.lpid) gpa
   -- at no other entry
   pub others : e.trace.answer ≡ answer.Hole → is_access_in e.saw.before e.trace.cmd ≡ true
 
 abbrev pub HoleExactlyWhere : Type 0
 HoleExactlyWhere = (plan : Plan) (past : List Event) (e : Event) → Extends plan past e → HoleComes plan past e
+
+-- an entry is an interrupt of a vCPU, under its guest's generation, in a guest of such a phase
+pub record Interrupts (IsIn : Phase → Type 0) (plan : Plan) (past : List Event) (e : Event) : Type 0 where
+  pub run : Run
+  pub before : e.saw.before ≡ ctx.Guest run
+  pub cmd_is : e.trace.cmd ≡ GIrq
+  pub generation : run.generation ≡ (part_after plan past run.lpid).generation
+  pub phase : IsIn (part_after plan past run.lpid).phase
+
+-- where a guest leaves: one that is Normal exactly so, by an interrupt, and every other so
+pub record ExitComes (plan : Plan) (past : List Event) (e : Event) : Type 0 where
+  pub normal : (e.trace.answer ≡ answer.Exit exit.Normal) ↔ Interrupts (λ phase. phase ≡ Normal) plan past e
+  pub irq : (e.trace.answer ≡ answer.Exit exit.Irq) ↔ Interrupts (λ phase. phase ≢ Normal) plan past e
+
+abbrev pub ExitsExactlyWhere : Type 0
+ExitsExactlyWhere = (plan : Plan) (past : List Event) (e : Event) → Extends plan past e → ExitComes plan past e
 
 -- where Context comes: exactly at a command that is none of its CPU's context, and nothing changes there
 pub record ContextComes (plan : Plan) (past : List Event) (e : Event) : Type 0 where

@@ -1,7 +1,8 @@
 -- Laws of whole histories: each vCPU runs on one CPU, and the frames are counted.
-use Rattle.std.specs.Prelude.{◌≡◌, ◌≢◌, ℕ, ◌+◌, ◌<◌, ◌≤◌, ◌==◌, if◌then◌else◌, List, ◌∷◌, filter, length, take, Some}
+use Rattle.std.specs.Prelude.{◌≡◌, ◌≢◌, ℕ, ◌+◌, ◌<◌, ◌≤◌, ◌==◌, if◌then◌else◌, List, ◌∷◌, filter, length, take, Some, None, true}
 use Rattle.std.specs.List.{count_by}
 use Rattle.pef_model.specs.declared.state.Phase.TheVariants.{Normal, Secure}
+use Rattle.pef_model.specs.declared.state.Kind.TheVariants.{Invalid}
 use Rattle.pef_model.specs.declared.state.VState.TheVariants.{Running}
 use Rattle.pef_model.specs.declared.state.Run.{Run}
 use Rattle.pef_model.specs.declared.state.Ctx.TheVariants as ctx
@@ -9,7 +10,8 @@ use Rattle.pef_model.specs.Plan.{Plan}
 use Rattle.pef_model.specs.Event.{Event}
 use Rattle.pef_model.specs.Target.{vcpu_in}
 use Rattle.pef_model.specs.GuestPart.{is_secure, frames_in, sum_below}
-use Rattle.pef_model.specs.History.{cpu_after, pool_after, IsLegal, part_after}
+use Rattle.pef_model.specs.Entry.{may_write_in}
+use Rattle.pef_model.specs.History.{cpu_after, pool_after, IsLegal, part_after, page_after}
 
 -- a CPU runs the vCPU whose step is next on it: the one that its context names, or the one whose call is in progress
 pub record RunsItsVcpu (plan : Plan) (past : List Event) (n : ℕ) (run : Run) : Type 0 where
@@ -61,3 +63,11 @@ frames_held plan past lpid = frames_in plan (part_after plan past lpid)
 abbrev pub FramesAreCounted : Type 0
 FramesAreCounted =
     (plan : Plan) (past : List Event) → 0 < plan.guests → IsLegal plan past → pool_after plan past + sum_below plan.guests (λ i. frames_held plan past (i + 1)) ≡ plan.secure
+
+-- a guest that is Absent or in normal memory has no secure frame and no page on the move: each of its pages is Invalid at rest
+pub record IsPlain (plan : Plan) (past : List Event) (lpid gfn : ℕ) : Type 0 where
+  pub kind : (page_after plan past lpid gfn).kind ≡ Invalid
+  pub mover : (page_after plan past lpid gfn).mover ≡ None
+
+abbrev pub EachNormalGuestIsPlain : Type 0
+EachNormalGuestIsPlain = (plan : Plan) (past : List Event) (lpid gfn : ℕ) → IsLegal plan past → may_write_in (part_after plan past lpid).phase ≡ true → IsPlain plan past lpid gfn

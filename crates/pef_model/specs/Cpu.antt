@@ -4,7 +4,7 @@ use Rattle.pef_model.specs.declared.state.Run.{Run}
 use Rattle.pef_model.specs.declared.state.Ctx.{Ctx}
 use Rattle.pef_model.specs.declared.state.Ctx.TheVariants as ctx
 use Rattle.pef_model.specs.declared.command.Cmd.{Cmd}
-use Rattle.pef_model.specs.declared.command.Cmd.TheVariants.{HLd}
+use Rattle.pef_model.specs.declared.command.Cmd.TheVariants.{HLd, HSelect, HEnter}
 use Rattle.pef_model.specs.declared.entry.Exit.{Exit}
 use Rattle.pef_model.specs.declared.entry.Exit.TheVariants as exit
 use Rattle.pef_model.specs.declared.entry.Answer.{Answer}
@@ -45,10 +45,13 @@ own_after_ultracall (Some call) own cmd a = own_after_call (loaded own cmd) a
 -- the hypervisor's registers after a command of its own
 abbrev pub own_after : List ℕ → Cmd → Answer → List ℕ
 own_after own (HLd ra) a = own_after_load own a
+own_after own (HSelect lpid vid) a = own_after_call own a
+own_after own (HEnter lpid vid value) a = own_after_call own a
 own_after own cmd a = own_after_ultracall (call_of cmd) own cmd a
 
 -- what the CPU's registers show the hypervisor where a guest leaves, which lets out these values
 abbrev pub left_registers : Exit → List ℕ → List ℕ
+left_registers exit.Normal shown = shown
 left_registers exit.Irq shown = interrupt_registers
 
 -- the last answer after a step of the hypervisor: Context isn't kept
@@ -68,9 +71,14 @@ cpu_of_call cpu (Some run) a shown = cpu_of_guest cpu run a shown
 cpu_of_call cpu None (answer.Ret code) shown = record cpu { own = with_code cpu.own code; last = answer.Ret code }
 cpu_of_call cpu None a shown = cpu
 
+-- the CPU after a command of the hypervisor, but for registers and last answer: one that selects a vCPU has it selected
+abbrev pub selecting : CpuPart → Cmd → Answer → CpuPart
+selecting cpu (HSelect lpid vid) answer.Done = record cpu { lpid = lpid; vid = vid }
+selecting cpu cmd a = cpu
+
 -- by the context before the step
 abbrev pub cpu_in : Ctx → CpuPart → Cmd → Answer → List ℕ → CpuPart
-cpu_in ctx.Hv cpu cmd a shown = record cpu { own = own_after cpu.own cmd a; last = last_after cpu.last a }
+cpu_in ctx.Hv cpu cmd a shown = record (selecting cpu cmd a) { own = own_after cpu.own cmd a; last = last_after cpu.last a }
 cpu_in (ctx.Uv work) cpu cmd a shown = cpu_of_call cpu (caller work) a shown
 cpu_in (ctx.Guest run) cpu cmd a shown = cpu_of_guest cpu run a shown
 

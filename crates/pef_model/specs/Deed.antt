@@ -1,5 +1,5 @@
 -- What a step does, row by row: its answer, and what it shows.
-use Rattle.std.specs.Prelude.{ℕ, ◌==◌, Bool, true, false, ◌&&◌, if◌then◌else◌, List, [], ◌∷◌, Option, Some, None, slice_index}
+use Rattle.std.specs.Prelude.{ℕ, ◌==◌, nat_lt, nat_le, Bool, true, false, not, ◌&&◌, if◌then◌else◌, List, [], ◌∷◌, Option, Some, None, slice_index}
 use Rattle.pef_model.specs.declared.state.Phase.{Phase}
 use Rattle.pef_model.specs.declared.state.Phase.TheVariants as phase
 use Rattle.pef_model.specs.declared.state.VState.{VState}
@@ -13,19 +13,21 @@ use Rattle.pef_model.specs.declared.state.Ctx.TheVariants as ctx
 use Rattle.pef_model.specs.declared.command.Code.{Code}
 use Rattle.pef_model.specs.declared.command.Code.TheVariants.{USuccess, UParameter, UP2, UBusy, UPermission, UInvalid}
 use Rattle.pef_model.specs.declared.command.Cmd.{Cmd}
-use Rattle.pef_model.specs.declared.command.Cmd.TheVariants.{HLd, HSt, UPagein, UPageout, UReturn, GLi, GLd, GSt, GIrq}
+use Rattle.pef_model.specs.declared.command.Cmd.TheVariants.{HLd, HSt, HSelect, HEnter, UPate, UPagein, UPageout, UReturn, GLi, GLd, GSt, GIrq}
 use Rattle.pef_model.specs.declared.entry.Exit.TheVariants as exit
 use Rattle.pef_model.specs.declared.entry.Answer.{Answer}
 use Rattle.pef_model.specs.declared.entry.Answer.TheVariants as answer
 use Rattle.pef_model.specs.declared.entry.PoolSaw.{PoolSaw}
 use Rattle.pef_model.specs.Plan.{Plan}
 use Rattle.pef_model.specs.Target.{Ask, frame_of}
-use Rattle.pef_model.specs.GuestPart.{GuestPart, Meeting, Moves, Private, Unbacked, meets, page_of}
+use Rattle.pef_model.specs.GuestPart.{GuestPart, Meeting, Moves, Private, Normal, Unbacked, meets, page_of}
 use Rattle.pef_model.specs.Guest.{Guest}
 use Rattle.pef_model.specs.Registers.{Call, call_of, arguments}
 use Rattle.pef_model.specs.Memory.{offset_of}
 use Rattle.pef_model.specs.PageOut.{page_out_code, bytes_out}
 use Rattle.pef_model.specs.PageIn.{page_in_operands, is_last_sealed}
+use Rattle.pef_model.specs.Entry.{write_code, enter_code}
+use Rattle.pef_model.specs.Seal.{doublewords}
 use Rattle.pef_model.specs.Doubleword.{doubleword}
 
 -- what a step does at its target: the answer, the context after it, the values that the guest lets out, the pool, the frame, the bytes
@@ -50,10 +52,20 @@ taking deed false = record deed { pool = Some (record { any = false; taken = 0; 
 abbrev pub giving : Deed → ℕ → Deed
 giving deed count = record deed { pool = Some (record { any = false; taken = 0; given = count }) }
 
--- the hypervisor's load or store that has no frame is Hole, its call that names no guest U_PARAMETER; every other command that aims at nothing is one of another context
+-- a vCPU is selected where there is one of that number
+abbrev pub answer_select : Plan → ℕ → ℕ → Answer
+answer_select plan lpid vid =
+    if not (nat_le 1 lpid && nat_le lpid plan.guests) then answer.Ret UParameter
+    else if not (nat_lt vid plan.vcpus) then answer.Ret UP2
+    else answer.Done
+
+-- the hypervisor's load or store that has no frame is Hole, what it names that is no guest U_PARAMETER; every other command that aims at nothing is one of another context
 abbrev pub answer_alone : Plan → Ctx → Cmd → Answer
 answer_alone plan ctx.Hv (HLd ra) = answer.Hole
 answer_alone plan ctx.Hv (HSt ra value) = answer.Hole
+answer_alone plan ctx.Hv (HSelect lpid vid) = answer_select plan lpid vid
+answer_alone plan ctx.Hv (HEnter lpid vid value) = answer.Ret UParameter
+answer_alone plan ctx.Hv (UPate lpid dw0 dw1) = answer.Ret UParameter
 answer_alone plan ctx.Hv (UPagein lpid src gpa flags order) = answer.Ret UParameter
 answer_alone plan ctx.Hv (UPageout lpid dest gpa flags order) = answer.Ret UParameter
 answer_alone plan before cmd = answer.Context
@@ -174,6 +186,19 @@ deed_return g ask =
     then record (answering ask answer.Enter) { after = ctx.Guest (record { lpid = ask.lpid; vid = ask.vid; generation = g.generation }) }
     else answering ask (answer.Ret UInvalid)
 
+-- UV_WRITE_PATE of the hypervisor
+abbrev pub deed_write : Plan → GuestPart → Ask → ℕ → ℕ → Deed
+deed_write plan g ask dw0 dw1 = answering ask (answer.Ret (write_code plan g dw0 dw1))
+
+-- h.enter: the vCPU runs, if it is one of a guest in normal memory that hasn't run or waits
+abbrev pub deed_enter : Plan → GuestPart → Ask → ℕ → ℕ → Deed
+deed_enter plan g ask lpid vid =
+    returning ask (enter_code plan g vid) (record (answering ask answer.Enter) { after = ctx.Guest (record { lpid = lpid; vid = vid; generation = g.generation }) })
+
+-- an access in a normal frame: it lets out what it stores, which is its bytes
+abbrev pub deed_through : Ask → Answer → List ℕ → ℕ → Deed
+deed_through ask a shown n = record (answering ask a) { shown = shown; frame = Some n; bytes = doublewords shown }
+
 -- an access that backs its page where a frame is free
 abbrev pub deed_backing : Ask → Answer → Bool → Deed
 deed_backing ask success true = taking (answering ask success) true
@@ -184,11 +209,13 @@ abbrev pub deed_access : Ask → Answer → (ℕ → Answer) → List ℕ → Bo
 deed_access ask success through shown any Private = answering ask success
 deed_access ask success through shown any Unbacked = deed_backing ask success any
 deed_access ask success through shown any Moves = answering ask answer.Again
+deed_access ask success through shown any (Normal n) = deed_through ask (through n) shown n
 deed_access ask success through shown any met = answering ask answer.Hole
 
--- an interrupt takes the guest from the CPU, and lets nothing out
-abbrev pub deed_interrupt : Ask → Deed
-deed_interrupt ask = record (answering ask (answer.Exit exit.Irq)) { after = ctx.Hv }
+-- an interrupt takes the guest from the CPU: one in normal memory lets all its registers out, and every other nothing
+abbrev pub deed_interrupt : Phase → List ℕ → Ask → Deed
+deed_interrupt phase.Normal gpr ask = record (answering ask (answer.Exit exit.Normal)) { after = ctx.Hv; shown = gpr }
+deed_interrupt other gpr ask = record (answering ask (answer.Exit exit.Irq)) { after = ctx.Hv }
 
 -- the code with which a call of a guest is refused that is the hypervisor's: UV_RETURN takes up no vCPU there, and a guest has no right to the others
 abbrev pub refused_with : Cmd → Code
@@ -205,11 +232,13 @@ abbrev pub deed_running : Plan → Run → Guest → (ℕ → ℕ → ℕ) → B
 deed_running plan run g found any ask (GLi rd value) = answering ask answer.Done
 deed_running plan run g found any ask (GLd rd gpa) = deed_access ask (answer.Val (g.content gpa)) (λ n. answer.Val (found n (offset_of plan gpa))) [] any (meets plan g.part gpa)
 deed_running plan run g found any ask (GSt rs gpa) = deed_access ask answer.Done (λ n. answer.Done) (slice_index (g.registers run.vid).gpr rs ∷ []) any (meets plan g.part gpa)
-deed_running plan run g found any ask GIrq = deed_interrupt ask
+deed_running plan run g found any ask GIrq = deed_interrupt g.part.phase (g.registers run.vid).gpr ask
 deed_running plan run g found any ask cmd = deed_refused ask cmd (call_of cmd)
 
 -- a command of the hypervisor at a guest
 abbrev pub deed_hypervisor : Plan → Guest → Bool → Ask → Cmd → Deed
+deed_hypervisor plan g any ask (HEnter lpid vid value) = deed_enter plan g.part ask lpid vid
+deed_hypervisor plan g any ask (UPate lpid dw0 dw1) = deed_write plan g.part ask dw0 dw1
 deed_hypervisor plan g any ask (UPagein lpid src gpa flags order) = deed_page_in plan g.part any ask lpid src gpa flags order
 deed_hypervisor plan g any ask (UPageout lpid dest gpa flags order) = deed_page_out plan g ask lpid dest gpa flags order
 deed_hypervisor plan g any ask (UReturn r0 r2 outs) = deed_return g.part ask

@@ -5,14 +5,14 @@ use Rattle.pef_model.specs.declared.state.Ctx.{Ctx}
 use Rattle.pef_model.specs.declared.state.Ctx.TheVariants as ctx
 use Rattle.pef_model.specs.declared.state.Regs.{Regs}
 use Rattle.pef_model.specs.declared.command.Cmd.{Cmd}
-use Rattle.pef_model.specs.declared.command.Cmd.TheVariants.{UReturn, GLi, GLd, GSt}
+use Rattle.pef_model.specs.declared.command.Cmd.TheVariants.{UPate, UReturn, GLi, GLd, GSt}
 use Rattle.pef_model.specs.declared.entry.Answer.{Answer}
 use Rattle.pef_model.specs.declared.entry.Answer.TheVariants as answer
 use Rattle.pef_model.specs.Plan.{Plan}
 use Rattle.pef_model.specs.Event.{Event}
 use Rattle.pef_model.specs.Target.{caller}
 use Rattle.pef_model.specs.Registers.{Call, fresh_registers, call_of, loaded, with_code}
-use Rattle.pef_model.specs.GuestPart.{GuestPart, start_part, put, next_part}
+use Rattle.pef_model.specs.GuestPart.{GuestPart, start_part, put, ends_guest, next_part}
 use Rattle.pef_model.specs.Clash.{clashes}
 
 -- a guest whole: its public part, the doubleword at each address, the registers of each vCPU, the entropy words that are left, and whether none of its entries was a digest collision
@@ -59,6 +59,7 @@ entered_at regs r2 = if r2 == 0 then regs else record regs { nip = r2; srr0 = re
 -- the registers of a guest's vCPUs after a step of the hypervisor that has this vCPU selected
 abbrev pub registers_of_hypervisor : Guest → ℕ → Answer → Cmd → ℕ → Regs
 registers_of_hypervisor g vid answer.Enter (UReturn r0 r2 outs) = put g.registers vid (entered_at (g.registers vid) r2)
+registers_of_hypervisor g vid (answer.Ret code) (UPate lpid dw0 dw1) = if ends_guest code dw1 then (λ n. fresh_registers) else g.registers
 registers_of_hypervisor g vid a cmd = g.registers
 
 -- after a step of a call in progress, by the vCPU whose call it is: one that comes back has its code in R3

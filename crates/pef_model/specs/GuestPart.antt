@@ -15,9 +15,9 @@ use Rattle.pef_model.specs.declared.state.Work.TheVariants.{Inward, Outward}
 use Rattle.pef_model.specs.declared.state.Ctx.{Ctx}
 use Rattle.pef_model.specs.declared.state.Ctx.TheVariants as ctx
 use Rattle.pef_model.specs.declared.command.Cmd.{Cmd}
-use Rattle.pef_model.specs.declared.command.Cmd.TheVariants.{UPagein, UPageout, UReturn, GLd, GSt, GIrq}
+use Rattle.pef_model.specs.declared.command.Cmd.TheVariants.{HEnter, UPate, UPagein, UPageout, UReturn, GLd, GSt, GIrq}
+use Rattle.pef_model.specs.declared.command.Code.{Code}
 use Rattle.pef_model.specs.declared.command.Code.TheVariants.{USuccess, UP2}
-use Rattle.pef_model.specs.declared.entry.Exit.TheVariants as exit
 use Rattle.pef_model.specs.declared.entry.Answer.{Answer}
 use Rattle.pef_model.specs.declared.entry.Answer.TheVariants as answer
 use Rattle.pef_model.specs.declared.entry.PoolSaw.{PoolSaw}
@@ -237,11 +237,31 @@ with_page_coming g gfn cpu = record g { pages = put g.pages gfn (begun_in (g.pag
 abbrev pub with_page_refused : GuestPart → ℕ → GuestPart
 with_page_refused g gfn = record g { pages = put g.pages gfn (refused_in (g.pages gfn)) }
 
+-- whether UV_WRITE_PATE of this length, by the code with which it comes back, ends its guest
+abbrev pub ends_guest : Code → ℕ → Bool
+ends_guest USuccess dw1 = dw1 == 0
+ends_guest code dw1 = false
+
+-- a guest that ends in normal memory: its generation rises, and no vCPU of it runs or waits
+abbrev pub ended_normal : GuestPart → GuestPart
+ended_normal g = record g { phase = phase.Absent; generation = g.generation + 1; vcpus = λ vid. new_vcpu vstate.Idle }
+
+-- a partition entry is set: with a page the guest is in normal memory, and with none it ends
+abbrev pub with_entry : GuestPart → ℕ → ℕ → GuestPart
+with_entry g dw0 dw1 = if dw1 == 0 then ended_normal (record g { entry = record { base = dw0; length_ = dw1 } }) else record g { entry = record { base = dw0; length_ = dw1 }; phase = phase.Normal }
+
+-- after UV_WRITE_PATE, by the code with which it comes back
+abbrev pub part_of_write : GuestPart → Code → ℕ → ℕ → GuestPart
+part_of_write g USuccess dw0 dw1 = with_entry g dw0 dw1
+part_of_write g code dw0 dw1 = g
+
 -- after a step of the hypervisor
 abbrev pub part_of_hypervisor : Plan → GuestPart → ℕ → ℕ → List ℕ → Answer → Cmd → GuestPart
 part_of_hypervisor plan g vid cpu bytes answer.Step (UPageout lpid dest gpa flags order) = with_page_leaving g (page_of plan gpa) cpu bytes
 part_of_hypervisor plan g vid cpu bytes answer.Step (UPagein lpid src gpa flags order) = with_page_coming g (page_of plan gpa) cpu
 part_of_hypervisor plan g vid cpu bytes answer.Enter (UReturn r0 r2 outs) = with_running_vcpu g vid cpu
+part_of_hypervisor plan g vid cpu bytes answer.Enter (HEnter lpid named value) = with_running_vcpu g named cpu
+part_of_hypervisor plan g vid cpu bytes (answer.Ret code) (UPate lpid dw0 dw1) = part_of_write g code dw0 dw1
 part_of_hypervisor plan g vid cpu bytes a cmd = g
 
 -- after a step of a call in progress
@@ -260,7 +280,7 @@ part_of_access g gfn None = g
 abbrev pub part_of_guest : Plan → GuestPart → ℕ → Answer → Cmd → Option PoolSaw → GuestPart
 part_of_guest plan g vid (answer.Val value) (GLd rd gpa) pool = part_of_access g (page_of plan gpa) pool
 part_of_guest plan g vid answer.Done (GSt rs gpa) pool = part_of_access g (page_of plan gpa) pool
-part_of_guest plan g vid (answer.Exit exit.Irq) GIrq pool = with_parked_vcpu g vid pending.Irq
+part_of_guest plan g vid (answer.Exit exit) GIrq pool = with_parked_vcpu g vid pending.Irq
 part_of_guest plan g vid a cmd pool = g
 
 -- by the context before the step

@@ -11,6 +11,7 @@ pub mod GuestPart
 pub mod Memory
 pub mod PageOut
 pub mod PageIn
+pub mod Entry
 pub mod Deed
 pub mod History
 pub mod Words
@@ -37,6 +38,7 @@ pub mod Alike
 pub mod SeenReport
 pub mod PairLaw
 pub mod NameLaw
+pub mod EntryLaw
 pub mod CauseLaw
 pub mod OldMoveLaw
 pub mod ToldLaw

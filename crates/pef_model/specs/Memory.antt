@@ -3,7 +3,7 @@ use Rattle.std.specs.Prelude.{ℕ, ◌+◌, ◌-◌, ◌%◌, ◌^◌, ◌==◌,
 use Rattle.pef_model.specs.declared.state.Ctx.{Ctx}
 use Rattle.pef_model.specs.declared.state.Ctx.TheVariants as ctx
 use Rattle.pef_model.specs.declared.command.Cmd.{Cmd}
-use Rattle.pef_model.specs.declared.command.Cmd.TheVariants.{HSt}
+use Rattle.pef_model.specs.declared.command.Cmd.TheVariants.{HSt, GSt}
 use Rattle.pef_model.specs.declared.entry.Answer.{Answer}
 use Rattle.pef_model.specs.declared.entry.Answer.TheVariants as answer
 use Rattle.pef_model.specs.declared.entry.PoolSaw.{PoolSaw}
@@ -48,6 +48,7 @@ pub record Write : Type 0 where
 -- what a step at this normal frame writes there, by the page shift: a store its doubleword, a copy the entry's bytes
 abbrev pub write_in : ℕ → Ctx → Cmd → Answer → List ℕ → ℕ → List Write
 write_in shift ctx.Hv (HSt ra value) answer.Done bytes n = record { frame = n; offset = offset_by shift ra; bytes = big_bytes 8 value } ∷ []
+write_in shift (ctx.Guest run) (GSt rs gpa) answer.Done bytes n = record { frame = n; offset = offset_by shift gpa; bytes = bytes } ∷ []
 write_in shift before cmd a bytes n = if is_copying before cmd a then record { frame = n; offset = 0; bytes = bytes } ∷ [] else []
 
 -- what a step writes into the normal frame that it tells

@@ -1,10 +1,11 @@
 -- Laws of pages on the move, and of what is sealed.
-use Rattle.std.specs.Prelude.{◌≡◌, ◌≢◌, ℕ, ◌+◌, ◌/◌, ◌%◌, ◌^◌, ◌<◌, ◌↔◌, true, false, List, ◌∷◌, ◌++◌, length, Some, IsSome, option_map}
+use Rattle.std.specs.Prelude.{◌≡◌, ◌≢◌, ℕ, ◌+◌, ◌/◌, ◌%◌, ◌^◌, ◌<◌, ◌≤◌, ◌↔◌, true, false, List, ◌∷◌, ◌++◌, length, Some, IsSome, option_map}
 use Rattle.std.specs.List.{count_by}
 use Rattle.pef_model.specs.declared.config.Config.{Config}
 use Rattle.pef_model.specs.declared.state.Tag.{Tag}
 use Rattle.pef_model.specs.declared.state.Phase.TheVariants as phase
 use Rattle.pef_model.specs.declared.state.Kind.TheVariants.{Secure, Out}
+use Rattle.pef_model.specs.declared.state.Way.{Way}
 use Rattle.pef_model.specs.declared.state.Way.TheVariants as way
 use Rattle.pef_model.specs.declared.state.Mover.{Mover}
 use Rattle.pef_model.specs.declared.state.Move.{Move}
@@ -57,6 +58,11 @@ pub record IsMovedBy (plan : Plan) (past : List Event) (lpid gfn : ℕ) (mover :
 abbrev pub EachMoverHasItsCall : Type 0
 EachMoverHasItsCall =
     (plan : Plan) (past : List Event) (lpid gfn : ℕ) (mover : Mover) → IsLegal plan past → (page_after plan past lpid gfn).mover ≡ Some mover → IsMovedBy plan past lpid gfn mover
+
+-- a call in progress names a generation that its guest has reached
+abbrev pub EachMoveIsOfAGeneration : Type 0
+EachMoveIsOfAGeneration =
+    (plan : Plan) (past : List Event) (n : ℕ) (way : Way) (move : Move) → IsLegal plan past → (cpu_after plan n past).ctx ≡ ctx.Uv (work_by way move) → move.generation ≤ (guest_after plan move.lpid past).part.generation
 
 -- what a page has beside its kind
 pub record KeepsWhatIsSealed (page : Page) : Type 0 where

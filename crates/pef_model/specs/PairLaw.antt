@@ -1,7 +1,7 @@
 -- Pairs of runs, computed: one in which a secret differs, and one in which the hypervisor's own values do.
 use Rattle.std.specs.Prelude.{◌≡◌, ◌≢◌, ℕ, true, [], ◌∷◌, length, replicate}
 use Rattle.pef_model.specs.declared.config.Config.{Config}
-use Rattle.pef_model.specs.declared.command.Cmd.TheVariants.{HLd, HSt, UReturn, GLi, GLd, GSt, GIrq}
+use Rattle.pef_model.specs.declared.command.Cmd.TheVariants.{HLd, HSt, HEnter, UPate, UReturn, GLi, GLd, GSt, GIrq}
 use Rattle.pef_model.specs.Plan.{plan_of}
 use Rattle.pef_model.specs.Script.{Script}
 use Rattle.pef_model.specs.Run.{run_of}
@@ -49,6 +49,33 @@ open_script value = record { config = small_config; lines = line_at 1 0 (HSt 0x1
 -- where the hypervisor's own values differ, the views do
 abbrev pub ViewShowsStores : Type 0
 ViewShowsStores = view (plan_of small_config) (run_of (open_script 7)) ≢ view (plan_of small_config) (run_of (open_script 9))
+
+-- a guest in normal memory stores a value, and leaves with another in a register
+abbrev pub normal_pair : ℕ → ℕ → Script
+normal_pair stored kept = record {
+  config = small_config;
+  lines = line_at 1 0 (UPate 2 0x100 1) ∷ line_at 2 0 (HEnter 2 0 0) ∷ line_at 3 0 (GLi 20 stored) ∷ line_at 4 0 (GSt 20 0x8) ∷ line_at 5 0 (GLi 20 kept) ∷ line_at 6 0 GIrq ∷ [];
+}
+
+-- it hides neither: the scripts differ in secrets alone, and the views differ where what is stored does, and where what is kept does
+pub record NormalGuestsHideNothing : Type 0 where
+  pub scripts : DifferInSecrets (normal_pair 7 5) (normal_pair 9 6)
+  pub stored : view (plan_of small_config) (run_of (normal_pair 7 5)) ≢ view (plan_of small_config) (run_of (normal_pair 9 5))
+  pub kept : view (plan_of small_config) (run_of (normal_pair 7 5)) ≢ view (plan_of small_config) (run_of (normal_pair 7 6))
+
+-- a guest in normal memory has a secret in a register, and another value there before it stores and leaves
+abbrev pub normal_secret : ℕ → Script
+normal_secret secret = record {
+  config = small_config;
+  lines = line_at 1 0 (UPate 2 0x100 1) ∷ line_at 2 0 (HEnter 2 0 0) ∷ line_at 3 0 (GLi 20 secret) ∷ line_at 4 0 (GLi 20 5) ∷ line_at 5 0 (GSt 20 0x8) ∷ line_at 6 0 GIrq ∷ [];
+}
+
+-- what it doesn't let out stays in: the runs are alike, and show the hypervisor the same
+pub record WhatIsNotLetOutStaysIn : Type 0 where
+  pub scripts : DifferInSecrets (normal_secret 7) (normal_secret 9)
+  pub apart : normal_secret 7 ≢ normal_secret 9
+  pub alike : IsAlike small_config (run_of (normal_secret 7)) small_config (run_of (normal_secret 9))
+  pub seen : view (plan_of small_config) (run_of (normal_secret 7)) ≡ view (plan_of small_config) (run_of (normal_secret 9))
 
 -- that configuration with a vault
 abbrev pub vault_config : Config

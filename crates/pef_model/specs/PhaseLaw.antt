@@ -11,11 +11,12 @@ use Rattle.pef_model.specs.declared.state.VState.{VState}
 use Rattle.pef_model.specs.declared.state.VState.TheVariants.{Idle, Fresh, Running, Parked}
 use Rattle.pef_model.specs.declared.state.Ctx.{Ctx}
 use Rattle.pef_model.specs.declared.state.Ctx.TheVariants as ctx
-use Rattle.pef_model.specs.declared.command.Code.TheVariants.{USuccess, UParameter, UP3, UBusy, UInvalid}
+use Rattle.pef_model.specs.declared.command.Code.TheVariants.{USuccess, UParameter, UP2, UP3, UBusy, UPermission, UInvalid}
 use Rattle.pef_model.specs.declared.command.Cmd.{Cmd}
-use Rattle.pef_model.specs.declared.command.Cmd.TheVariants.{GLd}
+use Rattle.pef_model.specs.declared.command.Cmd.TheVariants.{HEnter, UPate, GLd, GIrq}
+use Rattle.pef_model.specs.declared.entry.Exit.TheVariants as exit
 use Rattle.pef_model.specs.declared.entry.Answer.{Answer}
-use Rattle.pef_model.specs.declared.entry.Answer.TheVariants.{Val, Ret, Step, Enter, Again, Hole, Nothing}
+use Rattle.pef_model.specs.declared.entry.Answer.TheVariants.{Val, Ret, Step, Enter, Exit, Again, Hole, Nothing}
 use Rattle.pef_model.specs.Plan.{Plan, plan_of}
 use Rattle.pef_model.specs.GuestPart.{Page, Meeting, NoPlace, Moves, Private, Normal, Unshared, Unbacked, Away, invalid_page, new_vcpu, start_part, meets}
 use Rattle.pef_model.specs.Guest.{Guest, start_guest}
@@ -51,9 +52,9 @@ guest_in phase page state = record (start_guest small_plan 1) {
   part = record (start_part small_plan 1) { phase = phase; entry = record { base = 0x100; length_ = 2 }; pages = λ gfn. page; vcpus = λ vid. new_vcpu state };
 }
 
--- the answer of a command at a guest in this context, with this vCPU selected, where a secure frame is free or none is
+-- the answer of a command at a guest in this context, where each doubleword of a normal frame is the frame's number, with this vCPU selected, where a secure frame is free or none is
 abbrev pub answer_selecting : Ctx → ℕ → Guest → Bool → Cmd → Answer
-answer_selecting before vid g free cmd = (deed_guest small_plan g (λ n offset. 0) free (record { before = before; lpid = 1; vid = vid; last = Nothing; hand = [] }) cmd).answer
+answer_selecting before vid g free cmd = (deed_guest small_plan g (λ n offset. n) free (record { before = before; lpid = 1; vid = vid; last = Nothing; hand = [] }) cmd).answer
 
 -- with vCPU 0 selected
 abbrev pub answer_at : Ctx → Guest → Bool → Cmd → Answer
@@ -132,18 +133,30 @@ pub record MeetsByPhase : Type 0 where
   pub no_place : map (meets small_plan (guest_in phase.Normal invalid_page Idle).part) (0x104 ∷ 0x200 ∷ []) ≡ NoPlace ∷ NoPlace ∷ []
   pub no_page : map (meets small_plan (guest_in phase.Secure invalid_page Idle).part) (0x104 ∷ 0x400 ∷ []) ≡ NoPlace ∷ NoPlace ∷ []
 
--- the pages of them that aren't Shared
-abbrev pub unshared_pages : List Page
-unshared_pages = at_rest Invalid ∷ at_rest Secure ∷ at_rest Out ∷ on_the_move Secure Outward ∷ on_the_move Out Inward ∷ []
+-- what a load of a vCPU answers in a guest of this phase, by the page
+abbrev pub loads_in : Phase → Bool → List Answer
+loads_in phase free = map (λ page. answer_at (ctx.Guest (record { lpid = 1; vid = 0; generation = 1 })) (guest_in phase page (Running 1)) free (GLd 6 0x108)) pages
 
--- what a load of a vCPU answers in a guest that is Secure, by these pages; a Shared page is out of reach by the law on Hole
-abbrev pub loads_of : Bool → List Answer
-loads_of free = map (λ page. answer_at (ctx.Guest (record { lpid = 1; vid = 0; generation = 1 })) (guest_in phase.Secure page (Running 1)) free (GLd 6 0x108)) unshared_pages
-
--- where a secure frame is free, and where none is
+-- in one that is Secure where a secure frame is free, and where none is; in one that is Normal
 pub record LoadsByKind : Type 0 where
-  pub free : loads_of true ≡ Val 0 ∷ Val 0 ∷ Hole ∷ Again ∷ Again ∷ []
-  pub none : loads_of false ≡ Hole ∷ Val 0 ∷ Hole ∷ Again ∷ Again ∷ []
+  pub free : loads_in phase.Secure true ≡ Val 0 ∷ Val 0 ∷ Hole ∷ Hole ∷ Val 3 ∷ Again ∷ Again ∷ []
+  pub none : loads_in phase.Secure false ≡ Hole ∷ Val 0 ∷ Hole ∷ Hole ∷ Val 3 ∷ Again ∷ Again ∷ []
+  pub normal : map (loads_in phase.Normal) (true ∷ false ∷ []) ≡ replicate 2 (replicate 7 (Val 2))
+
+-- what the commands for guests in normal memory answer by phase
+pub record NormalByPhase : Type 0 where
+  -- h.enter: a row for each phase, a column for each state
+  pub enters :
+      map (λ phase. map (λ state. answer_at ctx.Hv (guest_in phase invalid_page state) true (HEnter 1 0 0)) states) phases
+      ≡ replicate 4 (Ret UParameter) ∷ (Enter ∷ Ret UP2 ∷ Ret UP2 ∷ Enter ∷ []) ∷ replicate 3 (replicate 4 (Ret UParameter))
+  -- UV_WRITE_PATE, with pages and with none
+  pub writes :
+      map (λ dw1. map (λ phase. answer_at ctx.Hv (guest_in phase invalid_page Idle) true (UPate 1 0x100 dw1)) phases) (2 ∷ 0 ∷ [])
+      ≡ replicate 2 (Ret USuccess ∷ Ret USuccess ∷ replicate 3 (Ret UPermission))
+  -- an interrupt
+  pub interrupts :
+      map (λ phase. answer_at (ctx.Guest (record { lpid = 1; vid = 0; generation = 1 })) (guest_in phase invalid_page (Running 1)) true GIrq) (phase.Normal ∷ phase.Starting ∷ phase.Secure ∷ phase.Aborting ∷ [])
+      ≡ Exit exit.Normal ∷ replicate 3 (Exit exit.Irq)
 
 -- the tables
 pub record TablesByPhase : Type 0 where
@@ -154,3 +167,4 @@ pub record TablesByPhase : Type 0 where
   pub yet : NotHereYet
   pub meets_ : MeetsByPhase
   pub loads : LoadsByKind
+  pub normal : NormalByPhase

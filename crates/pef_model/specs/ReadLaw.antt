@@ -2,30 +2,31 @@
 use Rattle.std.specs.Prelude.{◌≡◌, ℕ, Bool, true, false, if◌then◌else◌, List, Some, ◌==◌}
 use Rattle.std.specs.List.{filter}
 use Rattle.pef_model.specs.declared.command.Cmd.{Cmd}
-use Rattle.pef_model.specs.declared.command.Cmd.TheVariants.{UReturn}
+use Rattle.pef_model.specs.declared.command.Cmd.TheVariants.{UReturn, GSt}
 use Rattle.pef_model.specs.declared.state.Work.TheVariants.{Inward}
 use Rattle.pef_model.specs.declared.state.Ctx.{Ctx}
 use Rattle.pef_model.specs.declared.state.Ctx.TheVariants as ctx
 use Rattle.pef_model.specs.declared.entry.Answer.{Answer}
-use Rattle.pef_model.specs.declared.entry.Answer.TheVariants.{Step, Enter}
+use Rattle.pef_model.specs.declared.entry.Answer.TheVariants.{Done, Step, Enter}
 use Rattle.pef_model.specs.declared.entry.PoolSaw.{PoolSaw}
 use Rattle.pef_model.specs.Plan.{Plan}
 use Rattle.pef_model.specs.Event.{Event}
-use Rattle.pef_model.specs.Target.{Ask, touches_cpu, touches_guest, touches_pool, touches_frame, is_sealing, takes_bytes, is_copying}
+use Rattle.pef_model.specs.Target.{Ask, frame_of, touches_cpu, touches_guest, touches_pool, touches_frame, is_sealing, takes_bytes, is_copying}
 use Rattle.pef_model.specs.Cpu.{CpuPart, next_cpu}
 use Rattle.pef_model.specs.GuestPart.{GuestPart, next_part}
 use Rattle.pef_model.specs.Guest.{Guest, next_guest}
 use Rattle.pef_model.specs.Memory.{next_pool, next_frame, tells_free}
 use Rattle.pef_model.specs.Deed.{deed_guest}
-use Rattle.pef_model.specs.History.{cpu_after, guest_after, pool_after, frame_after, last_store, reg, Extends}
+use Rattle.pef_model.specs.History.{cpu_after, guest_after, pool_after, frame_after, last_store, last_norm, reg, Extends}
 
--- the entries of a history that touch an object decide its value; so last_store and reg read only their guest's entries
+-- the entries of a history that touch an object decide its value; so last_store and reg read only their guest's entries, and last_norm those of its frame
 pub record OwnEntriesDecide (plan : Plan) (past : List Event) : Type 0 where
   pub cpu : (n : ℕ) → cpu_after plan n (filter (touches_cpu n) past) ≡ cpu_after plan n past
   pub guest : (lpid : ℕ) → guest_after plan lpid (filter (touches_guest plan lpid) past) ≡ guest_after plan lpid past
   pub pool : pool_after plan (filter touches_pool past) ≡ pool_after plan past
   pub frame : (n : ℕ) → frame_after plan n (filter (touches_frame n) past) ≡ frame_after plan n past
   pub store : (lpid gpa : ℕ) → last_store plan (filter (touches_guest plan lpid) past) lpid gpa ≡ last_store plan past lpid gpa
+  pub norm : (ra : ℕ) → last_norm plan (filter (touches_frame (frame_of plan ra)) past) ra ≡ last_norm plan past ra
   pub register : (lpid vid r : ℕ) → reg plan (filter (touches_guest plan lpid) past) lpid vid r ≡ reg plan past lpid vid r
 
 -- the entries that touch an object decide its value, for every history
@@ -68,13 +69,18 @@ pub record AgreeForGuest (plan : Plan) (e f : Event) : Type 0 where
   pub cpu : GivesCpu e.trace.answer → e.trace.cpu ≡ f.trace.cpu
   pub bytes : tells_guest e.saw.before e.trace.cmd e.trace.answer ≡ true → e.bytes ≡ f.bytes
 
--- two entries agree in what a normal frame reads of them: the bytes where a page is copied into it
+-- whether a normal frame reads a step's bytes: where a page is copied into it, and where a guest stores in it
+abbrev pub tells_frame : Ctx → Cmd → Answer → Bool
+tells_frame (ctx.Guest run) (GSt rs gpa) Done = true
+tells_frame before cmd a = is_copying before cmd a
+
+-- two entries agree in what a normal frame reads of them: the bytes where they tell it something
 pub record AgreeForFrame (e f : Event) : Type 0 where
   pub cmd : e.trace.cmd ≡ f.trace.cmd
   pub answer : e.trace.answer ≡ f.trace.answer
   pub before : e.saw.before ≡ f.saw.before
   pub frame : e.saw.frame ≡ f.saw.frame
-  pub bytes : is_copying e.saw.before e.trace.cmd e.trace.answer ≡ true → e.bytes ≡ f.bytes
+  pub bytes : tells_frame e.saw.before e.trace.cmd e.trace.answer ≡ true → e.bytes ≡ f.bytes
 
 -- entries that agree in these fields give equal next values
 pub record NextValuesAgree (plan : Plan) (e f : Event) : Type 0 where

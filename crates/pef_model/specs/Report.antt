@@ -7,7 +7,7 @@ use Rattle.sha2.specs.Sha256.{sha256}
 use Rattle.pef_model.specs.declared.command.Code.{Code}
 use Rattle.pef_model.specs.declared.command.Code.TheVariants.{USuccess, UParameter, UP2, UP3, UP4, UP5, UFunction, UBusy, UPermission, UInvalid}
 use Rattle.pef_model.specs.declared.command.Cmd.{Cmd}
-use Rattle.pef_model.specs.declared.command.Cmd.TheVariants.{HLd, HSt, UPagein, UPageout, UReturn, GLi, GLd, GSt, GIrq, Go}
+use Rattle.pef_model.specs.declared.command.Cmd.TheVariants.{HLd, HSt, HSelect, HEnter, UPate, UPagein, UPageout, UReturn, GLi, GLd, GSt, GIrq, Go}
 use Rattle.pef_model.specs.declared.entry.Exit.TheVariants as exit
 use Rattle.pef_model.specs.declared.entry.Answer.{Answer}
 use Rattle.pef_model.specs.declared.entry.Answer.TheVariants.{Done, Val, Ret, Step, Enter, Exit, Again, Gone, Hole, Context, Nothing}
@@ -23,6 +23,9 @@ value_text value = codes "0x" ++ digits 16 false value
 abbrev pub command_name : Cmd → List ℕ
 command_name (HLd ra) = codes "h.ld"
 command_name (HSt ra value) = codes "h.st"
+command_name (HSelect lpid vid) = codes "h.select"
+command_name (HEnter lpid vid value) = codes "h.enter"
+command_name (UPate lpid dw0 dw1) = codes "u.pate"
 command_name (UPagein lpid src gpa flags order) = codes "u.pagein"
 command_name (UPageout lpid dest gpa flags order) = codes "u.pageout"
 command_name (UReturn r0 r2 outs) = codes "u.return"
@@ -52,6 +55,7 @@ answer_text (Val value) = codes "val " ++ value_text value
 answer_text (Ret code) = codes "ret " ++ code_name code
 answer_text Step = codes "step"
 answer_text Enter = codes "enter"
+answer_text (Exit exit.Normal) = codes "exit normal"
 answer_text (Exit exit.Irq) = codes "exit irq"
 answer_text Again = codes "again"
 answer_text Gone = codes "gone"

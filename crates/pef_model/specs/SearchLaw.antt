@@ -6,14 +6,14 @@ use Rattle.pef_model.specs.declared.state.Run.{Run}
 use Rattle.pef_model.specs.declared.state.Ctx.{Ctx}
 use Rattle.pef_model.specs.declared.state.Ctx.TheVariants as ctx
 use Rattle.pef_model.specs.declared.command.Cmd.{Cmd}
-use Rattle.pef_model.specs.declared.command.Cmd.TheVariants.{GLi, GLd, GSt}
+use Rattle.pef_model.specs.declared.command.Cmd.TheVariants.{UPate, GLi, GLd, GSt}
 use Rattle.pef_model.specs.declared.entry.Answer.{Answer}
 use Rattle.pef_model.specs.declared.entry.Answer.TheVariants as answer
 use Rattle.pef_model.specs.Plan.{Plan}
 use Rattle.pef_model.specs.Event.{Event, newest}
 use Rattle.pef_model.specs.Registers.{Call, number_of, call_of, value_returned}
 use Rattle.pef_model.specs.Target.{caller, touches_guest}
-use Rattle.pef_model.specs.GuestPart.{page_of, is_private}
+use Rattle.pef_model.specs.GuestPart.{page_of, is_private, ends_guest}
 use Rattle.pef_model.specs.Guest.{Guest}
 use Rattle.pef_model.specs.History.{guest_after, last_store, reg, Extends, IsLegal}
 
@@ -50,6 +50,7 @@ assigned_by_work caller vid a r = None
 
 -- the value that an entry gives a register of a vCPU of a guest
 abbrev pub assigned_in : Ctx → Guest → ℕ → Cmd → Answer → ℕ → Option ℕ
+assigned_in ctx.Hv g vid (UPate lpid dw0 dw1) (answer.Ret code) r = if ends_guest code dw1 then Some 0 else None
 assigned_in ctx.Hv g vid cmd a r = None
 assigned_in (ctx.Uv work) g vid cmd a r = assigned_by_work (caller work) vid a r
 assigned_in (ctx.Guest run) g vid cmd a r = if vid == run.vid then assigned_by_command g cmd a r else None

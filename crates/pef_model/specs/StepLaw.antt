@@ -1,5 +1,5 @@
 -- Laws of one entry: what it makes of its CPU and lets out, and what it makes of a vCPU's registers.
-use Rattle.std.specs.Prelude.{◌≡◌, ◌≢◌, ℕ, ◌+◌, ◌%◌, ◌^◌, ◌==◌, ◌<◌, Bool, true, false, ◌||◌, if◌then◌else◌, List, [], ◌∷◌, Option, Some, None, unwrap_or, slice_index}
+use Rattle.std.specs.Prelude.{◌≡◌, ◌≢◌, ℕ, ◌+◌, ◌%◌, ◌^◌, ◌==◌, ◌<◌, Bool, true, false, ◌||◌, if◌then◌else◌, List, [], ◌∷◌, Option, Some, None, unwrap_or, slice_get, slice_index}
 use Rattle.pef_model.specs.declared.state.Phase.{Phase}
 use Rattle.pef_model.specs.declared.state.Phase.TheVariants as phase
 use Rattle.pef_model.specs.declared.state.Pending.TheVariants as pending
@@ -11,13 +11,14 @@ use Rattle.pef_model.specs.declared.state.Ctx.{Ctx}
 use Rattle.pef_model.specs.declared.state.Ctx.TheVariants as ctx
 use Rattle.pef_model.specs.declared.command.TheConstants.{EXTERNAL_INTERRUPT}
 use Rattle.pef_model.specs.declared.command.Cmd.{Cmd}
-use Rattle.pef_model.specs.declared.command.Cmd.TheVariants.{HLd, UReturn}
+use Rattle.pef_model.specs.declared.command.Cmd.TheVariants.{HLd, HSelect, HEnter, UPate, UReturn, GSt, GIrq}
+use Rattle.pef_model.specs.declared.command.Code.TheVariants.{USuccess}
 use Rattle.pef_model.specs.declared.entry.Exit.TheVariants as exit
 use Rattle.pef_model.specs.declared.entry.Answer.{Answer}
 use Rattle.pef_model.specs.declared.entry.Answer.TheVariants as answer
 use Rattle.pef_model.specs.Plan.{Plan}
 use Rattle.pef_model.specs.Event.{Event}
-use Rattle.pef_model.specs.Registers.{Call, number_of, call_of, arguments, value_loaded, value_returned}
+use Rattle.pef_model.specs.Registers.{fresh_registers, Call, number_of, call_of, arguments, value_loaded, value_returned}
 use Rattle.pef_model.specs.Target.{told, caller, vcpu_in, takes_bytes, is_hypervisor}
 use Rattle.pef_model.specs.Cpu.{CpuPart}
 use Rattle.pef_model.specs.Guest.{Guest}
@@ -27,6 +28,11 @@ use Rattle.pef_model.specs.History.{cpu_after, guest_after, ask_of, Extends, IsL
 abbrev pub is_kept : Ctx → Answer → Ctx → Bool
 is_kept before answer.Context after = false
 is_kept before a after = is_hypervisor before || is_hypervisor after
+
+-- what comes back gives R3 its code
+abbrev pub given_by_coming_back : Answer → ℕ → Option ℕ
+given_by_coming_back (answer.Ret code) r = if r == 3 then Some (number_of code) else None
+given_by_coming_back a r = None
 
 -- the value that a load of the hypervisor gives one of its registers: R3 has what was loaded
 abbrev pub given_by_load : Answer → ℕ → Option ℕ
@@ -42,18 +48,16 @@ given_by_ultracall (Some call) cmd a r = value_loaded cmd r
 -- the value that a command of the hypervisor gives one of its registers: a load that was refused and a store give none
 abbrev pub given_by_command : Cmd → Answer → ℕ → Option ℕ
 given_by_command (HLd ra) a r = given_by_load a r
+given_by_command (HSelect lpid vid) a r = given_by_coming_back a r
+given_by_command (HEnter lpid vid value) a r = given_by_coming_back a r
 given_by_command cmd a r = given_by_ultracall (call_of cmd) cmd a r
 
 -- a guest that leaves gives the hypervisor what its exit shows, and the end of one that ran gives zeros
 abbrev pub given_by_leaving : Answer → List ℕ → ℕ → Option ℕ
+given_by_leaving (answer.Exit exit.Normal) shown r = slice_get shown r
 given_by_leaving (answer.Exit exit.Irq) shown r = Some (if r == 3 then EXTERNAL_INTERRUPT else 0)
 given_by_leaving answer.Gone shown r = Some 0
 given_by_leaving a shown r = None
-
--- a call in progress that comes back gives R3 its code
-abbrev pub given_by_coming_back : Answer → ℕ → Option ℕ
-given_by_coming_back (answer.Ret code) r = if r == 3 then Some (number_of code) else None
-given_by_coming_back a r = None
 
 -- a call in progress gives the hypervisor its code where it is its own, and else what the vCPU that called gives where it leaves
 abbrev pub given_by_work : Option Run → Answer → List ℕ → ℕ → Option ℕ
@@ -70,19 +74,23 @@ own_given_in (ctx.Guest run) cmd a shown r = given_by_leaving a shown r
 abbrev pub own_given : Event → ℕ → Option ℕ
 own_given e r = own_given_in e.saw.before e.trace.cmd e.trace.answer e.saw.shown r
 
--- the guest that is selected after a step: the one that ran where it leaves
+-- the guest that is selected after a step: the one that the hypervisor selects, or that ran where it leaves
 abbrev pub selected_lpid : Ctx → Cmd → Answer → ℕ → ℕ
 selected_lpid (ctx.Guest run) cmd (answer.Exit exit) old = run.lpid
+selected_lpid ctx.Hv (HSelect lpid vid) answer.Done old = lpid
 selected_lpid before cmd a old = old
 
 -- the vCPU that is selected after a step
 abbrev pub selected_vid : Ctx → Cmd → Answer → ℕ → ℕ
 selected_vid (ctx.Guest run) cmd (answer.Exit exit) old = run.vid
+selected_vid ctx.Hv (HSelect lpid vid) answer.Done old = vid
 selected_vid before cmd a old = old
 
--- what a step of a vCPU with these registers lets out, by the normal frame that it tells: a call that came back its arguments, and every other step nothing
+-- what a step of a vCPU with these registers lets out, by the normal frame that it tells: a call that came back its arguments, a store in a normal frame its value, a guest in normal memory that leaves all its registers, and every other step nothing
 abbrev pub let_out_running : List ℕ → Cmd → Answer → Option ℕ → List ℕ
 let_out_running gpr cmd (answer.Ret code) frame = arguments cmd
+let_out_running gpr (GSt rs gpa) answer.Done (Some n) = slice_index gpr rs ∷ []
+let_out_running gpr GIrq (answer.Exit exit.Normal) frame = gpr
 let_out_running gpr cmd a frame = []
 
 -- what a step lets out, by the guests that it finds: nothing where no vCPU runs
@@ -100,7 +108,7 @@ pub record LeavesCpu (plan : Plan) (past : List Event) (e : Event) : Type 0 wher
   pub last : (cpu_after plan e.trace.cpu (e ∷ past)).last ≡ (if is_kept e.saw.before e.trace.answer e.saw.after then e.trace.answer else (cpu_after plan e.trace.cpu past).last)
   -- each of the hypervisor's registers has what the entry gives it, and else is as it was
   pub own : (r : ℕ) → r < 32 → slice_index (cpu_after plan e.trace.cpu (e ∷ past)).own r ≡ unwrap_or (own_given e r) (slice_index (cpu_after plan e.trace.cpu past).own r)
-  -- the selected guest stays, but where one leaves
+  -- the selected guest stays, but where one is selected or leaves
   pub lpid : (cpu_after plan e.trace.cpu (e ∷ past)).lpid ≡ selected_lpid e.saw.before e.trace.cmd e.trace.answer (cpu_after plan e.trace.cpu past).lpid
   -- and so does the selected vCPU
   pub vid : (cpu_after plan e.trace.cpu (e ∷ past)).vid ≡ selected_vid e.saw.before e.trace.cmd e.trace.answer (cpu_after plan e.trace.cpu past).vid
@@ -171,6 +179,8 @@ pub record LeavesRegisters (plan : Plan) (past : List Event) (e : Event) (lpid v
   pub taken :
       (r0 r2 : ℕ) (outs : List ℕ) → TakesUp lpid vid r0 r2 outs e → takes_nothing ((guest_after plan lpid past).part.vcpus vid).state ≡ true →
       IsInterrupted r2 (registers_of plan past lpid vid) (registers_of plan (e ∷ past) lpid vid)
+  -- UV_WRITE_PATE that ends its guest leaves each register of it zero
+  pub ended : (dw0 : ℕ) → e.saw.before ≡ ctx.Hv → e.trace.cmd ≡ UPate lpid dw0 0 → e.trace.answer ≡ answer.Ret USuccess → registers_of plan (e ∷ past) lpid vid ≡ fresh_registers
   -- no other entry changes a register of it
   pub others :
       KeepsRegisters plan past e lpid → ((run : Run) → IsStepOf lpid vid run e → ⊥) → ((r0 r2 : ℕ) (outs : List ℕ) → TakesUp lpid vid r0 r2 outs e → ⊥) →

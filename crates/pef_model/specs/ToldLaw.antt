@@ -39,12 +39,14 @@ PrivateAccessTellsNoFrame =
 abbrev pub told_any : Event → Bool
 told_any e = tells_free e.saw.pool
 
+-- the value of an answer that has one
+abbrev pub value_in : Answer → ℕ
+value_in (answer.Val value) = value
+value_in a = 0
+
 -- the value that an entry tells of normal memory: that of its answer, whatever the frame and the offset
 abbrev pub told_found : Event → ℕ → ℕ → ℕ
-told_found e n offset = value_of e.trace.answer where
-  value_of : Answer → ℕ
-  value_of (answer.Val value) = value
-  value_of a = 0
+told_found e n offset = value_in e.trace.answer
 
 -- an entry at a guest is what its step does at the guest, with the other objects as the entry tells them
 abbrev pub EntryAtGuestIsTold : Type 0

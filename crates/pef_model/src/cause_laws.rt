@@ -1,6 +1,6 @@
 //! The laws of answers and their causes, and of what guests keep: each is the contract of a function that does nothing.
 
-ghost use Rattle.pef_model.specs.CauseLaw.{BusyExactlyWhere, BeginsExactlyWhere, EntersExactlyWhere, AgainExactlyWhere, HoleExactlyWhere, ContextExactlyWhere, GoneExactlyWhere};
+ghost use Rattle.pef_model.specs.CauseLaw.{BusyExactlyWhere, BeginsExactlyWhere, EntersExactlyWhere, EntersNormalExactlyWhere, WritesExactlyWhere, SelectsExactlyWhere, AgainExactlyWhere, HoleExactlyWhere, ExitsExactlyWhere, ContextExactlyWhere, GoneExactlyWhere};
 ghost use Rattle.pef_model.specs.AnswerLaw.{EachAnswerIsOfItsRow};
 ghost use Rattle.pef_model.specs.OldMoveLaw.{OldMovesChangeNothing};
 ghost use Rattle.pef_model.specs.ToldLaw.{AccessTellsItsFrame, PrivateAccessTellsNoFrame, EntryAtGuestIsTold};
@@ -34,16 +34,39 @@ pub fn enters_exactly_where()
     ensures { EntersExactlyWhere }
 {}
 
+/// h.enter enters exactly where it names a vCPU of a guest that is Normal, which hasn't run or waits.
+pub fn enters_normal_exactly_where()
+    ensures { EntersNormalExactlyWhere }
+{}
+
+/// UV_WRITE_PATE of the hypervisor writes a partition entry exactly where it names a guest that is Absent or Normal, a normal
+/// frame, and at most as many pages as the guest has, with a normal frame for each.
+pub fn writes_exactly_where()
+    ensures { WritesExactlyWhere }
+{}
+
+/// h.select selects exactly where it names a vCPU of a guest of the machine.
+pub fn selects_exactly_where()
+    ensures { SelectsExactlyWhere }
+{}
+
 /// Again comes exactly at a vCPU's load or store in a page with a mover, of a guest that isn't Normal, under its generation.
 pub fn again_exactly_where()
     ensures { AgainExactlyWhere }
 {}
 
 /// Hole comes at loads and stores alone: of the hypervisor exactly at no doubleword of normal memory; of a guest that isn't
-/// Normal, under its generation, exactly at no doubleword of a page, or in a page at rest that is Out or Shared, or Invalid
-/// while no secure frame is free.
+/// Normal, under its generation, exactly at no doubleword of a page, or in a page at rest that is Out, or Shared without a
+/// frame, or Invalid while no secure frame is free; of one that is Normal exactly at no doubleword of a page in its partition
+/// entry.
 pub fn hole_exactly_where()
     ensures { HoleExactlyWhere }
+{}
+
+/// A guest leaves exactly by an interrupt, under its generation: one that is Normal with all its registers, and every other
+/// with none.
+pub fn exits_exactly_where()
+    ensures { ExitsExactlyWhere }
 {}
 
 /// Context comes exactly at a command that is none of its CPU's context, and changes nothing.

@@ -6,6 +6,9 @@ ghost use Rattle.pef_model.specs.Registers.{number_of};
 
 use std::marker::Model;
 
+/// The number of the ultracall UV_WRITE_PATE, which its caller puts into R3. This project's own.
+pub const UV_WRITE_PATE: u64 = 1;
+
 /// The number of the ultracall UV_PAGE_IN, which its caller puts into R3. This project's own.
 pub const UV_PAGE_IN: u64 = 4;
 
@@ -123,6 +126,25 @@ pub enum Cmd {
         ra: u64,
         value: u64,
     },
+    /// The hypervisor selects a vCPU, from 0, of the guest of a number, from 1: UV_RETURN takes up the selected one.
+    HSelect {
+        lpid: u64,
+        vid: u64,
+    },
+    /// The hypervisor enters a vCPU, from 0, of the guest of a number, from 1, that is in normal memory; the value is for R3 of
+    /// one that asked for it.
+    HEnter {
+        lpid: u64,
+        vid: u64,
+        value: u64,
+    },
+    /// The ultracall UV_WRITE_PATE: the partition entry of the guest of a number, from 1, has the real address, in bytes, of the
+    /// normal frame of its page 0, and the number of its pages; with no page the guest ends.
+    UPate {
+        lpid: u64,
+        dw0: u64,
+        dw1: u64,
+    },
     /// The ultracall UV_PAGE_IN: the page at a guest address, in bytes, of the guest of a number, from 1, comes in from the
     /// normal frame at a real address, in bytes; the order is a page's size as a power of two.
     UPagein {
@@ -177,6 +199,9 @@ impl Cmd {
         match self {
             Cmd::HLd { .. } => {}
             Cmd::HSt { .. } => {}
+            Cmd::HSelect { .. } => {}
+            Cmd::HEnter { .. } => {}
+            Cmd::UPate { .. } => {}
             Cmd::UPagein { .. } => {}
             Cmd::UPageout { .. } => {}
             Cmd::UReturn { outs, .. } => {

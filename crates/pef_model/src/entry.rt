@@ -10,6 +10,8 @@ use std::marker::Model;
 /// Why a guest leaves for the hypervisor.
 #[derive(Clone, Copy, Debug, PartialEq, Eq)]
 pub enum Exit {
+    /// A guest in normal memory leaves, with all its registers.
+    Normal,
     /// An external interrupt of a secure guest.
     Irq,
 }

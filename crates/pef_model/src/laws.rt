@@ -6,9 +6,9 @@ ghost use Rattle.pef_model.specs.SecretLaw.{NoSecretInPublicState, NoSecretInOne
 ghost use Rattle.pef_model.specs.SearchLaw.{LastStoreIsNewest, RegIsNewest, LoadGivesLastStore, SecurePageIsReached, LastStoreIsStored, LastStoreIsZero};
 ghost use Rattle.pef_model.specs.Alike.{AlikeShowTheSame, AlikeClashTogether, OpenIsAlike, UnsealedIsAlike};
 ghost use Rattle.pef_model.specs.SeenReport.{AlikeReportTheSame, AlikeSoundPartsReportTheSame, SecretsGiveAlikeRuns};
-ghost use Rattle.pef_model.specs.PairLaw.{SecretStaysIn, ViewShowsStores, StreamTells, VaultIsShut};
+ghost use Rattle.pef_model.specs.PairLaw.{SecretStaysIn, ViewShowsStores, NormalGuestsHideNothing, WhatIsNotLetOutStaysIn, StreamTells, VaultIsShut};
 ghost use Rattle.pef_model.specs.SeenLaw.{RegistersAreSeen, SeenIsShown};
-ghost use Rattle.pef_model.specs.NormalLaw.{FramesHoldLastNorm, StoreIsLastNorm, LoadGivesLastNorm, StepLeavesFrames, StoreLeavesGuests, WritesMakeFrames, EachMoveKeepsToItsObjects};
+ghost use Rattle.pef_model.specs.NormalLaw.{FramesHoldLastNorm, StoreIsLastNorm, LoadGivesLastNorm, EachPartitionEntryFits, LoadThroughGivesLastNorm, StoreThroughIsLastNorm, StepLeavesFrames, StoreLeavesGuests, WritesMakeFrames, EachMoveKeepsToItsObjects};
 
 /// A secure guest that stores 7 loads 7, and the report says so.
 pub fn store_and_load()
@@ -21,7 +21,7 @@ pub fn one_run()
 {}
 
 /// An object's value after a history is decided by the entries that touch it; `last_store` and `reg` by those of their
-/// guest.
+/// guest, `last_norm` by those of its frame.
 pub fn own_entries_decide()
     ensures { EachOwnEntriesDecide }
 {}
@@ -140,6 +140,21 @@ pub fn load_gives_last_norm()
     ensures { LoadGivesLastNorm }
 {}
 
+/// A guest's partition entry has at most the guest's pages, and a normal frame for each.
+pub fn each_partition_entry_fits()
+    ensures { EachPartitionEntryFits }
+{}
+
+/// A load of a guest that is done in a normal frame gives what was last written there, whoever wrote it.
+pub fn load_through_gives_last_norm()
+    ensures { LoadThroughGivesLastNorm }
+{}
+
+/// After a store of a guest that is done in a normal frame, the value last written there is that of its register.
+pub fn store_through_is_last_norm()
+    ensures { StoreThroughIsLastNorm }
+{}
+
 /// A step changes no normal frame but the one that it tells.
 pub fn step_leaves_frames()
     ensures { StepLeavesFrames }
@@ -196,6 +211,17 @@ pub fn secret_stays_in()
 /// Two runs in which the hypervisor itself stores 7 and 9: their views differ.
 pub fn view_shows_stores()
     ensures { ViewShowsStores }
+{}
+
+/// Two runs in which a guest in normal memory stores 7 and 9, or leaves with 5 and 6 in a register: the views differ.
+pub fn normal_guests_hide_nothing()
+    ensures { NormalGuestsHideNothing }
+{}
+
+/// Two runs in which a guest in normal memory has 7 and 9 in a register, and neither stores it nor leaves with it: they are alike,
+/// and their views are equal.
+pub fn what_is_not_let_out_stays_in()
+    ensures { WhatIsNotLetOutStaysIn }
 {}
 
 /// Where the configuration has a vault, legal histories that are alike but for sealed bytes are alike.

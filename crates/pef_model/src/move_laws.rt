@@ -1,6 +1,6 @@
 //! The laws of pages on the move: each is the contract of a function that does nothing.
 
-ghost use Rattle.pef_model.specs.MoveLaw.{EachCpuMovesItsPage, EachCpuMovesItsPageIn, EachMoverHasItsCall, EachPageKeepsWhatIsSealed, LastSealedIsBegun, VersionsCountPageOuts, NoTagTwice, PageOutSealsLastStore, PageHasEachDoubleword, PageHasItsLength, SealedPagesFill, OutPageIsSealed, EachMoveGoesThroughHand, EachCallBeginsWhatIsNamed};
+ghost use Rattle.pef_model.specs.MoveLaw.{EachCpuMovesItsPage, EachCpuMovesItsPageIn, EachMoverHasItsCall, EachMoveIsOfAGeneration, EachPageKeepsWhatIsSealed, LastSealedIsBegun, VersionsCountPageOuts, NoTagTwice, PageOutSealsLastStore, PageHasEachDoubleword, PageHasItsLength, SealedPagesFill, OutPageIsSealed, EachMoveGoesThroughHand, EachCallBeginsWhatIsNamed};
 
 /// A CPU with a page-out in progress, in its guest's generation, moves the page that its call names, which is still Secure, and
 /// has in its hand what is pending of it.
@@ -11,6 +11,11 @@ pub fn each_cpu_moves_its_page()
 /// A page that moves is named by the call in progress of the CPU that moves it.
 pub fn each_mover_has_its_call()
     ensures { EachMoverHasItsCall }
+{}
+
+/// A CPU has no page's move in progress in a generation that its guest hasn't reached.
+pub fn each_move_is_of_a_generation()
+    ensures { EachMoveIsOfAGeneration }
 {}
 
 /// A page has last sealed bytes exactly where it is Out, and pending ones exactly where it moves outward.

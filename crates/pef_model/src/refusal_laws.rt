@@ -3,6 +3,7 @@
 ghost use Rattle.pef_model.specs.RefusalLaw.{PageOutRefusals, PageInRefusals, NoFrameIsFree, TheLastGuest, AGuestMeanwhile, AGuestMeanwhileIn, NormalAtTheEdge, PagesOf512Bytes};
 ghost use Rattle.pef_model.specs.PhaseLaw.{TablesByPhase};
 ghost use Rattle.pef_model.specs.NameLaw.{EachNameIsWritten, FrameHasItsLine, AreNumbers};
+ghost use Rattle.pef_model.specs.EntryLaw.{ANormalGuest, AGuestEndsAsItRuns, AllRegistersAreLeft, PateRefusals, SelectRefusals, EnterRefusals};
 
 /// The codes of UV_PAGE_OUT, each where what would be refused later is wrong too.
 pub fn page_out_refusals()
@@ -64,4 +65,35 @@ pub fn frame_has_its_line()
 /// The numbers that registers show.
 pub fn registers_have_numbers()
     ensures { AreNumbers }
+{}
+
+/// A guest in normal memory: its partition entry is refused and written, it stores in a normal frame, leaves and ends.
+pub fn a_normal_guest()
+    ensures { ANormalGuest }
+{}
+
+/// What a vCPU in normal memory is answered whose guest ends as it runs, and what it finds in its registers once it is entered
+/// anew.
+pub fn a_guest_ends_as_it_runs()
+    ensures { AGuestEndsAsItRuns }
+{}
+
+/// A guest in normal memory leaves with all its registers.
+pub fn all_registers_are_left()
+    ensures { AllRegistersAreLeft }
+{}
+
+/// The codes of UV_WRITE_PATE, each where what would be refused later is wrong too.
+pub fn pate_refusals()
+    ensures { PateRefusals }
+{}
+
+/// The codes of h.select, each where what would be refused later is wrong too.
+pub fn select_refusals()
+    ensures { SelectRefusals }
+{}
+
+/// The codes of h.enter, each where what would be refused later is wrong too.
+pub fn enter_refusals()
+    ensures { EnterRefusals }
 {}

@@ -1,8 +1,8 @@
 //! The laws of one step and of counts: each is the contract of a function that does nothing.
 
 ghost use Rattle.pef_model.specs.StepLaw.{EachEntryLeavesCpu, EachEntryLeavesRegisters, EachEntryTells};
-ghost use Rattle.pef_model.specs.TransitionLaw.{EachEntryLeavesKinds, EachEntryLeavesStates};
-ghost use Rattle.pef_model.specs.CountLaw.{EachCpuRunsItsVcpu, EachRunIsOfAGeneration, NoVcpuRunsTwice, FramesAreCounted, OrderHasSecurePages, OrderGrows};
+ghost use Rattle.pef_model.specs.TransitionLaw.{EachEntryLeavesKinds, EachEntryLeavesStates, EachEntryLeavesLives};
+ghost use Rattle.pef_model.specs.CountLaw.{EachCpuRunsItsVcpu, EachRunIsOfAGeneration, NoVcpuRunsTwice, FramesAreCounted, OrderHasSecurePages, OrderGrows, EachNormalGuestIsPlain};
 
 /// An entry leaves its CPU in the context that it tells, with these registers, last answer, selection and hand, and shows
 /// what its step lets out.
@@ -54,10 +54,21 @@ pub fn each_entry_leaves_kinds()
     ensures { EachEntryLeavesKinds }
 {}
 
-/// A vCPU runs on a CPU from where UV_RETURN takes it up there, in the guest's generation, until an interrupt parks it; no
-/// other entry changes its state or its generation.
+/// A vCPU runs on a CPU from where UV_RETURN or `h.enter` takes it up there, in the guest's generation, until an interrupt parks
+/// it or UV_WRITE_PATE ends its guest, which leaves it Idle; no other entry changes its state or its generation.
 pub fn each_entry_leaves_states()
     ensures { EachEntryLeavesStates }
+{}
+
+/// UV_WRITE_PATE that is accepted sets a guest's partition entry: with a page the guest is in normal memory, and with none it is
+/// Absent, in another generation. No other entry changes a guest's phase, generation or partition entry.
+pub fn each_entry_leaves_lives()
+    ensures { EachEntryLeavesLives }
+{}
+
+/// Each page of a guest that is Absent or in normal memory is Invalid and at rest.
+pub fn each_normal_guest_is_plain()
+    ensures { EachNormalGuestIsPlain }
 {}
 
 /// An entry tells what its step learnt of its CPU.

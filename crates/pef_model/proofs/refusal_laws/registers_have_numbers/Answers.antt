@@ -6,4 +6,12 @@ use Rattle.pef_model.proofs.refusal_laws.registers_have_numbers.Goals as goal
 -- computed from the definitions
 pub returns : goal.returns
 unfolding tag_bytes doubleword with_doubleword
-returns c = record { interrupt = refl; refused = refl; loaded = refl; numbers = refl; calls = refl }
+returns c = record {
+  interrupt = refl;
+  refused = refl;
+  selected = refl;
+  written = refl;
+  loaded = refl;
+  numbers = refl;
+  calls = refl;
+}
