@@ -1,5 +1,5 @@
 -- What the rows of steps at a guest have in common.
-use Rattle.std.proofs.Common.{◌≡◌, ℕ, ◌+◌, ◌<◌, ◌==◌, Bool, true, false, if◌then◌else◌, List, [], length, None, refl, ap, sym, subst, ◌∙◌, inl, arith}
+use Rattle.std.proofs.Common.{◌≡◌, ℕ, ◌+◌, ◌<◌, ◌==◌, Bool, true, false, if◌then◌else◌, List, [], length, Option, None, refl, ap, sym, subst, ◌∙◌, inl, arith}
 use Rattle.std.proofs.lemmas.Bool.Decides.{nat_tests}
 use Rattle.pef_model.specs.declared.state.Run.{Run}
 use Rattle.pef_model.specs.declared.state.Tag.{Tag}
@@ -9,11 +9,11 @@ use Rattle.pef_model.specs.declared.command.Code.{Code}
 use Rattle.pef_model.specs.declared.entry.Answer.{Answer}
 use Rattle.pef_model.specs.declared.entry.Answer.TheVariants.{Ret}
 use Rattle.pef_model.specs.Plan.{Plan}
-use Rattle.pef_model.specs.Event.{Mark}
+use Rattle.pef_model.specs.Event.{Event, Mark}
 use Rattle.pef_model.specs.Target.{Ask, uses_hand}
 use Rattle.pef_model.specs.Cpu.{CpuPart}
 use Rattle.pef_model.specs.Guest.{Guest as GuestWhole}
-use Rattle.pef_model.specs.Deed.{deed_guest, deed_running, deed_gone, may_return_in}
+use Rattle.pef_model.specs.Deed.{deed_guest, deed_running, deed_gone}
 use Rattle.pef_model.specs.History.{ask_of, entry_of}
 use Rattle.pef_frames.specs.Pool.{PoolState}
 use Rattle.pef_frames.specs.PoolLaw.{times_free}
@@ -22,13 +22,13 @@ use Rattle.pef_guest.specs.declared.vcpu.Vcpu.{Vcpu}
 use Rattle.pef_guest.specs.declared.guest.Guest.{Guest}
 use Rattle.pef_guest.specs.Whole.{IsWhole}
 use Rattle.pef_guest.specs.Keeps.{KeepsGuest, KeepsLife, KeepsFrames, KeepsMovers, times_held}
-use Rattle.pef_guest.specs.Aims.{uses_pool}
-use Rattle.pef_guest.specs.Ready.{IsRunning, KeepsOwn, WorksAt}
+use Rattle.pef_guest.specs.Aims.{uses_pool, frame_running, frame_at_guest}
+use Rattle.pef_guest.specs.Ready.{may_run_in, IsRunning, KeepsOwn, WorksAt}
 use Rattle.pef_guest.specs.Refused.{RefusesCpu, ChangesNothing, Refuses}
 use Rattle.pef_guest.specs.Rows.{RowWithPool, ask_hypervisor, ask_running, entry_running}
 use Rattle.pef_guest.specs.Shows.{ShowsCpu, Shows}
-use Rattle.pef_guest.specs.Does.{is_any_free, entry_at_guest, MakesEntry, DoesRow}
-use Rattle.pef_guest.proofs.Deeds.{share_guest}
+use Rattle.pef_guest.specs.Does.{NormalPart, IsFoundIn, TellsFrame, is_any_free, entry_at_guest, MakesLent, DoesLent, MakesEntry, DoesRow}
+use Rattle.pef_guest.proofs.Deeds.{share_running, share_guest}
 use Rattle.pef_guest.proofs.OneVcpu.{with_step, keeps_guest, whole_vcpu}
 
 -- what a step learns of a CPU on which the hypervisor runs
@@ -55,57 +55,71 @@ module _ {S : Type 0} (takes : S → ℕ → ℕ → Type 0) (stands : S → Tag
   RowAsked plan g found c mark ask =
       RowWithPool stands image plan g c (entry_of ask mark cmd (deed_guest plan g found (is_any_free pool) ask cmd)) new cpu_new (length pool.free) (length pool_new.free) a
 
-  -- no step at a guest touches a normal frame
-  pub tells_none : (plan : Plan) (g : GuestWhole) (found : ℕ → ℕ → ℕ) (c : CpuPart) (mark : Mark) → (entry_at_guest plan g found (is_any_free pool) c mark cmd).saw.frame ≡ None
-  tells_none plan g found c mark = (share_guest plan g found (is_any_free pool) (ask_of c cmd) c.ctx cmd).0
+  -- a step at a guest touches no normal frame, but for an access of a vCPU in one
+  pub tells_none : (plan : Plan) (g : GuestWhole) (found : ℕ → ℕ → ℕ) (c : CpuPart) (mark : Mark) → frame_at_guest plan g.part c.ctx cmd ≡ None → (entry_at_guest plan g found (is_any_free pool) c mark cmd).saw.frame ≡ None
+  tells_none plan g found c mark none = (share_guest plan g found (is_any_free pool) (ask_of c cmd) c.ctx cmd).0 ∙ none
 
   -- a command of the hypervisor
   pub makes_hypervisor : cpu.ctx ≡ ctx.Hv →
       ((plan : Plan) (g : GuestWhole) (found : ℕ → ℕ → ℕ) (c : CpuPart) (mark : Mark) → mark.cpu ≡ cpu.number → Shows stands image plan old g → ShowsCpu cpu c → RowAsked plan g found c mark (ask_hypervisor c)) →
       MakesEntry takes stands image cmd old new cpu cpu_new pool pool_new a
   makes_hypervisor hv does plan g found c mark marked shows shows_cpu none clean =
-      (subst (RowAsked plan g found c mark) (sym (ask_in_hypervisor c cmd (sym shows_cpu.ctx ∙ hv))) (does plan g found c mark marked shows shows_cpu), tells_none plan g found c mark)
+      let here : c.ctx ≡ ctx.Hv = sym shows_cpu.ctx ∙ hv in (
+        subst (RowAsked plan g found c mark) (sym (ask_in_hypervisor c cmd here)) (does plan g found c mark marked shows shows_cpu),
+        tells_none plan g found c mark (ap (λ before. frame_at_guest plan g.part before cmd) here),
+      )
 
-  module _ (run : Run) (running : cpu.ctx ≡ ctx.Guest run) where
+  module _ (frame : Option NormalPart) (left : List ℕ) (run : Run) (running : cpu.ctx ≡ ctx.Guest run) where
+    -- a row of a step that is lent this normal frame, or none, by its entry
+    abbrev pub RowLent : Plan → GuestWhole → CpuPart → Event → Type 0
+    RowLent plan g c e = RowWithPool stands image plan g c e new cpu_new (length pool.free) (length pool_new.free) a × TellsFrame plan e frame left
+
     -- a command of a vCPU, by whether it is in its guest's generation
-    abbrev RowIn : Plan → GuestWhole → (ℕ → ℕ → ℕ) → CpuPart → Mark → Bool → Type 0
-    RowIn plan g found c mark b =
-        RowWithPool stands image plan g c
-        (entry_of (ask_running run c) mark cmd (if b then deed_running plan run g found (is_any_free pool) (ask_running run c) cmd else deed_gone (ask_running run c))) new cpu_new (length pool.free) (length pool_new.free) a
+    abbrev EntryIn : Plan → GuestWhole → (ℕ → ℕ → ℕ) → CpuPart → Mark → Bool → Event
+    EntryIn plan g found c mark b = entry_of (ask_running run c) mark cmd (if b then deed_running plan run g found (is_any_free pool) (ask_running run c) cmd else deed_gone (ask_running run c))
 
     makes_in : (b : Bool) → ((life : ℕ) → old.generation ≡ life → (run.generation == life) ≡ b) →
-        ((plan : Plan) (g : GuestWhole) (found : ℕ → ℕ → ℕ) (c : CpuPart) (mark : Mark) → Shows stands image plan old g → ShowsCpu cpu c → RowIn plan g found c mark b) →
-        MakesEntry takes stands image cmd old new cpu cpu_new pool pool_new a
-    makes_in b test does plan g found c mark marked shows shows_cpu none clean = (
-      subst (RowAsked plan g found c mark) (sym (ask_in_guest c run cmd (sym shows_cpu.ctx ∙ running)))
-          (subst (RowIn plan g found c mark) (sym (test g.part.generation shows.generation)) (does plan g found c mark shows shows_cpu)),
-      tells_none plan g found c mark,
-    )
+        ((plan : Plan) (g : GuestWhole) (found : ℕ → ℕ → ℕ) (c : CpuPart) (mark : Mark) → Shows stands image plan old g → ShowsCpu cpu c → IsFoundIn frame found → RowLent plan g c (EntryIn plan g found c mark b)) →
+        MakesLent takes stands image cmd old new cpu cpu_new pool pool_new frame left a
+    makes_in b test does plan g found c mark marked shows shows_cpu finds clean =
+        subst (λ ask. RowLent plan g c (entry_of ask mark cmd (deed_guest plan g found (is_any_free pool) ask cmd))) (sym (ask_in_guest c run cmd (sym shows_cpu.ctx ∙ running)))
+        (subst (λ b. RowLent plan g c (EntryIn plan g found c mark b)) (sym (test g.part.generation shows.generation)) (does plan g found c mark shows shows_cpu finds))
 
-    pub makes_running : run.generation ≡ old.generation →
+    -- in the generation
+    pub makes_lent : run.generation ≡ old.generation →
+        ((plan : Plan) (g : GuestWhole) (found : ℕ → ℕ → ℕ) (c : CpuPart) (mark : Mark) → Shows stands image plan old g → ShowsCpu cpu c → IsFoundIn frame found →
+        RowLent plan g c (entry_running plan g found c run (is_any_free pool) mark cmd)) →
+        MakesLent takes stands image cmd old new cpu cpu_new pool pool_new frame left a
+    makes_lent same does = makes_in true (λ life is. grind (arith, nat_tests)) does
+
+  module _ (run : Run) (running : cpu.ctx ≡ ctx.Guest run) where
+    -- a command that is no access in a normal frame
+    pub makes_running : run.generation ≡ old.generation → ((plan : Plan) (g : GuestWhole) → Shows stands image plan old g → frame_running plan g.part cmd ≡ None) →
         ((plan : Plan) (g : GuestWhole) (found : ℕ → ℕ → ℕ) (c : CpuPart) (mark : Mark) → Shows stands image plan old g → ShowsCpu cpu c →
         RowWithPool stands image plan g c (entry_running plan g found c run (is_any_free pool) mark cmd) new cpu_new (length pool.free) (length pool_new.free) a) →
         MakesEntry takes stands image cmd old new cpu cpu_new pool pool_new a
-    makes_running same does = makes_in true (λ life is. grind (arith, nat_tests)) does
+    makes_running same inside does =
+        makes_lent None [] run running same (λ plan g found c mark shows shows_cpu none. (does plan g found c mark shows shows_cpu, running_none plan g found c mark (inside plan g shows))) where
+          running_none : (plan : Plan) (g : GuestWhole) (found : ℕ → ℕ → ℕ) (c : CpuPart) (mark : Mark) → frame_running plan g.part cmd ≡ None → (entry_running plan g found c run (is_any_free pool) mark cmd).saw.frame ≡ None
+          running_none plan g found c mark none = (share_running plan run g found (is_any_free pool) (ask_running run c) cmd).0 ∙ none
 
     pub makes_gone : (run.generation ≡ old.generation → ⊥) →
         ((plan : Plan) (g : GuestWhole) (c : CpuPart) (mark : Mark) → Shows stands image plan old g → ShowsCpu cpu c →
         RowWithPool stands image plan g c (entry_of (ask_running run c) mark cmd (deed_gone (ask_running run c))) new cpu_new (length pool.free) (length pool_new.free) a) →
         MakesEntry takes stands image cmd old new cpu cpu_new pool pool_new a
-    makes_gone other does = makes_in false (λ life is. grind (arith, nat_tests, other)) (λ plan g found c mark shows shows_cpu. does plan g c mark shows shows_cpu)
+    makes_gone other does =
+        makes_in None [] run running false (λ life is. grind (arith, nat_tests, other)) (λ plan g found c mark shows shows_cpu none. (does plan g c mark shows shows_cpu, refl))
 
 -- a CPU that a step leaves as it is
 pub own_stays : {S : Type 0} (guest : Guest S) (cpu : Cpu) → KeepsOwn guest cpu cpu
 own_stays guest cpu = record { number = refl; hand = refl; selects = inl (refl, refl) }
 
 module _ {S : Type 0} {takes : S → ℕ → ℕ → Type 0} {stands : S → Tag → List ℕ → List ℕ → Type 0} {image : S → Tag → List ℕ → List ℕ} {cmd : Cmd} {old : Guest S} {cpu : Cpu} {pool : PoolState} {a : Answer} {run : Run} (runs : IsRunning cpu old run) where
-  -- a command of a vCPU that goes on running
-  pub running_does : {new : Guest S} {pool_new : PoolState} → IsWhole takes new → KeepsGuest old new → KeepsLife old new → KeepsMovers cpu.number old new → KeepsFrames old new pool pool_new → (uses_pool (ctx.Guest run) cmd ≡ false → pool_new ≡ pool) →
-      Refuses (ctx.Guest run) cmd old new cpu cpu pool pool_new a →
-      ((plan : Plan) (g : GuestWhole) (found : ℕ → ℕ → ℕ) (c : CpuPart) (mark : Mark) → Shows stands image plan old g → ShowsCpu cpu c →
-      RowWithPool stands image plan g c (entry_running plan g found c run (is_any_free pool) mark cmd) new cpu (length pool.free) (length pool_new.free) a) →
-      DoesRow takes stands image cmd old new cpu cpu pool pool_new a
-  running_does {new = new} {pool_new = pool_new} whole keeps life movers frames unused refused does = record {
+  -- a command of a vCPU that goes on running, lent this normal frame, or none
+  pub lent_does : {new : Guest S} {pool_new : PoolState} (frame : Option NormalPart) (left : List ℕ) → IsWhole takes new → KeepsGuest old new → KeepsLife old new → KeepsMovers cpu.number old new → KeepsFrames old new pool pool_new →
+      (uses_pool (ctx.Guest run) cmd ≡ false → pool_new ≡ pool) → Refuses (ctx.Guest run) cmd old new cpu cpu pool pool_new a → MakesLent takes stands image cmd old new cpu cpu pool pool_new frame left a →
+      DoesLent takes stands image cmd old new cpu cpu pool pool_new frame left a
+  lent_does {new = new} {pool_new = pool_new} frame left whole keeps life movers frames unused refused row = record {
     whole = whole;
     keeps = keeps;
     life = λ still. life;
@@ -113,17 +127,27 @@ module _ {S : Type 0} {takes : S → ℕ → ℕ → Type 0} {stands : S → Tag
     frames = frames;
     own = own_stays new cpu;
     works = subst (WorksAt new cpu) (sym runs.ctx)
-        (runs.lpid ∙ sym keeps.lpid, runs.generation ∙ sym life.generation, subst (λ (n : ℕ). run.vid < n) (sym keeps.vcpus) runs.vid, ap may_return_in life.phase ∙ runs.phase);
+        (runs.lpid ∙ sym keeps.lpid, runs.generation ∙ sym life.generation, subst (λ (n : ℕ). run.vid < n) (sym keeps.vcpus) runs.vid, ap may_run_in life.phase ∙ runs.phase);
     pool_stays = subst (λ c. uses_pool c cmd ≡ false → pool_new ≡ pool) (sym runs.ctx) unused;
     refused = subst (λ c. Refuses c cmd old new cpu cpu pool pool_new a) (sym runs.ctx) refused;
-    row = makes_running takes stands image cmd old new cpu cpu pool pool_new a run runs.ctx runs.generation does;
+    row = row;
   }
 
-  -- one that changes its vCPU alone
-  pub vcpu_does : (vcpu : Vcpu) → IsWhole takes old → Refuses (ctx.Guest run) cmd old (with_step old old.pages run.vid vcpu) cpu cpu pool pool a →
-      ((plan : Plan) (g : GuestWhole) (found : ℕ → ℕ → ℕ) (c : CpuPart) (mark : Mark) → Shows stands image plan old g → ShowsCpu cpu c →
-      RowWithPool stands image plan g c (entry_running plan g found c run (is_any_free pool) mark cmd) (with_step old old.pages run.vid vcpu) cpu (length pool.free) (length pool.free) a) →
-      DoesRow takes stands image cmd old (with_step old old.pages run.vid vcpu) cpu cpu pool pool a
-  vcpu_does vcpu whole refused does =
-      running_does (whole_vcpu takes old run.vid vcpu whole) (keeps_guest old old.pages run.vid vcpu refl) (record { phase = refl; generation = refl }) (λ gfn mover same other moves. moves)
-      (frames_stay old (with_step old old.pages run.vid vcpu) pool (λ number. refl)) (λ unused. refl) refused does
+  module _ (inside : (plan : Plan) (g : GuestWhole) → Shows stands image plan old g → frame_running plan g.part cmd ≡ None) where
+    -- one that is lent none
+    pub running_does : {new : Guest S} {pool_new : PoolState} → IsWhole takes new → KeepsGuest old new → KeepsLife old new → KeepsMovers cpu.number old new → KeepsFrames old new pool pool_new →
+        (uses_pool (ctx.Guest run) cmd ≡ false → pool_new ≡ pool) → Refuses (ctx.Guest run) cmd old new cpu cpu pool pool_new a →
+        ((plan : Plan) (g : GuestWhole) (found : ℕ → ℕ → ℕ) (c : CpuPart) (mark : Mark) → Shows stands image plan old g → ShowsCpu cpu c →
+        RowWithPool stands image plan g c (entry_running plan g found c run (is_any_free pool) mark cmd) new cpu (length pool.free) (length pool_new.free) a) →
+        DoesRow takes stands image cmd old new cpu cpu pool pool_new a
+    running_does {new = new} {pool_new = pool_new} whole keeps life movers frames unused refused does =
+        lent_does None [] whole keeps life movers frames unused refused (makes_running takes stands image cmd old new cpu cpu pool pool_new a run runs.ctx runs.generation inside does)
+
+    -- one that changes its vCPU alone
+    pub vcpu_does : (vcpu : Vcpu) → IsWhole takes old → Refuses (ctx.Guest run) cmd old (with_step old old.pages run.vid vcpu) cpu cpu pool pool a →
+        ((plan : Plan) (g : GuestWhole) (found : ℕ → ℕ → ℕ) (c : CpuPart) (mark : Mark) → Shows stands image plan old g → ShowsCpu cpu c →
+        RowWithPool stands image plan g c (entry_running plan g found c run (is_any_free pool) mark cmd) (with_step old old.pages run.vid vcpu) cpu (length pool.free) (length pool.free) a) →
+        DoesRow takes stands image cmd old (with_step old old.pages run.vid vcpu) cpu cpu pool pool a
+    vcpu_does vcpu whole refused does =
+        running_does (whole_vcpu takes old run.vid vcpu whole) (keeps_guest old old.pages run.vid vcpu refl) (record { phase = refl; generation = refl; entry = refl }) (λ gfn mover same other moves. moves)
+        (frames_stay old (with_step old old.pages run.vid vcpu) pool (λ number. refl)) (λ unused. refl) refused does

@@ -122,6 +122,7 @@ module _ {S : Type 0} (stands : S → Tag → List ℕ → List ℕ → Type 0) 
       normal = shows.normal;
       phase = shows.phase;
       generation = shows.generation;
+      entry = shows.entry;
       pages = record {
         count = length-set old.pages.pages gfn page ∙ shows.pages.count;
         kinds = λ n. (each n).kind_is;
@@ -150,6 +151,7 @@ shows_counted stands image plan old g steps shows = record {
   normal = shows.normal;
   phase = shows.phase;
   generation = shows.generation;
+  entry = shows.entry;
   pages = record { count = shows.pages.count; kinds = shows.pages.kinds; movers = shows.pages.movers; order = shows.pages.order; holds = shows.pages.holds; zeros = shows.pages.zeros };
   sealed = record { images = shows.sealed.images; versions = shows.sealed.versions; digests = shows.sealed.digests; stands_for = shows.sealed.stands_for; words = shows.sealed.words; pendings = shows.sealed.pendings };
   count = shows.count;

@@ -1,5 +1,5 @@
 -- A guest whose vCPU does a step is that of the model after the step, once the vCPU and the pages are.
-use Rattle.std.proofs.Common.{◌≡◌, ◌≢◌, ℕ, ◌+◌, ◌<◌, Bool, List, length, ◌⊎◌, inl, inr, refl, ap, sym, subst, ◌∙◌, arith, get_or, slice_set}
+use Rattle.std.proofs.Common.{◌≡◌, ◌≢◌, ℕ, ◌+◌, ◌^◌, ◌<◌, ◌≤◌, Bool, List, length, ◌⊎◌, inl, inr, refl, ap, sym, subst, ◌∙◌, arith, get_or, slice_set}
 use Rattle.std.specs.Vec.{with_item}
 use Rattle.std.proofs.lemmas.List.{get_or-set_same, get_or-set_other, get_or_default, set-get_or, length-set}
 use Rattle.std.proofs.lemmas.Bool.{cases_eq}
@@ -20,7 +20,7 @@ use Rattle.pef_pages.specs.Pages.{PagesState}
 use Rattle.pef_guest.specs.declared.vcpu.Vcpu.{Vcpu}
 use Rattle.pef_guest.specs.declared.guest.Guest.{Guest}
 use Rattle.pef_guest.specs.Start.{start_vcpu}
-use Rattle.pef_guest.specs.Shows.{ShowsPages, ShowsSealed, ShowsCpu, ShowsVcpu, vcpu_at, Shows}
+use Rattle.pef_guest.specs.Shows.{ShowsEntry, ShowsPages, ShowsSealed, ShowsCpu, ShowsVcpu, vcpu_at, Shows}
 use Rattle.pef_guest.specs.Rows.{with_registers}
 use Rattle.pef_guest.specs.Whole.{IsWhole}
 use Rattle.pef_guest.specs.Keeps.{KeepsGuest}
@@ -35,6 +35,7 @@ with_step old pages vid vcpu = record {
   secure = old.secure;
   phase = old.phase;
   generation = old.generation;
+  entry = old.entry;
   pages = pages;
   vcpus = with_item old.vcpus vid vcpu;
   sealer = old.sealer;
@@ -51,7 +52,7 @@ keeps_guest old pages vid vcpu as_many = record {
   pages = as_many;
   vcpus = length-set old.vcpus.items vid vcpu;
   generation = omega arith;
-  phase = λ same. refl;
+  phase = λ same. inl refl;
   steps = refl;
 }
 
@@ -61,6 +62,26 @@ whole_vcpu takes old vid vcpu whole = record {
   shift = whole.shift;
   served = whole.served;
   frames = whole.frames;
+  entry = whole.entry;
+  lives = omega (arith, whole.lives);
+  vcpus = subst (λ (n : ℕ). n ≤ 2 ^ 8) (sym (length-set old.vcpus.items vid vcpu)) whole.vcpus;
+  shared = whole.shared;
+  outside = whole.outside;
+  rests = whole.rests;
+  digests = whole.digests;
+  versions = λ gfn. (let few = whole.versions gfn in omega arith);
+}
+
+-- a guest that only counts a step is whole
+pub whole_counted : {S : Type 0} (takes : S → ℕ → ℕ → Type 0) (old : Guest S) → IsWhole takes old → IsWhole takes (record old { steps = old.steps + 1 })
+whole_counted takes old whole = record {
+  shift = whole.shift;
+  served = whole.served;
+  frames = whole.frames;
+  entry = whole.entry;
+  lives = omega (arith, whole.lives);
+  vcpus = whole.vcpus;
+  shared = whole.shared;
   outside = whole.outside;
   rests = whole.rests;
   digests = whole.digests;
@@ -74,7 +95,7 @@ is_at old vid vcpu below there = there ∙ get_or_default old.vcpus.items vid vc
 -- a guest of which a vCPU was read, and put back as it was
 pub same_guest : {S : Type 0} (old : Guest S) (vid : ℕ) (vcpu : Vcpu) → vcpu ≡ get_or old.vcpus.items vid vcpu → SameGuest old (with_step old old.pages vid vcpu)
 same_guest old vid vcpu there = record {
-  rest = record { lpid = refl; shift = refl; normal = refl; secure = refl; phase = refl; generation = refl; pages = refl; sealer = refl };
+  rest = record { lpid = refl; shift = refl; normal = refl; secure = refl; phase = refl; generation = refl; entry = refl; pages = refl; sealer = refl };
   vcpus = ap (slice_set old.vcpus.items vid) there ∙ set-get_or old.vcpus.items vid vcpu;
 }
 
@@ -93,15 +114,16 @@ module _ {S : Type 0} (stands : S → Tag → List ℕ → List ℕ → Type 0) 
   shows_own = shows.vcpus vid (subst (λ (n : ℕ). vid < n) shows.count below)
 
   -- the guest a step later, once its pages and its vCPU are those of the model's guest
-  pub shows_step : {clean : Bool} (part : GuestPart) (content : ℕ → ℕ) (pages : PagesState FrameState) (vcpu : Vcpu) (regs : Regs) → part.phase ≡ g.part.phase → part.generation ≡ g.part.generation →
+  pub shows_step : {clean : Bool} (part : GuestPart) (content : ℕ → ℕ) (pages : PagesState FrameState) (vcpu : Vcpu) (regs : Regs) → part.phase ≡ g.part.phase → part.generation ≡ g.part.generation → part.entry ≡ g.part.entry →
       ((n : ℕ) → n ≢ vid → part.vcpus n ≡ g.part.vcpus n) → ShowsVcpu vcpu (part.vcpus vid) regs → ShowsPages plan pages (record g { part = part; content = content }) →
       ShowsSealed stands image plan (with_step old pages vid vcpu) (stepped g vid part content regs clean) →
       Shows stands image plan (with_step old pages vid vcpu) (stepped g vid part content regs clean)
-  shows_step part content pages vcpu regs phase generation others own shows_pages shows_sealed = record {
+  shows_step part content pages vcpu regs phase generation entry others own shows_pages shows_sealed = record {
     shift = shows.shift;
     normal = shows.normal;
     phase = shows.phase ∙ sym phase;
     generation = shows.generation ∙ sym generation;
+    entry = subst (ShowsEntry old.entry) (sym entry) shows.entry;
     pages = record { count = shows_pages.count; kinds = shows_pages.kinds; movers = shows_pages.movers; order = shows_pages.order; holds = shows_pages.holds; zeros = shows_pages.zeros };
     sealed = shows_sealed;
     count = length-set old.vcpus.items vid vcpu ∙ shows.count;
@@ -131,7 +153,7 @@ module _ {S : Type 0} (stands : S → Tag → List ℕ → List ℕ → Type 0) 
   shows_vcpu : {clean : Bool} (vcpus : ℕ → VcpuPart) (vcpu : Vcpu) (regs : Regs) → ((n : ℕ) → n ≢ vid → vcpus n ≡ g.part.vcpus n) → ShowsVcpu vcpu (vcpus vid) regs →
       Shows stands image plan (with_step old old.pages vid vcpu) (stepped g vid (record g.part { vcpus = vcpus }) g.content regs clean)
   shows_vcpu vcpus vcpu regs others own =
-      shows_step (record g.part { vcpus = vcpus }) g.content old.pages vcpu regs refl refl others own
+      shows_step (record g.part { vcpus = vcpus }) g.content old.pages vcpu regs refl refl refl others own
       (record { count = shows.pages.count; kinds = shows.pages.kinds; movers = shows.pages.movers; order = shows.pages.order; holds = shows.pages.holds; zeros = shows.pages.zeros })
       (record { images = shows.sealed.images; versions = shows.sealed.versions; digests = shows.sealed.digests; stands_for = shows.sealed.stands_for; words = shows.sealed.words; pendings = shows.sealed.pendings })
 

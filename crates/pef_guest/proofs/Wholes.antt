@@ -1,5 +1,5 @@
 -- A whole guest stays whole where one of its pages changes.
-use Rattle.std.proofs.Common.{◌≡◌, ◌≢◌, ◌↔◌, ℕ, ◌+◌, ◌^◌, ◌<◌, ◌≤◌, List, length, slice_set, Some, None, IsSome, arith, refl, subst}
+use Rattle.std.proofs.Common.{◌≡◌, ◌≢◌, ◌↔◌, ℕ, ◌+◌, ◌^◌, ◌<◌, ◌≤◌, Bool, List, length, slice_set, Some, None, IsSome, arith, refl, sym, subst, inl}
 use Rattle.std.proofs.lemmas.List.{length-set}
 use Rattle.pef_model.specs.declared.state.Phase.{Phase}
 use Rattle.pef_model.specs.declared.state.Phase.TheVariants as phase
@@ -17,7 +17,8 @@ use Rattle.pef_guest.specs.Whole.{IsFrameOf, IsOutside, IsWhole}
 use Rattle.pef_guest.proofs.OnePage.{each_with_page}
 
 -- a page of a whole guest
-pub record IsWholePage (size secure steps : ℕ) (life : Phase) (page : Page FrameState) : Type 0 where
+pub record IsWholePage (size normal secure steps : ℕ) (life : Phase) (page : Page FrameState) : Type 0 where
+  pub shared : (frame : ℕ) (fresh : Bool) → kind_of page.cell ≡ kind.Shared (Some frame) fresh → frame < normal
   pub frames : (frame : FrameState) → frame_in page.cell ≡ Some frame → IsFrameOf size secure frame
   pub rests : life ≡ phase.Secure → kind_of page.cell ≡ kind.Invalid → mover_of page.cell ≡ None
   pub digests : way_of (mover_of page.cell) ≡ Some Outward → IsSome (kept_in page.cell) ↔ (life ≡ phase.Secure)
@@ -38,7 +39,7 @@ module _ {S : Type 0} (old : Guest S) (gfn : ℕ) (page : Page FrameState) (orde
     pages = length-set old.pages.pages gfn page;
     vcpus = refl;
     generation = omega arith;
-    phase = λ same. refl;
+    phase = λ same. inl refl;
     steps = refl;
   }
 
@@ -51,9 +52,13 @@ module _ {S : Type 0} (old : Guest S) (gfn : ℕ) (page : Page FrameState) (orde
 
     -- it is whole, where the page is
     pub whole_with : (takes : S → ℕ → ℕ → Type 0) → IsWhole takes old → (IsOutside old.phase → ⊥) → ((n size : ℕ) → takes old.sealer n size → takes sealer n size) →
-        IsWholePage (2 ^ old.shift) old.secure (old.steps + 1) old.phase page → IsWhole takes stepped_with
+        IsWholePage (2 ^ old.shift) old.normal old.secure (old.steps + 1) old.phase page → IsWhole takes stepped_with
     whole_with takes whole inside same is = record {
       shift = whole.shift;
+      entry = record { pages_fit = subst (λ (k : ℕ). old.entry.dw1 ≤ k) (sym (length-set old.pages.pages gfn page)) whole.entry.pages_fit; frames_fit = whole.entry.frames_fit };
+      lives = omega (arith, whole.lives);
+      vcpus = whole.vcpus;
+      shared = λ n. (each n).shared;
       served = λ n less. same n (2 ^ old.shift) (whole.served n (subst (λ (k : ℕ). n < k) (length-set old.pages.pages gfn page) less));
       frames = λ n. (each n).frames;
       outside = λ out. absurd (inside out);
@@ -61,9 +66,10 @@ module _ {S : Type 0} (old : Guest S) (gfn : ℕ) (page : Page FrameState) (orde
       digests = λ n. (each n).digests;
       versions = λ n. (each n).version;
     } where
-      each : (n : ℕ) → IsWholePage (2 ^ old.shift) old.secure (old.steps + 1) old.phase (page_at (with_page old.pages gfn page) n)
-      each = each_with_page (λ (k : ℕ). IsWholePage (2 ^ old.shift) old.secure (old.steps + 1) old.phase) old.pages gfn page below is
+      each : (n : ℕ) → IsWholePage (2 ^ old.shift) old.normal old.secure (old.steps + 1) old.phase (page_at (with_page old.pages gfn page) n)
+      each = each_with_page (λ (k : ℕ). IsWholePage (2 ^ old.shift) old.normal old.secure (old.steps + 1) old.phase) old.pages gfn page below is
           (λ n there. record {
+            shared = whole.shared n;
             frames = whole.frames n;
             rests = λ secure. whole.rests secure n;
             digests = whole.digests n;

@@ -1,6 +1,8 @@
 -- What a step on a guest keeps, whatever it does.
-use Rattle.std.specs.Prelude.{◌≡◌, ◌≢◌, ℕ, ◌+◌, ◌^◌, ◌≤◌, ◌==◌, length, Some}
+use Rattle.std.specs.Prelude.{◌≡◌, ◌≢◌, ℕ, ◌+◌, ◌^◌, ◌≤◌, ◌==◌, length, Some, ◌⊎◌}
 use Rattle.std.specs.List.{count_by}
+use Rattle.pef_model.specs.declared.state.Phase.{Phase}
+use Rattle.pef_model.specs.declared.state.Phase.TheVariants as phase
 use Rattle.pef_model.specs.declared.state.Mover.{Mover}
 use Rattle.pef_frames.specs.Frame.{FrameState}
 use Rattle.pef_frames.specs.Pool.{PoolState}
@@ -13,7 +15,11 @@ pub record IsPoolOf {S : Type 0} (guest : Guest S) (pool : PoolState) : Type 0 w
   pub count : pool.count ≡ guest.secure
   pub size : pool.size ≡ 2 ^ guest.shift
 
--- what no step changes of a guest: its number and its sizes stay, and its phase and generation do, or the generation has risen
+-- in one generation a guest's phase stays, but that a guest comes into normal memory
+abbrev pub IsNextPhase : Phase → Phase → Type 0
+IsNextPhase old new = (new ≡ old) ⊎ ((old ≡ phase.Absent) × (new ≡ phase.Normal))
+
+-- what no step changes of a guest: its number and its sizes stay; its generation does or has risen, and in one generation its phase stays, but that it comes into normal memory
 pub record KeepsGuest {S : Type 0} (old new : Guest S) : Type 0 where
   pub lpid : new.lpid ≡ old.lpid
   pub shift : new.shift ≡ old.shift
@@ -22,13 +28,14 @@ pub record KeepsGuest {S : Type 0} (old new : Guest S) : Type 0 where
   pub pages : length new.pages.pages ≡ length old.pages.pages
   pub vcpus : length new.vcpus.items ≡ length old.vcpus.items
   pub generation : old.generation ≤ new.generation
-  pub phase : new.generation ≡ old.generation → new.phase ≡ old.phase
+  pub phase : new.generation ≡ old.generation → IsNextPhase old.phase new.phase
   pub steps : new.steps ≡ old.steps + 1
 
--- a guest's phase and generation stay
+-- a guest's phase, generation and partition entry stay
 pub record KeepsLife {S : Type 0} (old new : Guest S) : Type 0 where
   pub phase : new.phase ≡ old.phase
   pub generation : new.generation ≡ old.generation
+  pub entry : new.entry ≡ old.entry
 
 -- how often a number is that of a frame which a guest holds
 abbrev pub times_held : {S : Type 0} → Guest S → ℕ → ℕ

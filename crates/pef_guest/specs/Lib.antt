@@ -1,3 +1,4 @@
+pub mod Life
 pub mod Loads
 pub mod Start
 pub mod Whole

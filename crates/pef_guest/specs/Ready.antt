@@ -1,5 +1,7 @@
 -- What a step at a guest needs, and what its CPU does after it.
-use Rattle.std.specs.Prelude.{◌≡◌, ℕ, ◌^◌, ◌<◌, true, length, Some, ◌⊎◌}
+use Rattle.std.specs.Prelude.{◌≡◌, ℕ, ◌^◌, ◌<◌, Bool, true, false, length, Some, ◌⊎◌}
+use Rattle.pef_model.specs.declared.state.Phase.{Phase}
+use Rattle.pef_model.specs.declared.state.Phase.TheVariants as phase
 use Rattle.pef_model.specs.declared.state.Way.{Way}
 use Rattle.pef_model.specs.declared.state.Way.TheVariants as way
 use Rattle.pef_model.specs.declared.state.Move.{Move}
@@ -8,7 +10,6 @@ use Rattle.pef_model.specs.declared.state.Work.TheVariants.{Inward, Outward}
 use Rattle.pef_model.specs.declared.state.Ctx.{Ctx}
 use Rattle.pef_model.specs.declared.state.Ctx.TheVariants as ctx
 use Rattle.pef_model.specs.declared.command.Cmd.{Cmd}
-use Rattle.pef_model.specs.Deed.{may_return_in}
 use Rattle.pef_frames.specs.Pool.{PoolState}
 use Rattle.pef_pages.specs.Pages.{mover_at}
 use Rattle.pef_guest.specs.declared.cpu.Cpu.{Cpu}
@@ -16,6 +17,14 @@ use Rattle.pef_guest.specs.declared.guest.Guest.{Guest}
 use Rattle.pef_guest.specs.Whole.{IsWhole}
 use Rattle.pef_guest.specs.Keeps.{IsPoolOf}
 use Rattle.pef_guest.specs.Aims.{guest_aimed}
+
+-- whether a vCPU runs in this phase: one in normal memory does, and one that is secure or is to be
+abbrev pub may_run_in : Phase → Bool
+may_run_in phase.Absent = false
+may_run_in phase.Normal = true
+may_run_in phase.Starting = true
+may_run_in phase.Secure = true
+may_run_in phase.Aborting = false
 
 -- a page of a guest is moved by a CPU this way
 abbrev pub IsMovedBy : {S : Type 0} → Guest S → Cpu → Way → ℕ → Type 0
@@ -34,7 +43,7 @@ abbrev pub ReadyIn : {S : Type 0} → Guest S → Cpu → Ctx → Type 0
 ReadyIn guest cpu ctx.Hv = cpu.lpid ≡ guest.lpid → cpu.vid < length guest.vcpus.items
 ReadyIn guest cpu (ctx.Uv (Inward move)) = MayEnd guest cpu way.Inward move
 ReadyIn guest cpu (ctx.Uv (Outward move)) = MayEnd guest cpu way.Outward move
-ReadyIn guest cpu (ctx.Guest run) = (run.vid < length guest.vcpus.items) × (run.generation ≡ guest.generation → may_return_in guest.phase ≡ true)
+ReadyIn guest cpu (ctx.Guest run) = (run.vid < length guest.vcpus.items) × (run.generation ≡ guest.generation → may_run_in guest.phase ≡ true)
 
 -- a CPU runs a vCPU of a guest, in its generation, and its phase lets it run
 pub record IsRunning {S : Type 0} (cpu : Cpu) (guest : Guest S) (run : Run) : Type 0 where
@@ -42,7 +51,7 @@ pub record IsRunning {S : Type 0} (cpu : Cpu) (guest : Guest S) (run : Run) : Ty
   pub lpid : run.lpid ≡ guest.lpid
   pub generation : run.generation ≡ guest.generation
   pub vid : run.vid < length guest.vcpus.items
-  pub phase : may_return_in guest.phase ≡ true
+  pub phase : may_run_in guest.phase ≡ true
 
 -- what every step at a guest needs of it and of its CPU
 pub record IsReadyFor {S : Type 0} (takes : S → ℕ → ℕ → Type 0) (cmd : Cmd) (guest : Guest S) (cpu : Cpu) : Type 0 where
@@ -75,7 +84,7 @@ abbrev pub WorksAt : {S : Type 0} → Guest S → Cpu → Ctx → Type 0
 WorksAt guest cpu ctx.Hv = Unit {0}
 WorksAt guest cpu (ctx.Uv (Inward move)) = MovesAt guest cpu way.Inward move
 WorksAt guest cpu (ctx.Uv (Outward move)) = MovesAt guest cpu way.Outward move
-WorksAt guest cpu (ctx.Guest run) = (run.lpid ≡ guest.lpid) × (run.generation ≡ guest.generation) × (run.vid < length guest.vcpus.items) × (may_return_in guest.phase ≡ true)
+WorksAt guest cpu (ctx.Guest run) = (run.lpid ≡ guest.lpid) × (run.generation ≡ guest.generation) × (run.vid < length guest.vcpus.items) × (may_run_in guest.phase ≡ true)
 
 -- what a step at a guest keeps of its CPU: its number, the size of its hand, and its selection, unless it selects a vCPU of the guest
 pub record KeepsOwn {S : Type 0} (guest : Guest S) (old new : Cpu) : Type 0 where

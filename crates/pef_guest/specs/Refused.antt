@@ -51,6 +51,7 @@ pub record SameButVcpus {S : Type 0} (old new : Guest S) : Type 0 where
   pub secure : new.secure ≡ old.secure
   pub phase : new.phase ≡ old.phase
   pub generation : new.generation ≡ old.generation
+  pub entry : new.entry ≡ old.entry
   pub pages : new.pages ≡ old.pages
   pub sealer : new.sealer ≡ old.sealer
 

@@ -10,10 +10,11 @@ use Rattle.pef_model.specs.declared.state.Regs.{Regs}
 use Rattle.pef_model.specs.Plan.{Plan}
 use Rattle.pef_model.specs.Doubleword.{doubleword}
 use Rattle.pef_model.specs.Cpu.{CpuPart}
-use Rattle.pef_model.specs.GuestPart.{Page, VcpuPart, page_of}
+use Rattle.pef_model.specs.GuestPart.{Page, VcpuPart, PartitionEntry, page_of}
 use Rattle.pef_model.specs.PageOut.{tag_of, private_page}
 use Rattle.pef_model.specs.Guest.{Guest as GuestWhole}
 use Rattle.pef_model.specs.Memory.{offset_of}
+use Rattle.pef_pate.specs.declared.pate.Pate.{Pate}
 use Rattle.pef_frames.specs.Frame.{FrameState}
 use Rattle.pef_pages.specs.declared.cell.Cell.{Cell}
 use Rattle.pef_pages.specs.declared.cell.Cell.TheVariants as cell
@@ -32,6 +33,11 @@ pub record ShowsCpu (cpu : Cpu) (part : CpuPart) : Type 0 where
   pub vid : cpu.vid ≡ part.vid
   pub last : cpu.last ≡ part.last
   pub hand : cpu.hand ≡ part.hand
+
+-- a partition entry is that of the model
+pub record ShowsEntry (entry : Pate) (part : PartitionEntry) : Type 0 where
+  pub base : entry.dw0 ≡ part.base
+  pub length_is : entry.dw1 ≡ part.length_
 
 -- a frame holds the doublewords of a page of the model
 abbrev pub HoldsPage : Plan → GuestWhole → ℕ → FrameState → Type 0
@@ -107,6 +113,7 @@ module _ {S : Type 0} (stands : S → Tag → List ℕ → List ℕ → Type 0) 
     pub normal : guest.normal ≡ plan.normal
     pub phase : guest.phase ≡ g.part.phase
     pub generation : guest.generation ≡ g.part.generation
+    pub entry : ShowsEntry guest.entry g.part.entry
     pub pages : ShowsPages plan guest.pages g
     pub sealed : ShowsSealed plan guest g
     pub count : length guest.vcpus.items ≡ plan.vcpus

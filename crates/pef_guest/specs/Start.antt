@@ -7,6 +7,7 @@ use Rattle.pef_model.specs.declared.entry.Answer.TheVariants as answer
 use Rattle.pef_model.specs.Plan.{plan_of}
 use Rattle.pef_model.specs.Registers.{zero_registers, fresh_registers}
 use Rattle.pef_model.specs.GuestPart.{start_phase, start_state}
+use Rattle.pef_pate.specs.declared.pate.Pate.{Pate}
 use Rattle.pef_pages.specs.Pages.{invalid_pages}
 use Rattle.pef_guest.specs.declared.cpu.Cpu.{Cpu}
 use Rattle.pef_guest.specs.declared.vcpu.Vcpu.{Vcpu}
@@ -26,6 +27,10 @@ pub record IsStartCpu (number size : ℕ) (cpu : Cpu) : Type 0 where
 abbrev pub start_vcpu : VState → Vcpu
 start_vcpu state = record { state = state; generation = 0; regs = fresh_registers }
 
+-- a partition entry with no page
+abbrev pub no_pate : Pate
+no_pate = record { dw0 = 0; dw1 = 0 }
+
 -- a guest of a configuration as it begins, with this sealer
 pub record IsStartGuest {S : Type 0} (config : Config) (lpid : ℕ) (sealer : S) (guest : Guest S) : Type 0 where
   pub lpid_is : guest.lpid ≡ lpid
@@ -34,6 +39,7 @@ pub record IsStartGuest {S : Type 0} (config : Config) (lpid : ℕ) (sealer : S)
   pub secure : guest.secure ≡ config.secure
   pub phase : guest.phase ≡ start_phase ((plan_of config).is_born lpid)
   pub generation : guest.generation ≡ 1
+  pub entry : guest.entry ≡ no_pate
   pub pages : guest.pages ≡ invalid_pages config.pages
   pub vcpus : guest.vcpus.items ≡ replicate config.vcpus (start_vcpu (start_state ((plan_of config).is_born lpid)))
   pub sealer_is : guest.sealer ≡ sealer

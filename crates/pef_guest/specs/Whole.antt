@@ -1,9 +1,10 @@
 -- When a guest is whole.
-use Rattle.std.specs.Prelude.{◌≡◌, ◌↔◌, ℕ, ◌^◌, ◌<◌, ◌≤◌, length, Some, None, IsSome}
+use Rattle.std.specs.Prelude.{◌≡◌, ◌↔◌, ℕ, ◌+◌, ◌/◌, ◌^◌, ◌<◌, ◌≤◌, Bool, length, Some, None, IsSome}
 use Rattle.pef_model.specs.declared.state.Phase.{Phase}
 use Rattle.pef_model.specs.declared.state.Phase.TheVariants as phase
 use Rattle.pef_model.specs.declared.state.Kind.TheVariants as kind
 use Rattle.pef_model.specs.Plan.{IsWithin}
+use Rattle.pef_pate.specs.declared.pate.Pate.{Pate}
 use Rattle.pef_frames.specs.Frame.{FrameState}
 use Rattle.pef_model.specs.declared.state.Way.TheVariants.{Outward}
 use Rattle.pef_pages.specs.Cells.{way_of}
@@ -24,6 +25,11 @@ IsOutside phase.Starting = ⊥
 IsOutside phase.Secure = ⊥
 IsOutside phase.Aborting = ⊥
 
+-- a partition entry has at most so many pages of 2^shift bytes, and a normal frame for each
+pub record IsEntryOf (shift normal pages : ℕ) (entry : Pate) : Type 0 where
+  pub pages_fit : entry.dw1 ≤ pages
+  pub frames_fit : entry.dw0 / 2 ^ shift + entry.dw1 ≤ normal
+
 -- a guest is whole
 pub record IsWhole {S : Type 0} (takes : S → ℕ → ℕ → Type 0) (guest : Guest S) : Type 0 where
   -- a page's size is in its range
@@ -32,6 +38,14 @@ pub record IsWhole {S : Type 0} (takes : S → ℕ → ℕ → Type 0) (guest : 
   pub served : (gfn : ℕ) → gfn < length guest.pages.pages → takes guest.sealer gfn (2 ^ guest.shift)
   -- each of its secure frames has that size, and a number below `secure`
   pub frames : (gfn : ℕ) (frame : FrameState) → frame_at guest.pages gfn ≡ Some frame → IsFrameOf (2 ^ guest.shift) guest.secure frame
+  -- its partition entry has at most its pages, and a normal frame for each
+  pub entry : IsEntryOf guest.shift guest.normal (length guest.pages.pages) guest.entry
+  -- its generation rose at most once a step
+  pub lives : guest.generation ≤ guest.steps + 1
+  -- each of its vCPUs has a number of 8 bits
+  pub vcpus : length guest.vcpus.items ≤ 2 ^ 8
+  -- each normal frame that backs one of its Shared pages is one of the machine's
+  pub shared : (gfn frame : ℕ) (fresh : Bool) → kind_at guest.pages gfn ≡ kind.Shared (Some frame) fresh → frame < guest.normal
   -- in Absent and Normal every page is Invalid and doesn't move
   pub outside : IsOutside guest.phase → (gfn : ℕ) → (kind_at guest.pages gfn ≡ kind.Invalid) × (mover_at guest.pages gfn ≡ None)
   -- in Secure no Invalid page moves

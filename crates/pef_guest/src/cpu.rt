@@ -1,8 +1,9 @@
 //! A CPU goes into a guest and comes back, and shows the hypervisor no more than the guest's exit says.
 
-ghost use Rattle.std.specs.Prelude.{◌≡◌, ℕ, ◌+◌, ◌^◌, List, length, replicate, slice_set, IfOk};
+ghost use Rattle.std.specs.Prelude.{◌≡◌, ◌≢◌, ℕ, ◌+◌, ◌^◌, List, length, replicate, slice_set, IfOk};
 ghost use Rattle.pef_model.specs.Registers.{zero_registers, with_code};
 ghost use Rattle.pef_model.specs.Cpu.{left_registers};
+ghost use Rattle.pef_guest.specs.Refused.{RefusesCpu};
 
 use crate::hand::Hand;
 use crate::registers;
@@ -30,6 +31,7 @@ pub struct Cpu {
 
 impl Cpu {
     ghost use Rattle.pef_guest.specs.Start.{IsStartCpu};
+    ghost use Rattle.pef_guest.specs.Refused.{RefusesCpu};
 
     /// The CPU of a number, from 0, with a hand of a size in bytes. The hypervisor runs on it, with zero registers; guest 1
     /// and its vCPU 0 are selected. Refused where the memory is not to be had.
@@ -55,24 +57,30 @@ impl Cpu {
         self.hand.bytes()
     }
 
-    /// The selected vCPU runs from now on, in this generation of its guest.
-    pub fn enter(&mut self, generation: u64) -> Answer
+    /// A vCPU runs from now on, in a generation of its guest.
+    pub fn enter(&mut self, run: Run) -> Answer
         ensures answer { result ≡ Answer.Enter }
-        ensures cpu { self.new ≡ record self.old { ctx = Ctx.Guest (record { lpid = self.old.lpid; vid = self.old.vid; generation = generation }); last = Answer.Enter } }
+        ensures cpu { self.new ≡ record self.old { ctx = Ctx.Guest run; last = Answer.Enter } }
     {
-        self.ctx = Ctx::Guest(Run {
-            lpid: self.lpid,
-            vid: self.vid,
-            generation,
-        });
-        self.last = Answer::Enter;
-        self.last
+        self.ctx = Ctx::Guest(run);
+        self.answer(Answer::Enter)
+    }
+
+    /// The hypervisor selects a vCPU, from 0, of a guest, from 1.
+    pub fn select(&mut self, lpid: u16, vid: u8) -> Answer
+        ensures answer { result ≡ Answer.Done }
+        ensures cpu { self.new ≡ record self.old { lpid = lpid; vid = vid; last = Answer.Done } }
+    {
+        self.lpid = lpid;
+        self.vid = vid;
+        self.answer(Answer::Done)
     }
 
     /// A call of the hypervisor comes back with a code in R3.
     pub fn refuse(&mut self, code: Code) -> Answer
         ensures answer { result ≡ Answer.Ret code }
         ensures cpu { self.new ≡ record self.old { gpr = with_code self.old.gpr code; last = Answer.Ret code } }
+        ensures refused { RefusesCpu self.old self.new code }
     {
         registers::give_code(&mut self.gpr, code);
         self.last = Answer::Ret(code);
@@ -125,15 +133,19 @@ impl Cpu {
     }
 
     /// The vCPU that runs here leaves: it is selected, the registers show what its exit says, and the hypervisor runs from
-    /// now on.
-    pub fn leave(&mut self, run: Run, exit: Exit) -> Answer
+    /// now on. A guest in normal memory shows all its registers, which are these.
+    pub fn leave(&mut self, run: Run, exit: Exit, shown: &[u64; 32]) -> Answer
         ensures answer { result ≡ Answer.Exit exit }
-        ensures cpu { (shown : List ℕ) → self.new ≡ record self.old { ctx = Ctx.Hv; gpr = left_registers exit shown; lpid = run.lpid; vid = run.vid; last = Answer.Exit exit } }
+        ensures cpu { self.new ≡ record self.old { ctx = Ctx.Hv; gpr = left_registers exit shown.now; lpid = run.lpid; vid = run.vid; last = Answer.Exit exit } }
+        ensures hidden { exit ≢ Exit.Normal → (other : List ℕ) → self.new ≡ record self.old { ctx = Ctx.Hv; gpr = left_registers exit other; lpid = run.lpid; vid = run.vid; last = Answer.Exit exit } }
     {
         self.ctx = Ctx::Hv;
-        self.gpr = [0; 32];
         match exit {
-            Exit::Irq => self.gpr[3] = EXTERNAL_INTERRUPT,
+            Exit::Normal => self.gpr = *shown,
+            Exit::Irq => {
+                self.gpr = [0; 32];
+                self.gpr[3] = EXTERNAL_INTERRUPT;
+            }
         }
         self.lpid = run.lpid;
         self.vid = run.vid;

@@ -1,8 +1,11 @@
 //! A guest has all its memory from the start.
 
-ghost use Rattle.std.specs.Prelude.{◌≡◌, ◌^◌, ◌<◌, ◌≤◌, ℕ, length, replicate, IfOk, IsTrue, ◌↔◌};
+ghost use Rattle.std.specs.Prelude.{◌≡◌, ◌-◌, ◌^◌, ◌<◌, ◌≤◌, ℕ, length, replicate, IfOk, IsTrue, ◌↔◌};
 ghost use Rattle.pef_model.specs.Plan.{IsInRange, IsWithin, plan_of};
 ghost use Rattle.pef_model.specs.Deed.{may_return_in};
+ghost use Rattle.pef_model.specs.Entry.{may_write_in, may_enter_in};
+ghost use Rattle.pef_guest.specs.Ready.{may_run_in};
+ghost use Rattle.pef_guest.specs.Life.{IsSet};
 ghost use Rattle.pef_model.specs.GuestPart.{start_state};
 ghost use Rattle.pef_guest.specs.Start.{start_vcpu, IsStartGuest};
 ghost use Rattle.pef_guest.specs.Whole.{IsWhole};
@@ -11,6 +14,7 @@ use crate::vcpu::Vcpu;
 use pef_frames::SecFrame;
 use pef_model::{Config, Phase, VState};
 use pef_pages::Pages;
+use pef_pate::Pate;
 use pef_seal::Seal;
 use std::alloc::{AllocError, Global};
 
@@ -29,6 +33,8 @@ pub struct Guest<S: Seal> {
     pub phase: Phase,
     /// Which life of the guest it is, from 1.
     pub generation: u64,
+    /// Which normal frames its pages have, where it is in normal memory.
+    pub entry: Pate,
     /// Its private memory.
     pub pages: Pages<SecFrame>,
     pub vcpus: Vec<Vcpu>,
@@ -73,11 +79,55 @@ impl<S: Seal> Guest<S> {
             secure: config.secure,
             phase,
             generation: 1,
+            entry: Pate { dw0: 0, dw1: 0 },
             pages,
             vcpus,
             sealer,
             steps: 0,
         })
+    }
+
+    /// Whether a vCPU of it runs in its phase.
+    pub fn may_run(&self) -> bool
+        ensures { result ≡ may_run_in self.now.phase }
+    {
+        match self.phase {
+            Phase::Normal | Phase::Starting | Phase::Secure => true,
+            Phase::Absent | Phase::Aborting => false,
+        }
+    }
+
+    /// Whether `h.enter` is for it: it is in normal memory.
+    pub fn may_enter(&self) -> bool
+        ensures { result ≡ may_enter_in self.now.phase }
+    {
+        self.phase == Phase::Normal
+    }
+
+    /// Whether UV_WRITE_PATE may set its partition entry: it is neither secure nor on the way to it or back.
+    pub fn may_write(&self) -> bool
+        ensures { result ≡ may_write_in self.now.phase }
+    {
+        match self.phase {
+            Phase::Absent | Phase::Normal => true,
+            Phase::Starting | Phase::Secure | Phase::Aborting => false,
+        }
+    }
+
+    /// Sets its partition entry. With a page it is in normal memory from now on. With none it ends: it is Absent, in the next
+    /// generation, and each of its vCPUs is Idle, with zero registers.
+    pub fn set_entry(&mut self, entry: Pate)
+        requires { self.old.generation < 2 ^ 64 - 1 }
+        ensures { IsSet self.old self.new entry }
+    {
+        self.entry = entry;
+        if entry.dw1 != 0 {
+            self.phase = Phase::Normal;
+            return;
+        }
+        self.phase = Phase::Absent;
+        self.generation += 1;
+        self.vcpus.fill(Vcpu::new(VState::Idle));
     }
 
     /// Whether UV_RETURN may take up one of its vCPUs.

@@ -5,8 +5,6 @@ mod cpu;
 mod guest;
 mod hand;
 pub mod registers;
-#[cfg(test)]
-mod tests;
 mod vcpu;
 
 pub use cpu::Cpu;

@@ -3,6 +3,7 @@
 ghost use Rattle.std.specs.Prelude.{◌≡◌};
 ghost use Rattle.pef_model.specs.Guest.{entered_at};
 ghost use Rattle.pef_model.specs.Deed.{is_waiting};
+ghost use Rattle.pef_model.specs.Entry.{can_be_entered};
 
 use crate::registers;
 use pef_model::{Pending, Regs, VState};
@@ -41,6 +42,16 @@ impl Vcpu {
         match self.state {
             VState::Fresh | VState::Parked(_) => true,
             VState::Idle | VState::Running(_) => false,
+        }
+    }
+
+    /// Whether `h.enter` enters it: it hasn't run, or waits where it has left.
+    pub fn can_be_entered(&self) -> bool
+        ensures { result ≡ can_be_entered self.now.state }
+    {
+        match self.state {
+            VState::Idle | VState::Parked(_) => true,
+            VState::Fresh | VState::Running(_) => false,
         }
     }
 

@@ -67,6 +67,7 @@ module _ {S : Type 0} (stands : S → Tag → List ℕ → List ℕ → Type 0) 
       subst (IsWhole takes) (sym guest_is) (whole_with old route.gfn page old.pages.order new.sealer is.below takes old_whole
       (λ outside. subst IsOutside is.phase_is outside) (λ n size. (begun.same_takes n size).1) (record {
         frames = λ frame e. old_whole.frames route.gfn frame (begun.there ∙ sym (ap frame_in cell_is) ∙ e);
+        shared = λ one fresh e. absurd (let k = ap kind_of cell_is in cc);
         rests = λ secure e. (let k = ap kind_of cell_is in cc);
         digests = λ outward. (λ some. is.phase_is, λ secure. subst IsSome (sym (ap kept_in cell_is)) refl);
         version = (let few = old_whole.versions route.gfn in omega arith);

@@ -2,6 +2,7 @@
 use Rattle.std.proofs.Common.{◌≡◌, ℕ, ◌==◌, Bool, true, false, if◌then◌else◌, List, [], length, Option, Some, None, refl, ap, sym, subst, ◌∙◌, ◌↔◌, inl}
 use Rattle.pef_model.specs.declared.state.Move.{Move}
 use Rattle.pef_model.specs.declared.state.Work.TheVariants.{Inward, Outward}
+use Rattle.pef_model.specs.declared.state.Ctx.{Ctx}
 use Rattle.pef_model.specs.declared.state.Ctx.TheVariants as ctx
 use Rattle.pef_model.specs.declared.state.Tag.{Tag}
 use Rattle.pef_model.specs.declared.command.Code.{Code}
@@ -28,6 +29,7 @@ use Rattle.pef_guest.specs.Rows.{ask_hypervisor, ask_inward, ask_outward}
 use Rattle.pef_guest.specs.Ready.{KeepsOwn, WorksAt}
 use Rattle.pef_guest.specs.Refused.{BackWith}
 use Rattle.pef_guest.specs.Does.{is_any_free, entry_at_guest, MakesEntry}
+use Rattle.pef_guest.specs.Aims.{frame_at_guest}
 use Rattle.pef_guest.proofs.Asked.{RowAsked, tells_none, makes_hypervisor}
 use Rattle.pef_move.specs.declared.page_call.PageCall.{PageCall}
 use Rattle.pef_move.specs.PageOut.{KeepsCpu, BeginsPageOut, EndsPageOut}
@@ -97,15 +99,16 @@ module _ {S : Type 0} (takes : S → ℕ → ℕ → Type 0) (stands : S → Tag
   in_begins call hv does = makes_hypervisor takes stands image (UPagein call.lpid call.ra call.gpa call.flags call.order) old new cpu cpu_new pool pool_new a hv (λ plan g found c mark marked shows shows_cpu. does plan g c mark marked shows shows_cpu)
 
   pub out_ends : (move : Move) → cpu.ctx ≡ ctx.Uv (Outward move) → EndsPageOut stands image move old new cpu cpu_new pool pool_new a → MakesEntry takes stands image Go old new cpu cpu_new pool pool_new a
-  out_ends move working does plan g found c mark marked shows shows_cpu none clean = (
-    subst (RowAsked takes stands image Go old new cpu cpu_new pool pool_new a plan g found c mark) (sym (ask_in_outward c move (sym shows_cpu.ctx ∙ working))) (does plan g c mark shows shows_cpu),
-    tells_none takes stands image Go old new cpu cpu_new pool pool_new a plan g found c mark,
-  )
+  out_ends move working does plan g found c mark marked shows shows_cpu none clean =
+      let is = sym shows_cpu.ctx ∙ working in (
+        subst (RowAsked takes stands image Go old new cpu cpu_new pool pool_new a plan g found c mark) (sym (ask_in_outward c move is)) (does plan g c mark shows shows_cpu),
+        tells_none takes stands image Go old new cpu cpu_new pool pool_new a plan g found c mark (ap (λ (before : Ctx). frame_at_guest plan g.part before Go) is),
+      )
 
   pub in_ends : (move : Move) → cpu.ctx ≡ ctx.Uv (Inward move) → move.copied ≡ true → EndsPageIn stands image move old new cpu cpu_new pool pool_new a → MakesEntry takes stands image Go old new cpu cpu_new pool pool_new a
   in_ends move working copied does plan g found c mark marked shows shows_cpu none clean =
       let is = sym shows_cpu.ctx ∙ working in (
         subst (RowAsked takes stands image Go old new cpu cpu_new pool pool_new a plan g found c mark) (sym (ask_in_inward c move is copied))
             (does plan g c mark shows shows_cpu (clean_end plan g found (is_any_free pool) c mark move is copied clean)),
-        tells_none takes stands image Go old new cpu cpu_new pool pool_new a plan g found c mark,
+        tells_none takes stands image Go old new cpu cpu_new pool pool_new a plan g found c mark (ap (λ (before : Ctx). frame_at_guest plan g.part before Go) is),
       )

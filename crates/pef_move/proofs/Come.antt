@@ -20,7 +20,7 @@ use Rattle.pef_guest.specs.declared.guest.Guest.{Guest}
 use Rattle.pef_guest.specs.Keeps.{KeepsFrames, KeepsMovers, times_held}
 use Rattle.pef_guest.specs.Shows.{kept_in}
 use Rattle.pef_guest.specs.Whole.{IsFrameOf, IsOutside, IsWhole}
-use Rattle.pef_move.proofs.Ended.{no_frame, no_mover}
+use Rattle.pef_move.proofs.Ended.{no_frame, not_shared, no_mover}
 use Rattle.pef_move.proofs.OnWayIn.{IsOnWayIn, on_way_in}
 use Rattle.pef_guest.proofs.Wholes.{stepped_with, movers_with, whole_with}
 
@@ -82,6 +82,7 @@ module _ {S : Type 0} (old : Guest S) (cpu : Cpu) (move : Move) (below : move.gf
   pub refused_whole : (takes : S → ℕ → ℕ → Type 0) → IsWhole takes old → IsWhole takes refused
   refused_whole takes whole = whole_with old gfn page_refused old.pages.order old.sealer below takes whole (inside takes whole) (λ n size takes_it. takes_it) (record {
     frames = λ one e. absurd (let none = ap frame_in refused_is ∙ no_frame FrameState comes.digest in cc);
+    shared = λ one fresh e. absurd (not_shared FrameState comes.digest (Some one) fresh (sym (ap kind_of refused_is) ∙ e));
     rests = λ secure e. ap mover_of refused_is ∙ no_mover FrameState comes.digest;
     digests = λ outward. absurd (let none = ap mover_of refused_is ∙ no_mover FrameState comes.digest in cc);
     version = (let few = whole.versions gfn in omega arith);
@@ -117,6 +118,7 @@ module _ {S : Type 0} (old : Guest S) (cpu : Cpu) (move : Move) (below : move.gf
         length_is = size ∙ (whole.frames gfn frame there).length_is;
         number = (whole.frames gfn frame there).number;
       });
+      shared = λ one fresh e. absurd cc;
       rests = λ secure invalid. refl;
       digests = λ outward. absurd cc;
       version = (let few = whole.versions gfn in omega arith);

@@ -90,6 +90,7 @@ module _ {S : Type 0} (old : Guest S) (cpu : Cpu) (call : PageCall) (route : Rou
           length_is = sym (ap (λ (zero : FrameState). length zero.bytes) (first_is pool.size pool.free frame first).is_zero) ∙ length-replicate pool.size 0 ∙ pool_of.size;
           number = subst (λ (count : ℕ). frame.number < count) pool_of.count below;
         });
+        shared = λ one fresh e. absurd (let there = ap kind_of cell_is in cc);
         rests = λ secure invalid. absurd (let there = ap kind_of cell_is in cc);
         digests = λ outward. absurd cc;
         version = (let few = old_whole.versions route.gfn in omega arith);

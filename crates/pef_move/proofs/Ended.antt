@@ -4,6 +4,7 @@ use Rattle.std.proofs.lemmas.List.{get_or_past}
 use Rattle.std.proofs.lemmas.Bool.{cases_lt}
 use Rattle.std.proofs.lemmas.Bool.Decides.{nat_tests}
 use Rattle.std.proofs.lemmas.List.Sums.{sum_by-cons}
+use Rattle.pef_model.specs.declared.state.Kind.TheVariants as kind
 use Rattle.pef_model.specs.declared.state.Digest32.{Digest32}
 use Rattle.pef_model.specs.declared.state.Move.{Move}
 use Rattle.pef_model.specs.declared.state.Mover.{Mover}
@@ -83,6 +84,11 @@ pub no_mover : (F : Type 0) (digest : Option Digest32) → mover_of {F = F} (wit
 no_mover F None = refl
 no_mover F (Some digest) = refl
 
+-- and isn't Shared
+pub not_shared : (F : Type 0) (digest : Option Digest32) (n : Option ℕ) (fresh : Bool) → kind_of {F = F} (without_frame digest) ≡ kind.Shared n fresh → ⊥
+not_shared F None n fresh is = cc
+not_shared F (Some digest) n fresh is = cc
+
 -- an end under another generation leaves the guest
 pub row_old : {S : Type 0} (stands : S → Tag → List ℕ → List ℕ → Type 0) (image : S → Tag → List ℕ → List ℕ) (plan : Plan) (g : GuestWhole) (c : CpuPart) (mark : Mark) (old : Guest S) (cpu : Cpu) (move : Move) (pool : PoolState) →
     Shows stands image plan old g → ShowsCpu cpu c → move.generation ≢ old.generation →
@@ -134,6 +140,7 @@ module _ {S : Type 0} (takes : S → ℕ → ℕ → Type 0) (old : Guest S) (cp
       whole_with old gfn page (filter (λ n. not (n == gfn)) old.pages.order) old.sealer below takes old_whole
       (λ outside. (let none = (old_whole.outside outside gfn).1 in cc)) (λ n size takes_it. takes_it) (record {
         frames = λ one e. absurd (let none = ap frame_in cell_is ∙ no_frame FrameState goes.digest in cc);
+        shared = λ one fresh e. absurd (not_shared FrameState goes.digest (Some one) fresh (sym (ap kind_of cell_is) ∙ e));
         rests = λ secure e. ap mover_of cell_is ∙ no_mover FrameState goes.digest;
         digests = λ outward. absurd (let none = ap mover_of cell_is ∙ no_mover FrameState goes.digest in cc);
         version = (let few = old_whole.versions gfn in omega arith);

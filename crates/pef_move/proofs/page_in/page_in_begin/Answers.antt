@@ -1,9 +1,7 @@
-use Rattle.std.proofs.Common.{rules, ◌≡◌, ℕ, ◌<◌, List, [], ◌∷◌, arith, refl, ap, sym, subst, ◌∙◌}
-use Rattle.pef_model.specs.declared.command.TheConstants.{UV_PAGE_IN}
+use Rattle.std.proofs.Common.{rules, ◌<◌, arith, refl, ap, sym, subst, ◌∙◌}
 use Rattle.pef_model.specs.Registers.{loaded}
 use Rattle.pef_frames.specs.Pool.{PoolState}
 use Rattle.pef_model.specs.declared.command.Code.TheVariants.{UBusy}
-use Rattle.pef_move.specs.declared.page_call.PageCall.{PageCall}
 use Rattle.pef_move.proofs.Coming.{whole, frames}
 use Rattle.pef_move.proofs.ComingRows.{row_busy, row_begun}
 use Rattle.pef_move.specs.PageOut.{KeepsCpu}

@@ -1,7 +1,5 @@
-use Rattle.std.proofs.Common.{rules, ◌≡◌, ℕ, List, [], ◌∷◌, arith, refl, ap, ◌∙◌}
-use Rattle.pef_model.specs.declared.command.TheConstants.{UV_PAGE_IN}
+use Rattle.std.proofs.Common.{rules, arith, refl, ap, ◌∙◌}
 use Rattle.pef_model.specs.Registers.{loaded}
-use Rattle.pef_move.specs.declared.page_call.PageCall.{PageCall}
 use Rattle.pef_move.proofs.Codes.{operands_are}
 use Rattle.pef_move.proofs.ComingRows.{row_refused}
 use Rattle.pef_move.specs.PageOut.{KeepsCpu}
@@ -42,6 +40,6 @@ returns-clause-refused g c pool =
     rw (c.refuse.ensures.answer, c.refuse.ensures.cpu) (
       rw (c.load.ensures.gpr, c.page_in.ensures) refl,
       refuses c.args.cpu.now c.load.new.gpr c.in-Err.code (let long = c.load.array_long in omega (arith, long)) c.load.ensures.rest,
-      record { rest = record { lpid = refl; shift = refl; normal = refl; secure = refl; phase = refl; generation = refl; pages = refl; sealer = refl }; vcpus = refl },
+      record { rest = record { lpid = refl; shift = refl; normal = refl; secure = refl; phase = refl; generation = refl; entry = refl; pages = refl; sealer = refl }; vcpus = refl },
       refl,
     )

@@ -1,7 +1,5 @@
-use Rattle.std.proofs.Common.{rules, ◌≡◌, ℕ, List, [], ◌∷◌, ap, refl, ◌∙◌}
-use Rattle.pef_model.specs.declared.command.TheConstants.{UV_PAGE_OUT}
+use Rattle.std.proofs.Common.{rules, [], ap, refl, ◌∙◌}
 use Rattle.pef_model.specs.Registers.{loaded}
-use Rattle.pef_move.specs.declared.page_call.PageCall.{PageCall}
 use Rattle.pef_move.proofs.Begun.{whole, keeps, frames, movers, leaves, sealers}
 use Rattle.pef_move.proofs.BegunRows.{row_refused, row_begun}
 use Rattle.pef_frames.specs.Pool.{PoolState}
