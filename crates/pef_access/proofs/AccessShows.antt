@@ -1,5 +1,5 @@
 -- The pages after an access are those of the model's guest after it.
-use Rattle.std.proofs.Common.{◌≡◌, ◌≢◌, ℕ, ◌%◌, ◌^◌, ◌<◌, ◌≤◌, ◌==◌, Bool, true, false, if◌then◌else◌, List, [], ◌∷◌, ◌++◌, Option, Some, None, is_some, unwrap_or, ◌⊎◌, inl, inr, arith, refl, ap, sym, ◌∙◌}
+use Rattle.std.proofs.Common.{◌≡◌, ◌≢◌, ℕ, ◌+◌, ◌%◌, ◌^◌, ◌<◌, ◌≤◌, ◌==◌, nat_lt, Bool, true, false, if◌then◌else◌, List, [], ◌∷◌, ◌++◌, Option, Some, None, is_some, unwrap_or, ◌⊎◌, inl, inr, arith, refl, ap, sym, ◌∙◌}
 use Rattle.std.proofs.lemmas.List.{length-set}
 use Rattle.std.proofs.lemmas.Bool.{cases_eq}
 use Rattle.std.proofs.lemmas.Bool.Decides.{nat_tests}
@@ -8,12 +8,13 @@ use Rattle.pef_model.specs.declared.state.Kind.TheVariants as kind
 use Rattle.pef_model.specs.declared.state.Mover.{Mover}
 use Rattle.pef_model.specs.declared.state.Phase.{Phase}
 use Rattle.pef_model.specs.declared.state.Phase.TheVariants as phase
+use Rattle.pef_model.specs.declared.state.Tag.{Tag}
 use Rattle.pef_model.specs.Plan.{Plan}
+use Rattle.pef_model.specs.Target.{frame_of}
 use Rattle.pef_model.specs.Doubleword.{doubleword, with_doubleword}
-use Rattle.pef_model.specs.GuestPart.{Page as PagePart, GuestPart, NoPlace, Moves, page_of, has_place as in_model, meets_kind, meets_page, meets_in, meets, put, secured, with_secure_page}
+use Rattle.pef_model.specs.GuestPart.{Page as PagePart, PartitionEntry, GuestPart, Meeting, NoPlace, Moves, Normal, page_of, has_place as in_model, meets_kind, meets_page, meets_entry, meets_in, meets, put, secured, with_secure_page}
 use Rattle.pef_model.specs.Guest.{Guest}
 use Rattle.pef_model.specs.Memory.{offset_of}
-use Rattle.pef_model.specs.Deed.{may_return_in}
 use Rattle.pef_model.proofs.Puts.{put-here, put-other}
 use Rattle.pef_model.proofs.Doublewords.{doubleword-put, doubleword-other, doubleword-zeros}
 use Rattle.pef_model.proofs.Places.{apart_at}
@@ -23,30 +24,44 @@ use Rattle.pef_pages.specs.declared.cell.Cell.TheVariants as cell
 use Rattle.pef_pages.specs.declared.page.Page.{Page}
 use Rattle.pef_pages.specs.Cells.{kind_of, mover_of, frame_in}
 use Rattle.pef_pages.specs.Pages.{PagesState, page_at, kind_at, frame_at}
-use Rattle.pef_guest.specs.Shows.{HoldsPage, IsZeroPage, ShowsPages}
-use Rattle.pef_access.specs.Access.{has_place, meets_page_at, meets_at, doubleword_in}
+use Rattle.pef_pate.specs.declared.pate.Pate.{Pate}
+use Rattle.pef_guest.specs.declared.guest.Guest.{Guest as Machine}
+use Rattle.pef_guest.specs.Shows.{HoldsPage, IsZeroPage, ShowsEntry, ShowsPages, Shows}
+use Rattle.pef_guest.proofs.OnePage.{each_with_page}
+use Rattle.pef_access.specs.Access.{has_place, meets_page_at, meets_at, meets_frame, meets_through, meets_in_phase, meets_guest, doubleword_in}
 use Rattle.pef_access.proofs.Meets.{IsAt, IsHeld, placed, room_in}
-use Rattle.pef_access.proofs.AccessPages.{page_with, with_secure, with_backed, frame_with, each_with_page, held_where_backed}
+use Rattle.pef_access.proofs.AccessPages.{page_with, with_secure, with_backed, frame_with, held_where_backed}
 
 -- two choices are the same where they are where the test holds
 if_when : {X : Type 0} (b : Bool) (x y z : X) → (b ≡ true → x ≡ y) → (if b then x else z) ≡ (if b then y else z)
 if_when true x y z e = e refl
 if_when false x y z e = refl
 
--- a guest that may run goes through no partition entry
-meets_inside : (p : Phase) (plan : Plan) (g : GuestPart) (gpa : ℕ) → may_return_in p ≡ true → (if in_model plan gpa then meets_page (g.pages (page_of plan gpa)) else NoPlace) ≡ meets_in p plan g gpa
-meets_inside phase.Normal plan g gpa may = cc
-meets_inside other plan g gpa may = refl
-
--- an access of a guest that may run meets in the machine what it meets in the model
-pub meets_is : (plan : Plan) (pages : PagesState FrameState) (g : Guest) (gpa : ℕ) → may_return_in g.part.phase ≡ true → ShowsPages plan pages g → meets_at plan.shift pages gpa ≡ meets plan g.part gpa
-meets_is plan pages g gpa may shows =
+-- an access to an address meets in the pages what it meets in those of the model
+meets_pages : (plan : Plan) (pages : PagesState FrameState) (g : Guest) (gpa : ℕ) → ShowsPages plan pages g → meets_at plan.shift pages gpa ≡ (if in_model plan gpa then meets_page (g.part.pages (page_of plan gpa)) else NoPlace)
+meets_pages plan pages g gpa shows =
     ap (λ (count : ℕ). if has_place plan.shift count gpa then meets_page_at pages (page_of plan gpa) else NoPlace) shows.count
     ∙ if_when (has_place plan.shift plan.pages gpa) _ _ NoPlace (λ e.
     let below : page_of plan gpa < plan.pages = (placed plan.shift plan.pages gpa e).1 in
     ap (λ (mover : Option Mover). if is_some mover then Moves else meets_kind (kind_at pages (page_of plan gpa))) (shows.movers (page_of plan gpa) below)
     ∙ ap (λ (k : Kind). if is_some (g.part.pages (page_of plan gpa)).mover then Moves else meets_kind k) (shows.kinds (page_of plan gpa) below))
-    ∙ meets_inside g.part.phase plan g.part gpa may
+
+-- and through a partition entry
+meets_entry_is : (plan : Plan) (entry : Pate) (part : PartitionEntry) (gpa : ℕ) → ShowsEntry entry part → meets_through plan.shift entry gpa ≡ (if gpa % 8 == 0 then meets_entry plan part (page_of plan gpa) else NoPlace)
+meets_entry_is plan entry part gpa shows =
+    ap (λ (m : Meeting). if gpa % 8 == 0 then m else NoPlace)
+    (by_test (nat_lt (page_of plan gpa) entry.dw1) (frame_of plan entry.dw0 + page_of plan gpa)
+    ∙ (λ i. if nat_lt (page_of plan gpa) (shows.length_is i) then Normal (frame_of plan (shows.base i) + page_of plan gpa) else NoPlace)) where
+      by_test : (b : Bool) (number : ℕ) → meets_frame (if b then Some number else None) ≡ (if b then Normal number else NoPlace)
+      by_test true number = refl
+      by_test false number = refl
+
+-- so an access of a guest meets in the machine what it meets in the model, in each phase
+pub meets_is : {S : Type 0} (stands : S → Tag → List ℕ → List ℕ → Type 0) (image : S → Tag → List ℕ → List ℕ) (plan : Plan) (guest : Machine S) (g : Guest) (gpa : ℕ) → Shows stands image plan guest g → meets_guest guest gpa ≡ meets plan g.part gpa
+meets_is stands image plan guest g gpa shows = ap (λ (p : Phase). meets_in_phase p guest.shift guest.entry guest.pages gpa) shows.phase ∙ by_phase g.part.phase where
+  by_phase : (p : Phase) → meets_in_phase p guest.shift guest.entry guest.pages gpa ≡ meets_in p plan g.part gpa
+  by_phase phase.Normal = ap (λ (shift : ℕ). meets_through shift guest.entry gpa) shows.shift ∙ meets_entry_is plan guest.entry g.part.entry gpa shows.entry
+  by_phase other = ap (λ (shift : ℕ). meets_at shift guest.pages gpa) shows.shift ∙ meets_pages plan guest.pages g gpa shows.pages
 
 -- the model's public part after an access that was done, by whether it backs its page
 abbrev pub part_after : Plan → GuestPart → ℕ → Bool → GuestPart

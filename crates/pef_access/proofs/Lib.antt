@@ -1,11 +1,12 @@
 pub mod Reaching
-pub mod SamePage
+mod Changed
 pub mod Meets
 pub mod AccessPages
+pub mod SamePage
 pub mod AccessSeals
 pub mod AccessShows
 pub mod AccessRows
-mod GuestAfter
-mod Accesses
-mod Refusals
+mod Found
 mod AccessDoes
+mod RowDoes
+mod ThroughDoes

@@ -1,18 +1,25 @@
 -- What an access of a guest meets in the machine, and what it leaves.
-use Rattle.std.specs.Prelude.{◌≡◌, ℕ, ◌+◌, ◌/◌, ◌%◌, ◌^◌, ◌==◌, ◌<◌, ◌≤◌, nat_lt, Bool, true, false, ◌&&◌, if◌then◌else◌, length, Option, Some, None, is_some, IfSome, Result, Ok, Err}
+use Rattle.std.specs.Prelude.{◌≡◌, ℕ, ◌+◌, ◌/◌, ◌%◌, ◌^◌, ◌==◌, ◌<◌, ◌≤◌, nat_lt, Bool, true, false, ◌&&◌, if◌then◌else◌, length, slice_index, slice_set, Option, Some, None, is_some, Result, Ok, Err}
+use Rattle.std.specs.Vec.{with_item}
 use Rattle.pef_model.specs.declared.entry.Answer.{Answer}
 use Rattle.pef_model.specs.declared.entry.Answer.TheVariants.{Hole, Again}
-use Rattle.pef_model.specs.Doubleword.{doubleword, with_doubleword}
-use Rattle.pef_model.specs.GuestPart.{Meeting, NoPlace, Moves, Private, Unbacked, meets_kind}
-use Rattle.pef_num.specs.declared.place.Place.{Place}
-use Rattle.pef_frames.specs.Frame.{FrameState}
-use Rattle.pef_frames.specs.Pool.{PoolState, first_free, without_first}
-use Rattle.pef_pages.specs.declared.cell.Cell.TheVariants as cell
+use Rattle.pef_model.specs.declared.state.Kind.TheVariants as kind
+use Rattle.pef_model.specs.declared.state.Phase.{Phase}
+use Rattle.pef_model.specs.declared.state.Phase.TheVariants as phase
 use Rattle.pef_model.specs.declared.state.Regs.{Regs}
-use Rattle.pef_guest.specs.declared.vcpu.Vcpu.{Vcpu}
-use Rattle.pef_guest.specs.declared.guest.Guest.{Guest}
-use Rattle.pef_guest.specs.Rows.{with_registers}
+use Rattle.pef_model.specs.Doubleword.{doubleword, with_doubleword}
+use Rattle.pef_model.specs.Guest.{at_next_instruction}
+use Rattle.pef_model.specs.GuestPart.{Meeting, NoPlace, Moves, Private, Normal, Unbacked, meets_kind}
+use Rattle.pef_num.specs.declared.place.Place.{Place}
+use Rattle.pef_pate.specs.declared.pate.Pate.{Pate}
+use Rattle.pef_pate.specs.Entry.{frame_at as frame_mapped}
+use Rattle.pef_frames.specs.Frame.{FrameState}
+use Rattle.pef_pages.specs.declared.cell.Cell.TheVariants as cell
 use Rattle.pef_pages.specs.Pages.{PagesState, kind_at, mover_at, frame_at, with_cell, with_frame_at, joins_order}
+use Rattle.pef_guest.specs.declared.guest.Guest.{Guest}
+use Rattle.pef_guest.specs.Shows.{vcpu_at}
+use Rattle.pef_guest.specs.Rows.{with_registers}
+use Rattle.pef_guest.specs.Aims.{frame_met}
 
 -- what an access to a page meets
 abbrev pub meets_page_at : PagesState FrameState → ℕ → Meeting
@@ -26,36 +33,55 @@ place_at shift gpa = record { page = gpa / 2 ^ shift; off = gpa % 2 ^ shift }
 abbrev pub has_place : ℕ → ℕ → ℕ → Bool
 has_place shift count gpa = (gpa % 8 == 0) && nat_lt (gpa / 2 ^ shift) count
 
--- what an access to a guest address meets, of a guest that goes through no partition entry
+-- what an access to an address of these pages meets
 abbrev pub meets_at : ℕ → PagesState FrameState → ℕ → Meeting
 meets_at shift pages gpa = if has_place shift (length pages.pages) gpa then meets_page_at pages (gpa / 2 ^ shift) else NoPlace
 
--- where an access finds its doubleword, or what it answers; any: a secure frame is free
-abbrev pub found_at : Place → Bool → Meeting → Result Place Answer
-found_at place any Private = Ok place
-found_at place true Unbacked = Ok place
-found_at place any Moves = Err Again
-found_at place any met = Err Hole
+-- what an access meets in a normal frame, where it has one
+abbrev pub meets_frame : Option ℕ → Meeting
+meets_frame None = NoPlace
+meets_frame (Some number) = Normal number
+
+-- what an access to an address meets through a partition entry
+abbrev pub meets_through : ℕ → Pate → ℕ → Meeting
+meets_through shift entry gpa = if gpa % 8 == 0 then meets_frame (frame_mapped shift entry (gpa / 2 ^ shift)) else NoPlace
+
+-- by a guest's phase: one in normal memory goes through its partition entry
+abbrev pub meets_in_phase : Phase → ℕ → Pate → PagesState FrameState → ℕ → Meeting
+meets_in_phase phase.Normal shift entry pages gpa = meets_through shift entry gpa
+meets_in_phase other shift entry pages gpa = meets_at shift pages gpa
+
+-- what an access of a guest meets
+abbrev pub meets_guest : {S : Type 0} → Guest S → ℕ → Meeting
+meets_guest guest gpa = meets_in_phase guest.phase guest.shift guest.entry guest.pages gpa
+
+-- whether an access asks for a free frame
+abbrev pub is_unbacked : Meeting → Bool
+is_unbacked Unbacked = true
+is_unbacked met = false
+
+-- whether an access of a guest does, by the guest as it is
+abbrev pub asks_at : {S : Type 0} → Guest S → ℕ → Bool
+asks_at guest gpa = is_unbacked (meets_guest guest gpa)
+
+-- the normal frame into which an access of a guest goes, by its number
+abbrev pub through_at : {S : Type 0} → Guest S → ℕ → Option ℕ
+through_at guest gpa = frame_met (meets_guest guest gpa)
+
+-- each normal frame that backs a Shared page has a number below this
+abbrev pub ShareBelow : ℕ → PagesState FrameState → Type 0
+ShareBelow normal pages = (gfn frame : ℕ) (fresh : Bool) → kind_at pages gfn ≡ kind.Shared (Some frame) fresh → frame < normal
+
+-- where an access finds its doubleword, which is in a secure frame already, or what it answers
+abbrev pub found_at : Place → Meeting → Result Place Answer
+found_at place Private = Ok place
+found_at place Moves = Err Again
+found_at place met = Err Hole
 
 -- the pages after a page was backed by a frame, if there is one
 abbrev pub backed_by : PagesState FrameState → ℕ → Option FrameState → PagesState FrameState
 backed_by pages gfn None = pages
 backed_by pages gfn (Some frame) = joins_order (with_cell pages gfn (cell.Secure frame)) gfn
-
--- the pages after what an access met: an Invalid one is backed
-abbrev pub pages_after : PagesState FrameState → ℕ → PoolState → Meeting → PagesState FrameState
-pages_after pages gfn pool Unbacked = backed_by pages gfn (first_free pool)
-pages_after pages gfn pool met = pages
-
--- the pool after what an access met
-abbrev pub pool_after : PoolState → Meeting → PoolState
-pool_after pool Unbacked = without_first pool
-pool_after pool met = pool
-
--- a frame that an access takes has a number below the pool's count
-abbrev pub TakesBelow : PoolState → Meeting → Type 0
-TakesBelow pool Unbacked = IfSome (first_free pool) (λ (frame : FrameState). frame.number < pool.count)
-TakesBelow pool met = Unit {0}
 
 -- a doubleword at an offset lies in a page's frame
 abbrev pub HasRoom : Option FrameState → ℕ → Type 0
@@ -72,39 +98,34 @@ abbrev pub doubleword_in : Option FrameState → ℕ → ℕ
 doubleword_in None off = 0
 doubleword_in (Some frame) off = doubleword frame.bytes off
 
+-- the doubleword at a place
+abbrev pub value_at : PagesState FrameState → Place → ℕ
+value_at pages place = doubleword_in (frame_at pages place.page) place.off
+
 -- the pages with a doubleword put into a page's frame
 abbrev pub stored_in : PagesState FrameState → ℕ → Option FrameState → ℕ → ℕ → PagesState FrameState
 stored_in pages gfn None off value = pages
 stored_in pages gfn (Some frame) off value = with_frame_at pages gfn (record frame { bytes = with_doubleword frame.bytes off value })
 
+-- the pages with a doubleword put at a place
+abbrev pub stored_at : PagesState FrameState → Place → ℕ → PagesState FrameState
+stored_at pages place value = stored_in pages place.page (frame_at pages place.page) place.off value
+
 -- each secure frame that the pages have has so many bytes
 abbrev pub HaveFrames : ℕ → PagesState FrameState → Type 0
 HaveFrames size pages = (gfn : ℕ) (frame : FrameState) → frame_at pages gfn ≡ Some frame → length frame.bytes ≡ size
 
--- the pages after a store, by what it met
-abbrev pub stored_at : PagesState FrameState → Place → ℕ → Bool → Meeting → PagesState FrameState
-stored_at pages place value any Private = stored_in pages place.page (frame_at pages place.page) place.off value
-stored_at pages place value true Unbacked = stored_in pages place.page (frame_at pages place.page) place.off value
-stored_at pages place value any met = pages
+-- the registers after a load of a value into R rd, and after a store
+abbrev pub after_load : ℕ → ℕ → Regs → Regs
+after_load rd value regs = at_next_instruction regs (slice_set regs.gpr rd value)
 
--- what an access answers, by what it met and by what it answers where it is done; any: a secure frame is free
-abbrev pub access_answer : Answer → Bool → Meeting → Answer
-access_answer success any Private = success
-access_answer success true Unbacked = success
-access_answer success any Moves = Again
-access_answer success any met = Hole
+abbrev pub after_store : Regs → Regs
+after_store regs = at_next_instruction regs regs.gpr
 
--- a vCPU after an access: it has these registers where the access was done
-abbrev pub vcpu_after : Vcpu → Regs → Bool → Meeting → Vcpu
-vcpu_after vcpu regs any Private = with_registers vcpu regs
-vcpu_after vcpu regs true Unbacked = with_registers vcpu regs
-vcpu_after vcpu regs any met = vcpu
+-- the value of a register of a vCPU
+abbrev pub register_at : {S : Type 0} → Guest S → ℕ → ℕ → ℕ
+register_at guest vid rs = slice_index (vcpu_at guest vid).regs.gpr rs
 
--- whether an access asks for a free frame
-abbrev pub is_unbacked : Meeting → Bool
-is_unbacked Unbacked = true
-is_unbacked met = false
-
--- whether an access of a guest that goes through no partition entry does, by the pages as they are
-abbrev pub asks_at : {S : Type 0} → Guest S → ℕ → Bool
-asks_at guest gpa = is_unbacked (meets_at guest.shift guest.pages gpa)
+-- a guest with the registers of a vCPU changed
+abbrev pub with_change : {S : Type 0} → Guest S → ℕ → (Regs → Regs) → Guest S
+with_change guest vid change = record guest { vcpus = with_item guest.vcpus vid (with_registers (vcpu_at guest vid) (change (vcpu_at guest vid).regs)) }

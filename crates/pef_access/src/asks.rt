@@ -1,28 +1,49 @@
-//! Which accesses ask for a free frame.
+//! Which accesses ask for a free frame, and which for a normal one.
 
-ghost use Rattle.std.specs.Prelude.{◌≡◌, ◌<◌, true};
+ghost use Rattle.std.specs.Prelude.{◌≡◌, ℕ, ◌+◌, ◌/◌, ◌^◌, ◌<◌, ◌≤◌, IfSome};
 ghost use Rattle.pef_model.specs.Plan.{Plan, IsWithin};
 ghost use Rattle.pef_model.specs.Guest.{Guest as GuestWhole};
 ghost use Rattle.pef_model.specs.GuestPart.{meets};
-ghost use Rattle.pef_model.specs.Deed.{may_return_in};
 ghost use Rattle.pef_guest.specs.Shows.{Shows};
-ghost use Rattle.pef_access.specs.Access.{meets_at, asks_at, is_unbacked};
+ghost use Rattle.pef_guest.specs.Whole.{IsWhole};
+ghost use Rattle.pef_guest.specs.Aims.{frame_met};
+ghost use Rattle.pef_access.specs.Access.{meets_at, meets_through, asks_at, through_at, is_unbacked, ShareBelow};
 
 use crate::place::place_below;
 use pef_frames::SecFrame;
 use pef_guest::Guest;
-use pef_model::Kind;
+use pef_model::{Kind, Phase};
+use pef_num::place_of;
 use pef_pages::Pages;
+use pef_pate::Pate;
 use pef_seal::Seal;
 
-/// Whether an access of a guest whose phase lets a vCPU run asks for a free frame: its page is Invalid, and is not on the move.
+/// Whether an access of a guest asks for a free frame: its page is Invalid, and not on the move. None of a guest in normal memory
+/// does.
 pub fn asks_for_frame<S: Seal>(guest: &Guest<S>, gpa: u64) -> bool
-    requires shift { IsWithin 8 16 guest.now.shift }
-    requires phase { may_return_in guest.now.phase ≡ true }
+    requires { IsWithin 8 16 guest.now.shift }
     ensures here { asks_at guest.now gpa ≡ result }
     ensures model { (plan : Plan) (g : GuestWhole) → Shows S.stands S.image plan guest.now g → is_unbacked (meets plan g.part gpa) ≡ result }
 {
-    is_unbacked_at(&guest.pages, guest.shift, gpa)
+    guest.phase != Phase::Normal && is_unbacked_at(&guest.pages, guest.shift, gpa)
+}
+
+/// The normal frame into which an access of a guest goes, by its number from 0: in normal memory that of the page in the guest's
+/// partition entry, and else that of a Shared page.
+///
+/// None where the address is no multiple of 8, where its page is none of the entry's or of the guest's, and where no normal frame
+/// backs the page.
+pub fn frame_of_access<S: Seal>(guest: &Guest<S>, gpa: u64) -> Option<u32>
+    requires { IsWhole S.takes guest.now }
+    ensures here { through_at guest.now gpa ≡ result }
+    ensures below { IfSome result (λ number. number < guest.now.normal) }
+    ensures model { (plan : Plan) (g : GuestWhole) → Shows S.stands S.image plan guest.now g → frame_met (meets plan g.part gpa) ≡ result }
+{
+    if guest.phase == Phase::Normal {
+        frame_through(&guest.entry, guest.normal, guest.shift, gpa)
+    } else {
+        shared_frame(&guest.pages, guest.shift, gpa)
+    }
 }
 
 /// Whether the page of an address is Invalid, and not on the move.
@@ -39,5 +60,29 @@ fn is_unbacked_at(pages: &Pages<SecFrame>, shift: u8, gpa: u64) -> bool
     match pages.kind(place.page) {
         Kind::Invalid => true,
         Kind::Secure | Kind::Out | Kind::Shared { .. } => false,
+    }
+}
+
+/// The normal frame of an address through a partition entry, which has one of so many for each of its pages.
+fn frame_through(entry: &Pate, normal: u32, shift: u8, gpa: u64) -> Option<u32>
+    requires shift { IsWithin 8 16 shift }
+    requires fits { entry.now.dw0 / 2 ^ shift + entry.now.dw1 ≤ normal }
+    ensures frame { frame_met (meets_through shift entry.now gpa) ≡ result }
+    ensures below { IfSome result (λ number. number < normal) }
+{
+    let place = place_of(gpa, shift)?;
+    entry.frame(place.page, shift)
+}
+
+/// The normal frame that backs the Shared page of an address.
+fn shared_frame(pages: &Pages<SecFrame>, shift: u8, gpa: u64) -> Option<u32>
+    requires { IsWithin 8 16 shift }
+    ensures frame { frame_met (meets_at shift pages.now gpa) ≡ result }
+    ensures below { (normal : ℕ) → ShareBelow normal pages.now → IfSome result (λ number. number < normal) }
+{
+    let place = place_below(gpa, shift, pages.count())?;
+    match pages.kind(place.page) {
+        Kind::Shared { frame, .. } => frame,
+        Kind::Invalid | Kind::Secure | Kind::Out => None,
     }
 }

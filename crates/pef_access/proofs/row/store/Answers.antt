@@ -1,12 +1,12 @@
-use Rattle.std.proofs.Common.{◌≡◌}
-use Rattle.pef_guest.specs.Shows.{vcpu_at}
-use Rattle.pef_guest.proofs.OneVcpu.{is_at}
-use Rattle.pef_access.proofs.AccessDoes.{store_does}
+use Rattle.std.proofs.Common.{sym, ◌∙◌}
+use Rattle.pef_access.proofs.RowDoes.{store_found, store_not_found}
 use Rattle.pef_access.proofs.row.store.Goals as goal
 
--- A store into one changes the bytes of its frame.
-pub returns : goal.returns
-returns g c pool =
-    let vcpu : c.index_mut-vcpu.result.now ≡ vcpu_at c.args.guest.now c.args.run.vid = is_at c.args.guest.now c.args.run.vid c.index_mut-vcpu.result.now c.requires.runs.vid c.index_mut-vcpu.ensures.value in
-    rw (c.store_from.ensures.answer, c.store_from.ensures.pages, c.store_from.ensures.vcpu, vcpu)
-    (store_does c.requires.runs c.requires.whole c.args.gpa g.S.Seal.stands g.S.Seal.image c.requires.met pool c.args.rs (rw vcpu at c.store_from.ensures.value))
+pub returns-in-Ok : goal.returns-in-Ok
+returns-in-Ok g c pool =
+    rw (c.store_at.ensures.answer, c.store_at.ensures.guest)
+    (store_found c.requires.runs c.requires.whole c.args.gpa g.S.Seal.stands g.S.Seal.image c.args.rs pool c.in-Ok.place c.store_at.ensures.value (sym c.reach.ensures.result ∙ c.in-Ok.is))
+
+pub returns-in-Err : goal.returns-in-Err
+returns-in-Err g c pool =
+    store_not_found c.requires.runs c.requires.whole c.args.gpa g.S.Seal.stands g.S.Seal.image c.requires.met c.requires.inside pool c.in-Err.answer (sym c.reach.ensures.result ∙ c.in-Err.is) c.args.rs

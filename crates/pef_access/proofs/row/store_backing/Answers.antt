@@ -1,12 +1,13 @@
-use Rattle.std.proofs.Common.{◌≡◌}
-use Rattle.pef_guest.specs.Shows.{vcpu_at}
-use Rattle.pef_guest.proofs.OneVcpu.{is_at}
-use Rattle.pef_access.proofs.AccessDoes.{store_backing_does}
+use Rattle.std.proofs.Common.{sym, ◌∙◌}
+use Rattle.pef_access.proofs.RowDoes.{store_backed, store_not_backed}
 use Rattle.pef_access.proofs.row.store_backing.Goals as goal
 
--- The frame of the page that is backed came from the pool.
-pub returns : goal.returns
-returns g c =
-    let vcpu : c.index_mut-vcpu.result.now ≡ vcpu_at c.args.guest.now c.args.run.vid = is_at c.args.guest.now c.args.run.vid c.index_mut-vcpu.result.now c.requires.runs.vid c.index_mut-vcpu.ensures.value in
-    rw (c.store_backed.ensures.answer, c.store_backed.ensures.vcpu, c.store_backed.ensures.pages, c.store_backed.ensures.pool, vcpu)
-    (store_backing_does c.requires.runs c.requires.whole c.args.gpa g.S.Seal.stands g.S.Seal.image c.args.pool.now c.requires.pool c.store_backed.ensures.number c.args.rs (rw vcpu at c.store_backed.ensures.value))
+pub returns-in-Some : goal.returns-in-Some
+returns-in-Some g c =
+    rw (c.store_at.ensures.answer, c.store_at.ensures.guest, c.back.ensures.pages, c.back.ensures.pool)
+    (store_backed c.requires.runs c.requires.whole c.args.gpa g.S.Seal.stands g.S.Seal.image c.requires.met c.args.pool.now c.requires.pool c.back.ensures.number c.in-Some.place (sym c.back.ensures.result ∙ c.in-Some.is) c.args.rs c.store_at.ensures.value)
+
+pub returns-in-None : goal.returns-in-None
+returns-in-None g c =
+    rw (c.back.ensures.pages, c.back.ensures.pool)
+    (store_not_backed c.requires.runs c.requires.whole c.args.gpa g.S.Seal.stands g.S.Seal.image c.requires.met c.args.pool.now (sym c.back.ensures.result ∙ c.in-None.is) c.args.rs)
