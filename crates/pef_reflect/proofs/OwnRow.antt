@@ -1,5 +1,5 @@
 -- A command that changes the registers of its vCPU alone.
-use Rattle.std.proofs.Common.{◌≡◌, ◌≢◌, ℕ, ◌<◌, Bool, true, List, length, refl, sym, subst, ◌∙◌, get_or}
+use Rattle.std.proofs.Common.{◌≡◌, ℕ, ◌<◌, Bool, true, List, length, None, refl, sym, subst, get_or}
 use Rattle.std.specs.Prelude.{slice_index_or, slice_set, is_some}
 use Rattle.std.proofs.lemmas.List.{get_or-set_same, get_or-set_other}
 use Rattle.pef_model.specs.declared.state.VState.TheVariants.{Idle}
@@ -8,12 +8,13 @@ use Rattle.pef_model.specs.declared.state.Regs.{Regs}
 use Rattle.pef_model.specs.declared.state.Tag.{Tag}
 use Rattle.pef_model.specs.declared.state.Ctx.TheVariants as ctx
 use Rattle.pef_model.specs.declared.command.Cmd.{Cmd}
-use Rattle.pef_model.specs.declared.command.Cmd.TheVariants.{HLd, UPagein, UPageout, UReturn}
+use Rattle.pef_model.specs.declared.command.Cmd.TheVariants.{HLd, UPate, UPagein, UPageout, UReturn, GLd, GSt}
 use Rattle.pef_model.specs.declared.entry.Answer.TheVariants.{Ret}
 use Rattle.pef_model.specs.Plan.{Plan}
 use Rattle.pef_model.specs.Event.{Mark}
 use Rattle.pef_model.specs.Registers.{call_of, loaded, with_code}
 use Rattle.pef_model.specs.Cpu.{CpuPart}
+use Rattle.pef_model.specs.GuestPart.{GuestPart}
 use Rattle.pef_model.specs.Guest.{Guest as GuestWhole, at_next_instruction}
 use Rattle.pef_model.specs.Deed.{refused_with}
 use Rattle.pef_frames.specs.Pool.{PoolState}
@@ -26,17 +27,25 @@ use Rattle.pef_guest.specs.Ready.{IsRunning}
 use Rattle.pef_guest.specs.Refused.{RefusesVcpu, RefusesGuest}
 use Rattle.pef_guest.specs.Rows.{RowWithPool, entry_running, with_registers}
 use Rattle.pef_guest.specs.Shows.{ShowsCpu, Shows, vcpu_at}
+use Rattle.pef_guest.specs.Aims.{frame_running}
 use Rattle.pef_guest.proofs.OneVcpu.{with_step, is_at, shows_registers, shows_stays}
 
 -- a vCPU whose call was refused
 pub refused_guest : {S : Type 0} (old : Guest S) (vid : ℕ) (vcpu : Vcpu) (below : vid < length old.vcpus.items) (there : vcpu ≡ get_or old.vcpus.items vid vcpu) (new : Vcpu) (code : Code) →
     RefusesVcpu vcpu new code → RefusesGuest vid old (with_step old old.pages vid new) code
 refused_guest old vid vcpu below there new code refuses = record {
-  rest = record { lpid = refl; shift = refl; normal = refl; secure = refl; phase = refl; generation = refl; pages = refl; sealer = refl };
+  rest = record { lpid = refl; shift = refl; normal = refl; secure = refl; phase = refl; generation = refl; entry = refl; pages = refl; sealer = refl };
   vcpu = subst (λ v. RefusesVcpu v (slice_index_or (slice_set old.vcpus.items vid new) vid (start_vcpu Idle)) code) (is_at old vid vcpu below there)
       (subst (λ v. RefusesVcpu vcpu v code) (sym (get_or-set_same old.vcpus.items vid new (start_vcpu Idle) below)) refuses);
   others = λ k other. get_or-set_other old.vcpus.items vid k new (start_vcpu Idle) other;
 }
+
+-- a call is no access
+pub call_inside : (plan : Plan) (g : GuestPart) (cmd : Cmd) → is_some (call_of cmd) ≡ true → frame_running plan g cmd ≡ None
+call_inside plan g (GLd rd gpa) k = absurd cc
+call_inside plan g (GSt rs gpa) k = absurd cc
+call_inside plan g (HLd ra) k = refl
+call_inside plan g cmd k = refl
 
 module _ {S : Type 0} (stands : S → Tag → List ℕ → List ℕ → Type 0) (image : S → Tag → List ℕ → List ℕ) (plan : Plan) (old : Guest S) (g : GuestWhole) (found : ℕ → ℕ → ℕ) (any : Bool) (run : Run) (cpu : Cpu) (c : CpuPart) (mark : Mark) (pool : PoolState)
     (runs : IsRunning cpu old run) (shows : Shows stands image plan old g) (shows_cpu : ShowsCpu cpu c) where
@@ -55,6 +64,8 @@ module _ {S : Type 0} (stands : S → Tag → List ℕ → List ℕ → Type 0) 
 
   -- each of the hypervisor's calls is refused in a guest
   pub refused_row : (cmd : Cmd) → is_some (call_of cmd) ≡ true → RefusedRow cmd
+  refused_row (UPate lpid dw0 dw1) k =
+      record { row = record { answered = refl; guest = shows_registers stands image plan old g run.vid shows runs.vid (refused_registers (UPate lpid dw0 dw1)); cpu_is = stays }; pool = refl }
   refused_row (UPagein lpid src gpa flags order) k =
       record { row = record { answered = refl; guest = shows_registers stands image plan old g run.vid shows runs.vid (refused_registers (UPagein lpid src gpa flags order)); cpu_is = stays }; pool = refl }
   refused_row (UPageout lpid dest gpa flags order) k =

@@ -1,12 +1,17 @@
-//! The hypervisor takes up a vCPU that waits.
+//! The hypervisor takes up a vCPU: by UV_RETURN one that waits in a secure guest, by `h.enter` one of a guest in normal memory.
 
-ghost use Rattle.std.specs.Prelude.{◌≡◌, ◌^◌, ◌<◌, length};
+ghost use Rattle.std.specs.Prelude.{◌≡◌, ℕ, ◌^◌, ◌&&◌, ◌<◌, ◌≤◌, nat_lt, length};
+ghost use Rattle.std.specs.Vec.{with_item};
+ghost use Rattle.pef_model.specs.Guest.{entered_at};
+ghost use Rattle.pef_model.specs.Deed.{is_waiting, may_return_in};
+ghost use Rattle.pef_model.specs.Entry.{can_be_entered};
 ghost use Rattle.pef_frames.specs.Pool.{PoolState};
+ghost use Rattle.pef_guest.specs.Shows.{vcpu_at};
 ghost use Rattle.pef_guest.specs.Whole.{IsWhole};
 ghost use Rattle.pef_guest.specs.Does.{DoesRow};
 
 use pef_guest::{Cpu, Guest, registers};
-use pef_model::{Answer, Cmd, Code, Ctx};
+use pef_model::{Answer, Cmd, Code, Ctx, Run, VState};
 use pef_seal::Seal;
 
 /// UV_RETURN of the hypervisor: the selected vCPU runs from now on. U_INVALID where its guest is neither Starting nor Secure,
@@ -34,13 +39,67 @@ pub fn uv_return<S: Seal>(
             outs: *outs,
         },
     );
-    if !guest.may_return() {
+    if !can_return(guest, cpu.vid) {
         return cpu.refuse(Code::UInvalid);
     }
-    let vcpu = &mut guest.vcpus[cpu.vid as usize];
-    if !vcpu.is_waiting() {
-        return cpu.refuse(Code::UInvalid);
+    let run = Run {
+        lpid: cpu.lpid,
+        vid: cpu.vid,
+        generation: guest.generation,
+    };
+    take_up(guest, cpu, run, r2)
+}
+
+/// `h.enter` of the hypervisor: a vCPU, by its number from 0, of a guest in normal memory runs from now on, in the guest's
+/// generation. It keeps its registers, since the command's value is for R3 of one that asked for it, and none does; and the
+/// CPU keeps its selection. The guest is the one that the command names.
+///
+/// U_PARAMETER where the guest isn't Normal; U_P2 where it has no such vCPU, or where the vCPU is neither Idle nor Parked. It
+/// is no ultracall, so it loads no register: one that comes back has its code in R3. This project's own.
+pub fn enter_normal<S: Seal>(guest: &mut Guest<S>, cpu: &mut Cpu, vid: u64) -> Answer
+    requires hypervisor { cpu.old.ctx ≡ Ctx.Hv }
+    requires few { length guest.old.vcpus.items ≤ 2 ^ 8 }
+    requires whole { IsWhole S.takes guest.old }
+    requires steps { guest.old.steps < 2 ^ 63 }
+    ensures { (pool : PoolState) (lpid value : ℕ) → lpid ≡ guest.old.lpid → DoesRow S.takes S.stands S.image (Cmd.HEnter lpid vid value) guest.old guest.new cpu.old cpu.new pool pool result }
+{
+    guest.steps += 1;
+    if !guest.may_enter() {
+        return cpu.refuse(Code::UParameter);
     }
-    vcpu.take_up(cpu.number, guest.generation, r2);
-    cpu.enter(guest.generation)
+    if !has_vcpu_to_enter(guest, vid) {
+        return cpu.refuse(Code::UP2);
+    }
+    let run = Run {
+        lpid: guest.lpid,
+        vid: vid as u8,
+        generation: guest.generation,
+    };
+    take_up(guest, cpu, run, 0)
+}
+
+/// Whether UV_RETURN takes up a vCPU of a guest.
+fn can_return<S: Seal>(guest: &Guest<S>, vid: u8) -> bool
+    requires { vid < length guest.now.vcpus.items }
+    ensures { result ≡ (may_return_in guest.now.phase && is_waiting (vcpu_at guest.now vid).state) }
+{
+    guest.may_return() && guest.vcpus[vid as usize].is_waiting()
+}
+
+/// Whether a guest has a vCPU of a number that `h.enter` enters.
+fn has_vcpu_to_enter<S: Seal>(guest: &Guest<S>, vid: u64) -> bool
+    ensures { result ≡ (nat_lt vid (length guest.now.vcpus.items) && can_be_entered (vcpu_at guest.now vid).state) }
+{
+    vid < guest.vcpus.len() as u64 && guest.vcpus[vid as usize].can_be_entered()
+}
+
+/// A vCPU of the guest runs on the CPU from now on; at R2's address, where that isn't 0.
+fn take_up<S: Seal>(guest: &mut Guest<S>, cpu: &mut Cpu, run: Run, r2: u64) -> Answer
+    requires { run.vid < length guest.old.vcpus.items }
+    ensures answer { result ≡ Answer.Enter }
+    ensures guest { guest.new ≡ record guest.old { vcpus = with_item guest.old.vcpus run.vid (record { state = VState.Running cpu.old.number; generation = run.generation; regs = entered_at (vcpu_at guest.old run.vid).regs r2 }) } }
+    ensures cpu { cpu.new ≡ record cpu.old { ctx = Ctx.Guest run; last = Answer.Enter } }
+{
+    guest.vcpus[run.vid as usize].take_up(cpu.number, run.generation, r2);
+    cpu.enter(run)
 }

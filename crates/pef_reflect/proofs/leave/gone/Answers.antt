@@ -1,4 +1,4 @@
-use Rattle.std.proofs.Common.{rules, ◌≡◌, ◌+◌, refl, ap, sym, subst, inl}
+use Rattle.std.proofs.Common.{rules, ◌+◌, refl, inl}
 use Rattle.pef_guest.proofs.Asked.{frames_stay, makes_gone}
 use Rattle.pef_reflect.proofs.GoneRow.{gone_row}
 use Rattle.pef_reflect.proofs.leave.gone.Goals as goal

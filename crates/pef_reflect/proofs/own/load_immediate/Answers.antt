@@ -10,7 +10,7 @@ pub returns : goal.returns
 returns g c pool =
     let vcpu : c.index_mut.result.now ≡ vcpu_at c.args.guest.now c.args.run.vid = is_at c.args.guest.now c.args.run.vid c.index_mut.result.now c.requires.runs.vid c.index_mut.ensures.value in
     rw c.assign.ensures.answer
-    (vcpu_does c.requires.runs c.assign.new.vcpu c.requires.whole tt
+    (vcpu_does c.requires.runs (λ plan whole shows. refl) c.assign.new.vcpu c.requires.whole tt
     (λ plan whole found part mark shows shows_cpu.
     rw (c.assign.ensures.vcpu, vcpu) (record {
       row = record {
