@@ -13,6 +13,9 @@ pub fn name_of(cmd: &Cmd) -> &'static [u8]
     match cmd {
         Cmd::HLd { .. } => b"h.ld",
         Cmd::HSt { .. } => b"h.st",
+        Cmd::HSelect { .. } => b"h.select",
+        Cmd::HEnter { .. } => b"h.enter",
+        Cmd::UPate { .. } => b"u.pate",
         Cmd::UPagein { .. } => b"u.pagein",
         Cmd::UPageout { .. } => b"u.pageout",
         Cmd::UReturn { .. } => b"u.return",

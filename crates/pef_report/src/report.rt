@@ -32,6 +32,7 @@ fn push_answer(line: &mut LineText, answer: &Answer)
         }
         Answer::Step => line.push(b"step"),
         Answer::Enter => line.push(b"enter"),
+        Answer::Exit(Exit::Normal) => line.push(b"exit normal"),
         Answer::Exit(Exit::Irq) => line.push(b"exit irq"),
         Answer::Again => line.push(b"again"),
         Answer::Gone => line.push(b"gone"),

@@ -1,8 +1,8 @@
 -- What can be written is a command that a history can have.
-use Rattle.std.proofs.Common.{ℕ, ◌^◌, ◌<◌, List, [], ◌∷◌, map}
+use Rattle.std.proofs.Common.{ℕ, ◌^◌, ◌<◌, List, [], ◌∷◌, map, rules}
 use Rattle.std.specs.List.{AllByRecursion}
 use Rattle.pef_model.specs.declared.command.Cmd.{Cmd}
-use Rattle.pef_model.specs.declared.command.Cmd.TheVariants.{HLd, HSt, UPagein, UPageout, UReturn, GLi, GLd, GSt, GIrq, Go}
+use Rattle.pef_model.specs.declared.command.Cmd.TheVariants.{UReturn}
 use Rattle.pef_model.specs.declared.command.Directive.{Directive}
 use Rattle.pef_model.specs.declared.command.Directive.TheVariants.{Once, GoAll}
 use Rattle.pef_model.specs.Commands.{IsCommand}
@@ -15,17 +15,10 @@ fit_below : (ns : List ℕ) → AllByRecursion Fits (map (λ n. Number n) ns) �
 fit_below [] fit = tt
 fit_below (n ∷ ns) fit = (fit.0, fit_below ns fit.1)
 
+-- the last line is for each command without outputs
 pub command_is : (right : ℕ) (cmd : Cmd) → CanBeWritten right (Once cmd) → IsCommand cmd
-command_is right (HLd ra) can = can.operands.0
-command_is right (HSt ra value) can = let o = can.operands in (o.0, o.1.0)
-command_is right (UPagein lpid src gpa flags order) can = let o = can.operands in (o.0, o.1.0, o.1.1.0, o.1.1.1.0, o.1.1.1.1.0)
-command_is right (UPageout lpid dest gpa flags order) can = let o = can.operands in (o.0, o.1.0, o.1.1.0, o.1.1.1.0, o.1.1.1.1.0)
 command_is right (UReturn r0 r2 outs) can = let o = can.operands in (o.0, o.1.0, can.outputs, fit_below outs o.1.1)
-command_is right (GLi rd value) can = let o = can.operands in (o.0, o.1.0.0)
-command_is right (GLd rd gpa) can = let o = can.operands in (o.0, o.1.0)
-command_is right (GSt rs gpa) can = let o = can.operands in (o.0, o.1.0)
-command_is right GIrq can = tt
-command_is right Go can = tt
+command_is right cmd can = let o = can.operands in search rules
 
 first_is : (right : ℕ) (d : Directive) → CanBeWritten right d → IsCommand (first_command d)
 first_is right (Once cmd) can = command_is right cmd can

@@ -1,5 +1,5 @@
 -- Command lines that are read can be written.
-use Rattle.std.proofs.Common.{◌≡◌, ◌<◌, ℕ, ◌+◌, ◌^◌, Bool, true, false, List, [], ◌∷◌, drop, slice_set, option_map, Some, refl, ap, ◌∙◌, sym, subst, zero, suc, arith}
+use Rattle.std.proofs.Common.{◌≡◌, ◌<◌, ℕ, ◌+◌, ◌^◌, Bool, true, false, List, [], ◌∷◌, ◌++◌, drop, replicate, slice_set, option_map, Some, refl, rules, ap, ◌∙◌, sym, subst, zero, suc, arith}
 use Rattle.std.specs.Prelude.{slice_index}
 use Rattle.std.specs.List.{list_all, AllByRecursion}
 use Rattle.std.proofs.lemmas.Bool.{and_parts}
@@ -13,9 +13,9 @@ use Rattle.pef_script.specs.declared.table.Word.{Word}
 use Rattle.pef_script.specs.declared.table.Word.TheVariants as w
 use Rattle.pef_script.specs.Command.{kind_of, operands_in, with_operand, shape_of}
 use Rattle.pef_script.specs.Cause.{first}
-use Rattle.pef_script.specs.Table.{Shape, shape, word_named, no_operands}
+use Rattle.pef_script.specs.Table.{Shape, shape, word_named, no_operands, at, reg}
 use Rattle.pef_script.specs.Token.{pair_in}
-use Rattle.pef_script.specs.Written.{CanBeWritten}
+use Rattle.pef_script.specs.Written.{Operand, Number, Register, Pair as PairOperand, Fits, CanBeWritten}
 use Rattle.pef_script.proofs.Results.{option_map_some}
 use Rattle.pef_script.proofs.ReadWords.{Holds, number_fits, register_below, pair_fits}
 
@@ -85,27 +85,28 @@ all_leave place (k ∷ kinds) o (token ∷ more) none after e =
     option_and_then_some (λ (o : Operands). operands_in (place + 1) kinds o more) (with_operand k place token o) after e (λ one is rest.
     all_leave (place + 1) kinds one more parts.1 after rest ∙ one_leaves k place token o parts.0 one is)
 
--- what a command makes of such operands can be written
+-- the operands that stand at a line's places, by their kinds
+abbrev picked : ℕ → List Kind → Operands → List Operand
+picked place [] o = []
+picked place (kind.Number ∷ kinds) o = Number (at o place) ∷ picked (place + 1) kinds o
+picked place (kind.Register ∷ kinds) o = Register (reg o place) ∷ picked (place + 1) kinds o
+picked place (kind.Pair ∷ kinds) o = PairOperand (at o place) o.right ∷ picked (place + 1) kinds o
+
+-- those of operands that are read can be written
+picked_fit : (place : ℕ) (kinds : List Kind) (o : Operands) → AreSmall o → AllByRecursion Fits (picked place kinds o)
+picked_fit place [] o small = tt
+picked_fit place (kind.Number ∷ kinds) o small = (index_below (2 ^ 64) o.numbers place (omega arith) small.numbers, picked_fit (place + 1) kinds o small)
+picked_fit place (kind.Register ∷ kinds) o small = (index_below 32 o.registers place (omega arith) small.registers, picked_fit (place + 1) kinds o small)
+picked_fit place (kind.Pair ∷ kinds) o small = ((index_below (2 ^ 64) o.numbers place (omega arith) small.numbers, small.right), picked_fit (place + 1) kinds o small)
+
+-- the kinds of a command's operands, where each is written
+abbrev all_kinds : Shape → List Kind
+all_kinds s = s.kinds ++ replicate s.more kind.Number
+
+-- what a command makes of such operands can be written: the last line is for each command without a pair
 made_can : (word : Word) (o : Operands) → AreSmall o → (list_all no_pair (shape word).kinds ≡ true → o.right ≡ 0) → CanBeWritten o.right ((shape word).make o)
-made_can word o small none = by_word word none where
-  n : (i : ℕ) → slice_index o.numbers i < 2 ^ 64
-  n i = index_below (2 ^ 64) o.numbers i (omega arith) small.numbers
-
-  r : (i : ℕ) → slice_index o.registers i < 32
-  r i = index_below 32 o.registers i (omega arith) small.registers
-
-  by_word : (word : Word) → (list_all no_pair (shape word).kinds ≡ true → o.right ≡ 0) → CanBeWritten o.right ((shape word).make o)
-  by_word w.HLd none = record { operands = (n 0, tt); outputs = tt; pair = none refl }
-  by_word w.HSt none = record { operands = (n 0, (n 1, tt)); outputs = tt; pair = none refl }
-  by_word w.UPagein none = record { operands = (n 0, (n 1, (n 2, (n 3, (n 4, tt))))); outputs = tt; pair = none refl }
-  by_word w.UPageout none = record { operands = (n 0, (n 1, (n 2, (n 3, (n 4, tt))))); outputs = tt; pair = none refl }
-  by_word w.UReturn none = record { operands = (n 0, (n 1, (n 2, (n 3, (n 4, (n 5, (n 6, (n 7, (n 8, (n 9, (n 10, tt))))))))))); outputs = refl; pair = none refl }
-  by_word w.GLi none = record { operands = (r 0, ((n 1, small.right), tt)); outputs = tt; pair = tt }
-  by_word w.GLd none = record { operands = (r 0, (n 1, tt)); outputs = tt; pair = none refl }
-  by_word w.GSt none = record { operands = (r 0, (n 1, tt)); outputs = tt; pair = none refl }
-  by_word w.GIrq none = record { operands = tt; outputs = tt; pair = none refl }
-  by_word w.Go none = record { operands = tt; outputs = tt; pair = none refl }
-  by_word w.GoAll none = record { operands = tt; outputs = tt; pair = none refl }
+made_can w.GLi o small none = record { operands = picked_fit 0 (all_kinds (shape w.GLi)) o small; outputs = tt; pair = tt }
+made_can word o small none = record { operands = picked_fit 0 (all_kinds (shape word)) o small; outputs = search rules; pair = none refl }
 
 -- what is read of tokens can be written
 pub read_can : (tokens operands : List (List ℕ)) (s : Shape) (o : Operands) → shape_of tokens ≡ Some s → operands_in 0 s.kinds no_operands operands ≡ Some o → CanBeWritten o.right (s.make o)

@@ -1,5 +1,5 @@
 -- The words of each line are read as it.
-use Rattle.std.proofs.Common.{◌≡◌, ℕ, ◌+◌, ◌<◌, ◌≤◌, ◌^◌, ◌==◌, ◌++◌, Bool, true, false, cond, List, [], ◌∷◌, length, map, drop, slice_set, option_and_then, refl, ap, subst, sym, ◌∙◌, zero, suc, Some, Ok, arith, decimal}
+use Rattle.std.proofs.Common.{◌≡◌, ℕ, ◌+◌, ◌<◌, ◌≤◌, ◌^◌, ◌==◌, ◌++◌, Bool, true, false, cond, List, [], ◌∷◌, length, map, drop, slice_set, option_and_then, Option, None, refl, ap, subst, sym, ◌∙◌, zero, suc, Some, Ok, arith, decimal, rules}
 use Rattle.std.specs.Prelude.{codes}
 use Rattle.std.specs.Char.{digit_value}
 use Rattle.std.specs.Fmt.{digits}
@@ -8,9 +8,10 @@ use Rattle.std.specs.Str.Parse.{AllDigits}
 use Rattle.std.proofs.lemmas.Bool.{lt-ltb, ne_eqb}
 use Rattle.std.proofs.lemmas.Bool.Decides.{nat_tests}
 use Rattle.std.proofs.lemmas.Fmt.{digits_is_IsNumeral, decimal_is_IsNumeral}
-use Rattle.pef_model.specs.declared.command.Cmd.TheVariants.{HLd, HSt, UPagein, UPageout, UReturn, GLi, GLd, GSt, GIrq, Go}
+use Rattle.std.proofs.lemmas.List.{length-map}
+use Rattle.pef_model.specs.declared.command.Cmd.TheVariants.{UReturn}
 use Rattle.pef_model.specs.declared.command.Directive.{Directive}
-use Rattle.pef_model.specs.declared.command.Directive.TheVariants.{Once, GoAll}
+use Rattle.pef_model.specs.declared.command.Directive.TheVariants.{Once}
 use Rattle.pef_script.specs.declared.table.Kind.{Kind}
 use Rattle.pef_script.specs.declared.table.Kind.TheVariants as kind
 use Rattle.pef_script.specs.declared.table.Operands.{Operands}
@@ -116,16 +117,30 @@ record IsRead (hex : Bool) (cpus number cpu right : ℕ) (d : Directive) : Type 
   reads : line_in cpus number (number_text hex cpu ∷ name_of d ∷ map (operand_text hex) (operands_of right d)) ≡ Ok (record { line = record { number = number; cpu = cpu; directive = d }; right = right })
   words : AllByRecursion IsWord (number_text hex cpu ∷ name_of d ∷ map (operand_text hex) (operands_of right d))
 
--- a directive by its name is read again
-by_word : (hex : Bool) (cpus number cpu right : ℕ) (d : Directive) (word : Word) → cpu < cpus → cpu < 2 ^ 64 → AllByRecursion Fits (operands_of right d) →
-    is_word (name_of d) ≡ true → word_named (name_of d) ≡ Some word → AreOf (shape word).kinds (operands_of right d) →
-    (counted (shape word) (length (map (operand_text hex) (operands_of right d))) ≡ Some (length (map (operand_text hex) (operands_of right d)))) →
-    (shape word).make (with_all 0 (operands_of right d) no_operands) ≡ d → (with_all 0 (operands_of right d) no_operands).right ≡ right → IsRead hex cpus number cpu right d
+-- a directive is one of a row: its name is a word, and the row reads its operands and makes it of them
+record IsRow (right : ℕ) (d : Directive) (word : Word) : Type 0 where
+  name : is_word (name_of d) ≡ true
+  kinds : AreOf (shape word).kinds (operands_of right d)
+  count : counted (shape word) (length (operands_of right d)) ≡ Some (length (operands_of right d))
+  makes : (shape word).make (with_all 0 (operands_of right d) no_operands) ≡ d
+  pair : (with_all 0 (operands_of right d) no_operands).right ≡ right
+
+-- what a directive's name finds is its row
+abbrev HasRow : ℕ → Directive → Option Word → Type 0
+HasRow right d None = ⊥
+HasRow right d (Some word) = IsRow right d word
+
+-- a directive that has its row is read again
+by_row : (hex : Bool) (cpus number cpu right : ℕ) (d : Directive) (found : Option Word) → cpu < cpus → cpu < 2 ^ 64 → AllByRecursion Fits (operands_of right d) →
+    word_named (name_of d) ≡ found → HasRow right d found → IsRead hex cpus number cpu right d
 unfolding line_in
-by_word hex cpus number cpu right d word below fits fit name named are count makes is = record {
-  reads = rw (number_reads hex cpu fits, named, count, operands_read hex 0 (shape word).kinds (operands_of right d) no_operands are fit, lt-ltb cpu cpus below, makes, is) refl;
-  words = (number_word hex cpu fits, (word_tested (name_of d) name, operand_words hex (operands_of right d) fit));
-}
+by_row hex cpus number cpu right d None below fits fit named none = absurd none
+by_row hex cpus number cpu right d (Some word) below fits fit named row =
+    let size : length (map (operand_text hex) (operands_of right d)) ≡ length (operands_of right d) = length-map (operands_of right d) (operand_text hex) in
+    record {
+      reads = rw (number_reads hex cpu fits, named, size, row.count, operands_read hex 0 (shape word).kinds (operands_of right d) no_operands row.kinds fit, lt-ltb cpu cpus below, row.makes, row.pair) refl;
+      words = (number_word hex cpu fits, (word_tested (name_of d) row.name, operand_words hex (operands_of right d) fit));
+    }
 
 -- a fact of each list of so many numbers
 abbrev Each : ℕ → (List ℕ → Type 0) → Type 0
@@ -139,25 +154,16 @@ each_of zero P all (x ∷ xs) size = absurd (omega (arith, size))
 each_of (suc n) P all [] size = absurd (omega (arith, size))
 each_of (suc n) P all (x ∷ xs) size = each_of n (λ (xs : List ℕ). P (x ∷ xs)) (all x) xs (omega (arith, size))
 
-line_read : (hex : Bool) (cpus number cpu right : ℕ) (d : Directive) → cpu < cpus → cpu < 2 ^ 64 → CanBeWritten right d → IsRead hex cpus number cpu right d
+-- each directive has its row: the last line is for each without outputs
+has_row : (right : ℕ) (d : Directive) → CanBeWritten right d → HasRow right d (word_named (name_of d))
 unfolding word_named
-line_read hex cpus number cpu right (Once (HLd ra)) below fits can = by_word hex cpus number cpu right (Once (HLd ra)) w.HLd below fits can.operands refl refl (refl, tt) refl refl (sym can.pair)
-line_read hex cpus number cpu right (Once (HSt ra value)) below fits can = by_word hex cpus number cpu right (Once (HSt ra value)) w.HSt below fits can.operands refl refl (refl, (refl, tt)) refl refl (sym can.pair)
-line_read hex cpus number cpu right (Once (UPagein lpid src gpa flags order)) below fits can =
-    by_word hex cpus number cpu right (Once (UPagein lpid src gpa flags order)) w.UPagein below fits can.operands refl refl (refl, (refl, (refl, (refl, (refl, tt))))) refl refl (sym can.pair)
-line_read hex cpus number cpu right (Once (UPageout lpid dest gpa flags order)) below fits can =
-    by_word hex cpus number cpu right (Once (UPageout lpid dest gpa flags order)) w.UPageout below fits can.operands refl refl (refl, (refl, (refl, (refl, (refl, tt))))) refl refl (sym can.pair)
-line_read hex cpus number cpu right (Once (UReturn r0 r2 outs)) below fits can =
-    each_of 9 (λ (outs : List ℕ). AllByRecursion Fits (operands_of right (Once (UReturn r0 r2 outs))) → IsRead hex cpus number cpu right (Once (UReturn r0 r2 outs)))
-    (λ a b c d e f g h i fit. by_word hex cpus number cpu right (Once (UReturn r0 r2 (a ∷ b ∷ c ∷ d ∷ e ∷ f ∷ g ∷ h ∷ i ∷ []))) w.UReturn below fits fit
-    refl refl (refl, (refl, (refl, (refl, (refl, (refl, (refl, (refl, (refl, (refl, (refl, tt))))))))))) refl refl (sym can.pair))
-    outs can.outputs can.operands
-line_read hex cpus number cpu right (Once (GLi rd value)) below fits can = by_word hex cpus number cpu right (Once (GLi rd value)) w.GLi below fits can.operands refl refl (refl, (refl, tt)) refl refl refl
-line_read hex cpus number cpu right (Once (GLd rd gpa)) below fits can = by_word hex cpus number cpu right (Once (GLd rd gpa)) w.GLd below fits can.operands refl refl (refl, (refl, tt)) refl refl (sym can.pair)
-line_read hex cpus number cpu right (Once (GSt rs gpa)) below fits can = by_word hex cpus number cpu right (Once (GSt rs gpa)) w.GSt below fits can.operands refl refl (refl, (refl, tt)) refl refl (sym can.pair)
-line_read hex cpus number cpu right (Once GIrq) below fits can = by_word hex cpus number cpu right (Once GIrq) w.GIrq below fits can.operands refl refl tt refl refl (sym can.pair)
-line_read hex cpus number cpu right (Once Go) below fits can = by_word hex cpus number cpu right (Once Go) w.Go below fits can.operands refl refl tt refl refl (sym can.pair)
-line_read hex cpus number cpu right GoAll below fits can = by_word hex cpus number cpu right GoAll w.GoAll below fits can.operands refl refl tt refl refl (sym can.pair)
+has_row right (Once (UReturn r0 r2 outs)) can =
+    each_of 9 (λ (outs : List ℕ). HasRow right (Once (UReturn r0 r2 outs)) (Some w.UReturn))
+    (λ a b c d e f g h i. record { name = refl; kinds = search rules; count = refl; makes = refl; pair = sym can.pair }) outs can.outputs
+has_row right d can = record { name = refl; kinds = search rules; count = refl; makes = refl; pair = cc }
+
+line_read : (hex : Bool) (cpus number cpu right : ℕ) (d : Directive) → cpu < cpus → cpu < 2 ^ 64 → CanBeWritten right d → IsRead hex cpus number cpu right d
+line_read hex cpus number cpu right d below fits can = by_row hex cpus number cpu right d (word_named (name_of d)) below fits can.operands refl (has_row right d can)
 
 pub each_line_is_read : EachLineIsRead
 each_line_is_read hex cpus l below fits can = (line_read hex cpus l.line.number l.line.cpu l.right l.line.directive below fits can).reads

@@ -3,7 +3,7 @@ use Rattle.std.specs.Prelude.{◌≡◌, ℕ, ◌+◌, List, [], ◌∷◌, ◌+
 use Rattle.std.specs.List.{flat_map}
 use Rattle.pef_model.specs.declared.command.Directive.{Directive}
 use Rattle.pef_model.specs.declared.command.Directive.TheVariants.{Once, GoAll}
-use Rattle.pef_model.specs.declared.command.Cmd.TheVariants.{HLd, HSt, UPagein, UPageout, UReturn, GLi, GLd, GSt, GIrq, Go}
+use Rattle.pef_model.specs.declared.command.Cmd.TheVariants.{HLd, HSt, HSelect, HEnter, UPate, UPagein, UPageout, UReturn, GLi, GLd, GSt, GIrq, Go}
 use Rattle.pef_model.specs.Plan.{default_config}
 use Rattle.pef_model.specs.RunLaw.{store_script}
 use Rattle.pef_script.specs.declared.fault.Cause.{Cause}
@@ -35,6 +35,9 @@ IsRead line d = IsReadWith line 0 d
 pub record EachCommandIsRead : Type 0 where
   pub load : IsRead (codes "0 h.ld 8\n") (Once (HLd 8))
   pub store : IsRead (codes "0 h.st 8 5\n") (Once (HSt 8 5))
+  pub select : IsRead (codes "0 h.select 1 2\n") (Once (HSelect 1 2))
+  pub enter : IsRead (codes "0 h.enter 1 2 0x3\n") (Once (HEnter 1 2 3))
+  pub partition : IsRead (codes "0 u.pate 1 0x200 3\n") (Once (UPate 1 0x200 3))
   pub page_in : IsRead (codes "0 u.pagein 1 2 3 4 5\n") (Once (UPagein 1 2 3 4 5))
   pub page_out : IsRead (codes "0 u.pageout 1 2 3 4 5\n") (Once (UPageout 1 2 3 4 5))
   pub returns : IsRead (codes "0 u.return 1 2\n") (Once (UReturn 1 2 (replicate 9 0)))
@@ -93,6 +96,9 @@ abbrev pub commands : List Words
 commands =
     command (codes "h.ld") (codes "0" ∷ [])
     ∷ command (codes "h.st") (codes "0" ∷ codes "0" ∷ [])
+    ∷ command (codes "h.select") (codes "0" ∷ codes "0" ∷ [])
+    ∷ command (codes "h.enter") (codes "0" ∷ codes "0" ∷ codes "0" ∷ [])
+    ∷ command (codes "u.pate") (codes "0" ∷ codes "0" ∷ codes "0" ∷ [])
     ∷ command (codes "u.pagein") (codes "0" ∷ codes "0" ∷ codes "0" ∷ codes "0" ∷ codes "0" ∷ [])
     ∷ command (codes "u.pageout") (codes "0" ∷ codes "0" ∷ codes "0" ∷ codes "0" ∷ codes "0" ∷ [])
     ∷ record { name = codes "u.return"; operands = codes "0" ∷ codes "0" ∷ []; more = 9 }

@@ -23,6 +23,9 @@ pub enum Kind {
 pub enum Word {
     HLd,
     HSt,
+    HSelect,
+    HEnter,
+    UPate,
     UPagein,
     UPageout,
     UReturn,
@@ -70,9 +73,12 @@ macro_rules! row {
 }
 
 /// The commands of a script.
-pub static TABLE: [Row; 11] = [
+pub static TABLE: [Row; 14] = [
     row!(b"h.ld", [N], 0, HLd),
     row!(b"h.st", [N, N], 0, HSt),
+    row!(b"h.select", [N, N], 0, HSelect),
+    row!(b"h.enter", [N, N, N], 0, HEnter),
+    row!(b"u.pate", [N, N, N], 0, UPate),
     row!(b"u.pagein", [N, N, N, N, N], 0, UPagein),
     row!(b"u.pageout", [N, N, N, N, N], 0, UPageout),
     row!(b"u.return", [N, N], 9, UReturn),
@@ -109,6 +115,20 @@ pub fn made(word: Word, o: &Operands) -> Directive
         Word::HSt => Cmd::HSt {
             ra: n[0],
             value: n[1],
+        },
+        Word::HSelect => Cmd::HSelect {
+            lpid: n[0],
+            vid: n[1],
+        },
+        Word::HEnter => Cmd::HEnter {
+            lpid: n[0],
+            vid: n[1],
+            value: n[2],
+        },
+        Word::UPate => Cmd::UPate {
+            lpid: n[0],
+            dw0: n[1],
+            dw1: n[2],
         },
         Word::UPagein => Cmd::UPagein {
             lpid: n[0],

@@ -13,8 +13,14 @@ fn prints(rt: &impl Abort, alloc: Global, answer: &Answer, line: &str) -> Result
 }
 
 #[test]
-fn an_answer_that_no_script_gets_has_its_words(rt: HostRuntime) -> Result<(), Fail> {
+fn an_answer_that_few_scripts_get_has_its_words(rt: HostRuntime) -> Result<(), Fail> {
     prints(&rt, rt.alloc(), &Answer::Gone, "12 3 g.irq gone\n")?;
+    prints(
+        &rt,
+        rt.alloc(),
+        &Answer::Exit(Exit::Normal),
+        "12 3 g.irq exit normal\n",
+    )?;
     prints(&rt, rt.alloc(), &Answer::Nothing, "12 3 g.irq nothing\n")
 }
 
