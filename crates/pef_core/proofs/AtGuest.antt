@@ -1,5 +1,11 @@
 -- A step at a guest that does what the row contract says does what every step of the machine does.
-use Rattle.std.proofs.Common.{◌≡◌, ℕ, ◌+◌, ◌-◌, ◌^◌, ◌<◌, ◌≤◌, nat_lt, nat_le, ◌&&◌, Bool, true, false, if◌then◌else◌, List, length, Option, Some, None, refl, ap, sym, subst, ◌∙◌, ◌⊎◌, inl, inr, arith}
+use Rattle.pef_core.proofs.LentFrames.{PutsFrame, writes_nothing, lent_shift, lent_count, found_lent, shows_lent, unwritten, lent_written}
+use Rattle.pef_core.specs.Alone.{LeavesNormal}
+use Rattle.pef_core.specs.Lent.{frame_needed, LeavesLent}
+use Rattle.pef_model.specs.declared.state.Work.{Work}
+use Rattle.pef_model.specs.declared.aim.Aim.{Aim}
+use Rattle.pef_model.specs.declared.aim.Aim.TheVariants as aim
+use Rattle.std.proofs.Common.{◌≡◌, ℕ, ◌+◌, ◌-◌, ◌^◌, ◌<◌, ◌≤◌, nat_lt, nat_le, ◌&&◌, Bool, true, false, if◌then◌else◌, List, length, Option, Some, None, refl, ap, sym, subst, ◌∙◌, ◌⊎◌, inl, inr, arith, option_map}
 use Rattle.std.specs.Prelude.{slice_get, slice_set}
 use Rattle.std.proofs.lemmas.Bool.Decides.{nat_tests}
 use Rattle.std.proofs.Math.ListN.{length-set}
@@ -13,13 +19,13 @@ use Rattle.pef_model.specs.declared.state.Ctx.TheVariants as ctx
 use Rattle.pef_model.specs.declared.state.Tag.{Tag}
 use Rattle.pef_model.specs.declared.command.Code.TheVariants.{UParameter, UP2}
 use Rattle.pef_model.specs.declared.command.Cmd.{Cmd}
-use Rattle.pef_model.specs.declared.command.Cmd.TheVariants.{HLd, HSt, UPagein, UPageout, UReturn, Go}
+use Rattle.pef_model.specs.declared.command.Cmd.TheVariants.{HLd, HSt, UReturn, Go, HSelect, HEnter}
 use Rattle.pef_model.specs.declared.entry.Answer.{Answer}
 use Rattle.pef_model.specs.declared.entry.Answer.TheVariants as answer
 use Rattle.pef_model.specs.Commands.{IsCommand}
 use Rattle.pef_model.specs.Plan.{Plan}
 use Rattle.pef_model.specs.Event.{Event, Mark}
-use Rattle.pef_model.specs.Target.{Alone, AtGuest, AtFrame, frame_of, has_real_place, is_guest, target_in}
+use Rattle.pef_model.specs.Target.{Alone, AtGuest, AtFrame, frame_of, has_real_place, is_guest, target_in, aim_in, aim_of_hypervisor, aim_of_work, aim_of_running, target_of_aim}
 use Rattle.pef_model.specs.Cpu.{CpuPart}
 use Rattle.pef_model.specs.Guest.{Guest as GuestWhole}
 use Rattle.pef_model.specs.Deed.{deed_guest}
@@ -30,10 +36,10 @@ use Rattle.pef_frames.specs.Pool.{PoolState}
 use Rattle.pef_guest.specs.declared.cpu.Cpu.{Cpu}
 use Rattle.pef_guest.specs.declared.guest.Guest.{Guest}
 use Rattle.pef_guest.specs.Keeps.{KeepsLife, KeepsMovers}
-use Rattle.pef_guest.specs.Aims.{guest_aimed, changes_life}
+use Rattle.pef_guest.specs.Aims.{guest_aimed, changes_life, guest_of}
 use Rattle.pef_guest.specs.Ready.{MayEnd, HasRoomFor, ReadyIn, RoomIn, IsReadyFor, IsReadyPool, WorksAt}
 use Rattle.pef_guest.specs.Refused.{RefusesCpu, RefusesGuest, SameGuest, BackWith, IsGone, Refuses}
-use Rattle.pef_guest.specs.Does.{is_any_free, entry_at_guest, DoesRow}
+use Rattle.pef_guest.specs.Does.{is_any_free, entry_at_guest, NormalPart, DoesLent}
 use Rattle.pef_core.specs.Normal.{NormalState}
 use Rattle.pef_core.specs.State.{State, IsVcpu, HasVcpu, MayRun, IsMoveOf, IsWholeMachine, Works}
 use Rattle.pef_core.specs.Steps.{Continues}
@@ -42,7 +48,7 @@ use Rattle.pef_core.specs.Does.{Targets, DoesStep}
 use Rattle.pef_core.proofs.Entries.{entry_at}
 use Rattle.pef_core.proofs.Continuing.{mark_at, makes_at_guest}
 use Rattle.pef_core.proofs.Places.{get_set, guest_below, vcpu_below, phase_lets, sized}
-use Rattle.pef_core.proofs.WholeAfter.{whole_guest, once_stays, vcpu_stays}
+use Rattle.pef_core.proofs.WholeAfter.{whole_guest, once_stays, vcpu_stays, whole_normal}
 use Rattle.pef_core.proofs.Moving.{Site, begun_move, moved_by, has_room, move_below}
 use Rattle.pef_core.proofs.Leaving.{get_other, at_place, guests_stay, on_guest}
 use Rattle.pef_core.proofs.Alone.{alone_guest}
@@ -63,8 +69,6 @@ moves_out move l k cmd is = cc
 -- a command of a vCPU aims at its guest
 runs_at : (run : Run) (l k : ℕ) (cmd : Cmd) → guest_aimed (ctx.Guest run) l cmd ≡ Some k → run.lpid ≡ k
 runs_at run l k (HLd ra) is = cc
-runs_at run l k (HSt ra value) is = cc
-runs_at run l k Go is = cc
 runs_at run l k cmd is = cc
 
 -- what aims at a guest names it
@@ -80,47 +84,69 @@ one_moved : (b : Bool) (lpid n k : ℕ) → (if b then AtGuest lpid else AtFrame
 one_moved true lpid n k is = (let same : lpid ≡ k = cc in ap (λ (x : ℕ). Some x) same)
 one_moved false lpid n k is = absurd cc
 
-pub named : (plan : Plan) (c : Ctx) (l : ℕ) (cmd : Cmd) (k : ℕ) → target_in plan c l cmd ≡ AtGuest k → guest_aimed c l cmd ≡ Some k
-named plan ctx.Hv l (HLd ra) k is = absurd (no_address (has_real_place plan ra) (frame_of plan ra) k is)
-named plan ctx.Hv l (HSt ra value) k is = absurd (no_address (has_real_place plan ra) (frame_of plan ra) k is)
-named plan ctx.Hv l (UPagein lpid src gpa flags order) k is = (one_named (nat_le 1 lpid && nat_le lpid plan.guests) lpid k is).0
-named plan ctx.Hv l (UPageout lpid dest gpa flags order) k is = (one_named (nat_le 1 lpid && nat_le lpid plan.guests) lpid k is).0
-named plan ctx.Hv l (UReturn r0 r2 outs) k is = (let same : l ≡ k = cc in ap (λ (x : ℕ). Some x) same)
-named plan ctx.Hv l cmd k is = absurd cc
-named plan (ctx.Uv (Inward move)) l Go k is = one_moved move.copied move.lpid move.frame k is
-named plan (ctx.Uv (Inward move)) l cmd k is = absurd cc
-named plan (ctx.Uv (Outward move)) l Go k is = one_moved move.copied move.lpid move.frame k is
-named plan (ctx.Uv (Outward move)) l cmd k is = absurd cc
-named plan (ctx.Guest run) l (HLd ra) k is = absurd cc
-named plan (ctx.Guest run) l (HSt ra value) k is = absurd cc
-named plan (ctx.Guest run) l Go k is = absurd cc
-named plan (ctx.Guest run) l cmd k is = (let same : run.lpid ≡ k = cc in ap (λ (x : ℕ). Some x) same)
+aimed_at : (plan : Plan) (a : Aim) (k : ℕ) → target_of_aim plan a ≡ AtGuest k → guest_of a ≡ Some k
+aimed_at plan aim.Nothing k is = absurd cc
+aimed_at plan (aim.NamedGuest lpid) k is = (one_named (nat_le 1 lpid && nat_le lpid plan.guests) lpid k is).0
+aimed_at plan (aim.Guest lpid) k is = (let same : lpid ≡ k = cc in ap (λ (x : ℕ). Some x) same)
+aimed_at plan (aim.Address ra) k is = absurd (no_address (has_real_place plan ra) (frame_of plan ra) k is)
+aimed_at plan (aim.Move move) k is = one_moved move.copied move.lpid move.frame k is
 
--- it is one of the machine's
+pub named : (plan : Plan) (c : Ctx) (l : ℕ) (cmd : Cmd) (k : ℕ) → target_in plan c l cmd ≡ AtGuest k → guest_aimed c l cmd ≡ Some k
+named plan c l cmd k is = aimed_at plan (aim_in c l cmd) k is
+
+-- a number is that of a guest of so many
+abbrev IsGuestIn : ℕ → ℕ → Type 0
+IsGuestIn guests lpid = (1 ≤ lpid) × (lpid - 1 < guests)
+
+-- an aim at a guest that is there, or at a page on the move, is at one of the machine's
+abbrev IsIn : ℕ → Aim → Type 0
+IsIn guests (aim.Guest lpid) = IsGuestIn guests lpid
+IsIn guests (aim.Move move) = IsGuestIn guests move.lpid
+IsIn guests other = Unit {0}
+
+hypervisor_in : (guests l : ℕ) (cmd : Cmd) → IsGuestIn guests l → IsIn guests (aim_of_hypervisor l cmd)
+hypervisor_in guests l (UReturn r0 r2 outs) selected = selected
+hypervisor_in guests l cmd selected = tt
+
+work_in : (guests : ℕ) (work : Work) (move : Move) (cmd : Cmd) → (work ≡ Inward move) ⊎ (work ≡ Outward move) → IsGuestIn guests move.lpid → IsIn guests (aim_of_work work cmd)
+work_in guests work move Go (inl is) moves = rw is moves
+work_in guests work move Go (inr is) moves = rw is moves
+work_in guests work move cmd (inl is) moves = rw is tt
+work_in guests work move cmd (inr is) moves = rw is tt
+
+running_in : (guests lpid : ℕ) (cmd : Cmd) → IsGuestIn guests lpid → IsIn guests (aim_of_running lpid cmd)
+running_in guests lpid (HLd ra) runs = tt
+running_in guests lpid (HSt ra value) runs = tt
+running_in guests lpid (HSelect named vid) runs = tt
+running_in guests lpid (HEnter named vid value) runs = tt
+running_in guests lpid Go runs = tt
+running_in guests lpid cmd runs = runs
+
+-- a guest at which a CPU of the machine aims is one of the machine's
 pub in_range : {S : Type 0} (plan : Plan) (guests : List (Guest S)) (normal : NormalState) (n l vid : ℕ) (c : Ctx) (cmd : Cmd) (k : ℕ) → plan.guests ≡ length guests → IsVcpu guests l vid → Works guests normal n c → target_in plan c l cmd ≡ AtGuest k →
     (1 ≤ k) × (k - 1 < length guests)
-in_range plan guests normal n l vid c cmd k count selects works is = by_context c works is (named plan c l cmd k is) where
-  of_number : (lpid : ℕ) → (if nat_le 1 lpid && nat_le lpid plan.guests then AtGuest lpid else Alone) ≡ AtGuest k → (1 ≤ k) × (k - 1 < length guests)
-  of_number lpid at =
-      let one = (one_named (nat_le 1 lpid && nat_le lpid plan.guests) lpid k at).1 in
-      let same : lpid ≡ k = (let two = (one_named (nat_le 1 lpid && nat_le lpid plan.guests) lpid k at).0 in cc) in
+in_range plan guests normal n l vid c cmd k count selects works is = by_aim (aim_in c l cmd) (by_context c works) is where
+  of_vcpu : (lpid v : ℕ) → IsVcpu guests lpid v → IsGuestIn (length guests) lpid
+  of_vcpu lpid v one = (one.least, guest_below guests lpid v one)
+
+  by_context : (c : Ctx) → Works guests normal n c → IsIn (length guests) (aim_in c l cmd)
+  by_context ctx.Hv works = hypervisor_in (length guests) l cmd (of_vcpu l vid selects)
+  by_context (ctx.Uv (Inward move)) works = work_in (length guests) (Inward move) move cmd (inl refl) (works.least, move_below guests normal (record { cpu = n; way = way.Inward }) move works)
+  by_context (ctx.Uv (Outward move)) works = work_in (length guests) (Outward move) move cmd (inr refl) (works.least, move_below guests normal (record { cpu = n; way = way.Outward }) move works)
+  by_context (ctx.Guest run) works = running_in (length guests) run.lpid cmd (of_vcpu run.lpid run.vid works.0)
+
+  by_aim : (a : Aim) → IsIn (length guests) a → target_of_aim plan a ≡ AtGuest k → IsGuestIn (length guests) k
+  by_aim aim.Nothing there at = absurd cc
+  by_aim (aim.NamedGuest lpid) there at =
+      let one = one_named (nat_le 1 lpid && nat_le lpid plan.guests) lpid k at in
+      let range = one.1 in
+      let same : lpid ≡ k = (let two = one.0 in cc) in
       let least : 1 ≤ lpid = grind (arith, nat_tests) in
       let most : lpid ≤ plan.guests = grind (arith, nat_tests) in
       (omega arith, omega arith)
-
-  of_vcpu : (lpid v : ℕ) → lpid ≡ k → IsVcpu guests lpid v → (1 ≤ k) × (k - 1 < length guests)
-  of_vcpu lpid v same is = subst (λ (x : ℕ). (1 ≤ x) × (x - 1 < length guests)) same (is.least, guest_below guests lpid v is)
-
-  by_context : (c : Ctx) → Works guests normal n c → target_in plan c l cmd ≡ AtGuest k → guest_aimed c l cmd ≡ Some k → (1 ≤ k) × (k - 1 < length guests)
-  by_context ctx.Hv works at one = by_command cmd at one where
-    by_command : (cmd : Cmd) → target_in plan ctx.Hv l cmd ≡ AtGuest k → guest_aimed ctx.Hv l cmd ≡ Some k → (1 ≤ k) × (k - 1 < length guests)
-    by_command (UPagein lpid src gpa flags order) at one = of_number lpid at
-    by_command (UPageout lpid dest gpa flags order) at one = of_number lpid at
-    by_command (UReturn r0 r2 outs) at one = of_vcpu l vid (let same : l ≡ k = cc in same) selects
-    by_command cmd at one = absurd cc
-  by_context (ctx.Uv (Inward move)) works at one = subst (λ (x : ℕ). (1 ≤ x) × (x - 1 < length guests)) (moves_in move l k cmd one) (works.least, move_below guests normal (record { cpu = n; way = way.Inward }) move works)
-  by_context (ctx.Uv (Outward move)) works at one = subst (λ (x : ℕ). (1 ≤ x) × (x - 1 < length guests)) (moves_out move l k cmd one) (works.least, move_below guests normal (record { cpu = n; way = way.Outward }) move works)
-  by_context (ctx.Guest run) works at one = of_vcpu run.lpid run.vid (runs_at run l k cmd one) works.0
+  by_aim (aim.Guest lpid) there at = subst (IsGuestIn (length guests)) (let same : lpid ≡ k = cc in same) there
+  by_aim (aim.Address ra) there at = absurd (no_address (has_real_place plan ra) (frame_of plan ra) k at)
+  by_aim (aim.Move move) there at = subst (IsGuestIn (length guests)) (copied_is move.copied move.lpid k (one_moved move.copied move.lpid move.frame k at)) there
 
 module _ {S : Type 0} (takes : S → ℕ → ℕ → Type 0) (old : State S) (n : ℕ) (cpu : Cpu) (i : ℕ) (guest : Guest S) (s : Site takes old n cpu cpu.ctx i guest) (whole : IsWholeMachine takes old) (cmd : Cmd) (targets : Targets (length old.guests) old.normal cpu cmd (AtGuest (i + 1))) where
   -- the guest that it names
@@ -167,7 +193,8 @@ module _ {S : Type 0} (takes : S → ℕ → ℕ → Type 0) (old : State S) (n 
     room = (ready_in cpu.ctx aims s.is_cpu.works).1;
   }
 
-  module _ (stands : S → Tag → List ℕ → List ℕ → Type 0) (image : S → Tag → List ℕ → List ℕ) (new_guest : Guest S) (new_cpu : Cpu) (pool : PoolState) (a : Answer) (does : DoesRow takes stands image cmd guest new_guest cpu new_cpu old.pool pool a) where
+  module _ (stands : S → Tag → List ℕ → List ℕ → Type 0) (image : S → Tag → List ℕ → List ℕ) (new_guest : Guest S) (new_cpu : Cpu) (pool : PoolState) (a : Answer) (frame : Option NormalPart) (left : List ℕ) (normal : NormalState) (does : DoesLent takes stands image cmd guest new_guest cpu new_cpu old.pool pool frame left a)
+      (puts : PutsFrame old.normal frame left normal) where
     after : List (Guest S)
     after = slice_set old.guests i new_guest
 
@@ -209,16 +236,19 @@ module _ {S : Type 0} (takes : S → ℕ → ℕ → Type 0) (old : State S) (n 
     selects (inr own) = vcpu_here new_cpu.lpid new_cpu.vid own.0 own.1
 
     -- the machine stays whole
-    pub stays_whole : IsWholeMachine takes (record old { cpus = slice_set old.cpus n new_cpu; guests = slice_set old.guests i new_guest; pool = pool })
-    stays_whole = whole_guest takes old n new_cpu whole i guest new_guest pool s.here does.whole does.keeps movers does.frames s.fewer (record {
-      number = number;
-      selects = selects does.own.selects;
-      works = works_on new_cpu.ctx does.works;
-      hand = does.own.hand ∙ s.is_cpu.hand;
-    })
+    pub stays_whole : IsWholeMachine takes (record old { cpus = slice_set old.cpus n new_cpu; guests = slice_set old.guests i new_guest; pool = pool; normal = normal })
+    stays_whole =
+        whole_normal takes (record old { cpus = slice_set old.cpus n new_cpu; guests = slice_set old.guests i new_guest; pool = pool }) n new_cpu
+        (whole_guest takes old n new_cpu whole i guest new_guest pool s.here does.whole does.keeps movers does.frames s.fewer (record {
+          number = number;
+          selects = selects does.own.selects;
+          works = works_on new_cpu.ctx does.works;
+          hand = does.own.hand ∙ s.is_cpu.hand;
+        }))
+        normal (lent_shift old.normal normal left frame puts) (lent_count old.normal normal left frame puts)
 
     abbrev New : State S
-    New = record old { cpus = slice_set old.cpus n new_cpu; guests = slice_set old.guests i new_guest; pool = pool }
+    New = record old { cpus = slice_set old.cpus n new_cpu; guests = slice_set old.guests i new_guest; pool = pool; normal = normal }
 
     -- the entry is the one that the model gives
     continues : n < length old.cpus → i < length old.guests → IsCommand cmd → Continues stands image old New n cmd a
@@ -235,37 +265,37 @@ module _ {S : Type 0} (takes : S → ℕ → ℕ → Type 0) (old : State S) (n 
         let is : next_entry plan past mark cmd ≡ e =
         entry_at plan past mark cmd (ask_of c cmd) (AtGuest (i + 1)) refl aimed ∙ ap (λ (free : ℕ). entry_of (ask_of c cmd) mark cmd (deed_guest plan g found (nat_lt 0 free) (ask_of c cmd) cmd)) (sym fits.free) in
         let clear : clashes g.part e ≡ false = ap (clashes_at (λ lpid. (guest_after plan lpid past).part) e) (sym aimed) ∙ ap (is_clash plan past) (sym is) ∙ clean in
-        let row = does.row plan g found c mark (sym s.is_cpu.number) (fits.guests i guest s.here) shows tt clear in
-        makes_at_guest stands image old n below cpu s.there plan past line place stamp fits cmd e is command new_cpu i guest new_guest pool a s.here (λ lpid. ap (is_guest lpid) aimed)
-        row.1 row.0
+        let row = does.row plan g found c mark (sym s.is_cpu.number) (fits.guests i guest s.here) shows (found_lent old.normal normal left plan past frame puts fits.normal_is) clear in
+        makes_at_guest stands image old n below cpu s.there plan past line place stamp fits cmd e is command new_cpu i guest new_guest pool normal a s.here (λ lpid. ap (is_guest lpid) aimed)
+        (shows_lent old.normal normal left plan past e frame puts row.1 fits.normal_is) row.0
 
     -- its CPU alone changes, and counts of steps
-    cpu_only : (P : Cpu → Cpu → Type 0) → P cpu new_cpu → SameGuest guest new_guest → pool ≡ old.pool → OnCpu n P old.cpus (slice_set old.cpus n new_cpu) old.guests (slice_set old.guests i new_guest) old.pool pool old.normal old.normal
-    cpu_only P h same pool_is = record {
+    cpu_only : normal ≡ old.normal → (P : Cpu → Cpu → Type 0) → P cpu new_cpu → SameGuest guest new_guest → pool ≡ old.pool → OnCpu n P old.cpus (slice_set old.cpus n new_cpu) old.guests (slice_set old.guests i new_guest) old.pool pool old.normal normal
+    cpu_only kept P h same pool_is = record {
       cpu_count = length-set old.cpus n new_cpu;
       guest_count = length-set old.guests i new_guest;
       cpu = at_place P old.cpus n cpu new_cpu s.there h;
       others = λ k other. get_other old.cpus n k new_cpu other;
       guests_stay = guests_stay old n cpu s.there i guest new_guest s.here same;
       pool_stays = pool_is;
-      normal_stays = refl;
+      normal_stays = kept;
     }
 
     -- its guest alone changes
-    guest_only : (run : Run) → run.lpid ≡ i + 1 → (P : Guest S → Guest S → Type 0) → new_cpu ≡ cpu → P guest new_guest → pool ≡ old.pool → ChangesGuest (run.lpid - 1) P old New
-    guest_only run lpid P same h pool_is =
+    guest_only : normal ≡ old.normal → (run : Run) → run.lpid ≡ i + 1 → (P : Guest S → Guest S → Type 0) → new_cpu ≡ cpu → P guest new_guest → pool ≡ old.pool → ChangesGuest (run.lpid - 1) P old New
+    guest_only kept run lpid P same h pool_is =
         let place : i ≡ run.lpid - 1 = omega arith in
-        subst (λ k. ChangesGuest k P old New) place (on_guest old n cpu s.there i guest new_guest s.here P new_cpu pool same h pool_is)
+        subst (λ k. ChangesGuest k P old New) place (on_guest old n cpu s.there i guest new_guest s.here P new_cpu pool normal same h pool_is kept)
 
     -- a refused step leaves the rest
-    leaves : (c : Ctx) → guest_aimed c cpu.lpid cmd ≡ Some (i + 1) → (b : Answer) → Refuses c cmd guest new_guest cpu new_cpu old.pool pool b → (changes_life c cmd ≡ false → KeepsLife guest new_guest) → LeavesRest n c cmd old New b
-    leaves ctx.Hv at (answer.Ret code) h life = λ refusal. let kept = h refusal in cpu_only (λ c d. RefusesCpu c d code) kept.0 kept.1.0 kept.1.1
-    leaves ctx.Hv at answer.Context h life = absurd h
-    leaves ctx.Hv at answer.Hole h life = absurd h
-    leaves ctx.Hv at b h life = tt
-    leaves (ctx.Uv (Inward move)) at (answer.Ret UParameter) h life = cpu_only (λ c d. BackWith c d UParameter) h.0 h.1.0 h.1.1
-    leaves (ctx.Uv (Outward move)) at (answer.Ret UParameter) h life = cpu_only (λ c d. BackWith c d UParameter) h.0 h.1.0 h.1.1
-    leaves (ctx.Uv (Inward move)) at (answer.Ret UP2) h life =
+    leaves : (c : Ctx) → guest_aimed c cpu.lpid cmd ≡ Some (i + 1) → (b : Answer) → Refuses c cmd guest new_guest cpu new_cpu old.pool pool b → (changes_life c cmd ≡ false → KeepsLife guest new_guest) → (writes_nothing b ≡ true → normal ≡ old.normal) → LeavesRest n c cmd old New b
+    leaves ctx.Hv at (answer.Ret code) h life kept = λ refusal. let refused = h refusal in cpu_only (kept refl) (λ c d. RefusesCpu c d code) refused.0 refused.1.0 refused.1.1
+    leaves ctx.Hv at answer.Context h life kept = absurd h
+    leaves ctx.Hv at answer.Hole h life kept = absurd h
+    leaves ctx.Hv at b h life kept = tt
+    leaves (ctx.Uv (Inward move)) at (answer.Ret UParameter) h life kept = cpu_only (kept refl) (λ c d. BackWith c d UParameter) h.0 h.1.0 h.1.1
+    leaves (ctx.Uv (Outward move)) at (answer.Ret UParameter) h life kept = cpu_only (kept refl) (λ c d. BackWith c d UParameter) h.0 h.1.0 h.1.1
+    leaves (ctx.Uv (Inward move)) at (answer.Ret UP2) h life kept =
         let lpid : move.lpid ≡ i + 1 = moves_in move cpu.lpid (i + 1) cmd at in
         let place : i ≡ move.lpid - 1 = omega arith in
         record {
@@ -276,27 +306,31 @@ module _ {S : Type 0} (takes : S → ℕ → ℕ → Type 0) (old : State S) (n 
           guest = subst (λ (k : ℕ). (g h : Guest S) → slice_get old.guests k ≡ Some g → slice_get (slice_set old.guests i new_guest) k ≡ Some h → RefusesPage move g h old.pool pool) place
               (at_place (λ g h. RefusesPage move g h old.pool pool) old.guests i guest new_guest s.here (record { back = h.1; keeps = does.keeps; life = life refl }));
           other_guests = λ k other. get_other old.guests i k new_guest (λ same. other (same ∙ place));
-          normal_stays = refl;
+          normal_stays = kept refl;
         }
-    leaves (ctx.Uv (Inward move)) at answer.Context h life = absurd h
-    leaves (ctx.Uv (Outward move)) at answer.Context h life = absurd h
-    leaves (ctx.Uv (Inward move)) at b h life = tt
-    leaves (ctx.Uv (Outward move)) at b h life = tt
-    leaves (ctx.Guest run) at (answer.Ret code) h life = λ refusal. let kept = h refusal in guest_only run (runs_at run cpu.lpid (i + 1) cmd at) (λ g x. RefusesGuest run.vid g x code) kept.1 kept.0 kept.2
-    leaves (ctx.Guest run) at answer.Hole h life = guest_only run (runs_at run cpu.lpid (i + 1) cmd at) SameGuest h.0 h.1.0 h.1.1
-    leaves (ctx.Guest run) at answer.Again h life = guest_only run (runs_at run cpu.lpid (i + 1) cmd at) SameGuest h.0 h.1.0 h.1.1
-    leaves (ctx.Guest run) at answer.Gone h life = cpu_only IsGone h.0 h.1.0 h.1.1
-    leaves (ctx.Guest run) at answer.Context h life = absurd h
-    leaves (ctx.Guest run) at b h life = tt
+    leaves (ctx.Uv (Inward move)) at answer.Context h life kept = absurd h
+    leaves (ctx.Uv (Outward move)) at answer.Context h life kept = absurd h
+    leaves (ctx.Uv (Inward move)) at b h life kept = tt
+    leaves (ctx.Uv (Outward move)) at b h life kept = tt
+    leaves (ctx.Guest run) at (answer.Ret code) h life kept = λ refusal. let refused = h refusal in guest_only (kept refl) run (runs_at run cpu.lpid (i + 1) cmd at) (λ g x. RefusesGuest run.vid g x code) refused.1 refused.0 refused.2
+    leaves (ctx.Guest run) at answer.Hole h life kept = guest_only (kept refl) run (runs_at run cpu.lpid (i + 1) cmd at) SameGuest h.0 h.1.0 h.1.1
+    leaves (ctx.Guest run) at answer.Again h life kept = guest_only (kept refl) run (runs_at run cpu.lpid (i + 1) cmd at) SameGuest h.0 h.1.0 h.1.1
+    leaves (ctx.Guest run) at answer.Gone h life kept = cpu_only (kept refl) IsGone h.0 h.1.0 h.1.1
+    leaves (ctx.Guest run) at answer.Context h life kept = absurd h
+    leaves (ctx.Guest run) at b h life kept = tt
 
-    -- all of it
-    pub does_step : n < length old.cpus → i < length old.guests → DoesStep stands image n cmd old New a
-    does_step below here = record {
-      step = continues below here;
-      frames_once = once_stays old i guest new_guest pool s.here does.frames whole.frames_once (slice_set old.cpus n new_cpu);
-      refused = λ own there. subst (λ (x : Cpu). LeavesRest n x.ctx cmd old New a) (let same : cpu ≡ own = (let two = sym s.there ∙ there in cc) in same) (leaves cpu.ctx aims a does.refused does.life);
-      alone = alone_guest old n cpu s.there cmd a i guest new_guest s.here new_cpu pool aims targets does.pool_stays does.keeps does.life movers;
-      count = refl;
-      cpus = length-set old.cpus n new_cpu;
-      guests = length-set old.guests i new_guest;
-    }
+    module _ (needed : frame_needed guest cpu.ctx cmd ≡ option_map (λ (part : NormalPart). part.number) frame) (leaves_in : LeavesLent guest cpu cmd a frame left) where
+      writes : (plan : Plan) → plan.shift ≡ old.normal.shift → plan.normal ≡ length old.normal.frames → plan.guests ≡ length old.guests → LeavesNormal old.guests plan cpu cmd a old.normal normal
+      writes plan shift count guests = lent_written old.normal normal left guest cpu cmd a old.guests plan i frame s.here (shift ∙ sym s.is_guest.shift) (targets plan shift count guests) needed puts leaves_in
+
+      -- all of it
+      pub does_step : n < length old.cpus → i < length old.guests → DoesStep stands image n cmd old New a
+      does_step below here = record {
+        step = continues below here;
+        frames_once = once_stays old i guest new_guest pool s.here does.frames whole.frames_once (slice_set old.cpus n new_cpu);
+        refused = λ own there. subst (λ (x : Cpu). LeavesRest n x.ctx cmd old New a) (let same : cpu ≡ own = (let two = sym s.there ∙ there in cc) in same) (leaves cpu.ctx aims a does.refused does.life (unwritten old.normal normal left guest cpu cmd a frame puts leaves_in));
+        alone = alone_guest old n cpu s.there cmd a i guest new_guest s.here new_cpu pool normal aims writes does.pool_stays does.keeps does.life movers;
+        count = refl;
+        cpus = length-set old.cpus n new_cpu;
+        guests = length-set old.guests i new_guest;
+      }

@@ -1,4 +1,5 @@
 -- The machine as it begins is whole, and has no history behind it.
+use Rattle.pef_guest.proofs.Begun.{page_begun}
 use Rattle.std.proofs.Common.{◌≡◌, ℕ, zero, suc, ◌+◌, ◌^◌, ◌<◌, ◌==◌, nat_lt, if◌then◌else◌, List, [], ◌∷◌, ◌++◌, length, replicate, refl, ap, sym, subst, ◌∙◌, arith, append-nil}
 use Rattle.std.specs.Prelude.{slice_index_or}
 use Rattle.std.specs.List.{count_by, flat_map}
@@ -28,12 +29,6 @@ use Rattle.pef_core.specs.Start.{AreStartCpus, AreStartGuests, Begins}
 use Rattle.pef_core.specs.State.{State, Each, IsCpuOf, IsGuestOf, IsVcpu, HasVcpu, Works, FramesOnce, IsWholeMachine}
 use Rattle.pef_core.specs.Steps.{Fits}
 use Rattle.pef_core.proofs.Lists.{each_map, element_at}
-
--- each page of a guest is Invalid, whatever its number
-page_begun : (count gfn : ℕ) → page_at {F = FrameState} (invalid_pages count) gfn ≡ invalid_page
-page_begun zero gfn = refl
-page_begun (suc count) zero = refl
-page_begun (suc count) (suc gfn) = page_begun count gfn
 
 -- no page has a frame
 none_held : (count : ℕ) → held {F = FrameState} (invalid_pages count) ≡ []
@@ -79,6 +74,7 @@ module _ {S : Type 0} (stands : S → Tag → List ℕ → List ℕ → Type 0) 
     normal = start.normal;
     phase = start.phase;
     generation = start.generation;
+    entry = rw start.entry (record { base = refl; length_is = refl });
     pages = subst (λ pages. ShowsPages (plan_of config) pages (start_guest (plan_of config) lpid)) (sym start.pages) (shows_pages (plan_of config) lpid);
     sealed = shows_sealed;
     count = ap length start.vcpus ∙ length-replicate config.vcpus (start_vcpu (start_state ((plan_of config).is_born lpid)));
@@ -113,7 +109,7 @@ module _ {S : Type 0} (stands : S → Tag → List ℕ → List ℕ → Type 0) 
       ap (λ (ns : List ℕ). ns ++ flat_map (λ x. numbers_of (held x.pages)) gs) none
       ∙ no_numbers gs (lpid + 1) (λ i x there. subst (λ l. Begins image takes config l x) (let same : lpid + suc i ≡ lpid + 1 + i = omega arith in same) (each (suc i) x there))
 
-  once_begun : FramesOnce (let m : State S = record { cpus = cpus; guests = guests; pool = pool; normal = normal; steps = 0 } in m)
+  once_begun : FramesOnce (let m : State S = record { cpus = cpus; guests = guests; vcpus = config.vcpus; pool = pool; normal = normal; steps = 0 } in m)
   once_begun number =
       let none : flat_map (λ guest. numbers_of (held guest.pages)) guests ≡ [] =
       no_numbers guests 1 (λ i x there. subst (λ l. Begins image takes config l x) (let same : i + 1 ≡ 1 + i = omega arith in same) (guests_are.each i x there)) in
@@ -123,26 +119,29 @@ module _ {S : Type 0} (stands : S → Tag → List ℕ → List ℕ → Type 0) 
       ∙ starts_with_each_once config.secure (2 ^ config.shift) number
       ∙ ap (λ (p : PoolState). if nat_lt number p.count then 1 else 0) (sym pool_is)
 
-  pub whole_begun : IsWholeMachine takes (record { cpus = cpus; guests = guests; pool = pool; normal = normal; steps = 0 })
+  pub whole_begun : IsWholeMachine takes (record { cpus = cpus; guests = guests; vcpus = config.vcpus; pool = pool; normal = normal; steps = 0 })
   whole_begun = record {
     cpus = each_map (λ n cpu. IsStartCpu n (2 ^ config.shift) cpu) (IsCpuOf guests normal) cpus cpus_are.each cpu_begun;
-    guests = each_map (λ i guest. Begins image takes config (i + 1) guest) (IsGuestOf takes (record { cpus = cpus; guests = guests; pool = pool; normal = normal; steps = 0 })) guests guests_are.each
+    guests = each_map (λ i guest. Begins image takes config (i + 1) guest) (IsGuestOf takes (record { cpus = cpus; guests = guests; vcpus = config.vcpus; pool = pool; normal = normal; steps = 0 })) guests guests_are.each
         (λ i guest begins. record {
           whole = begins.whole;
           lpid = begins.start.lpid_is;
           shift = begins.start.shift ∙ ap (λ (x : NormalState). x.shift) (sym normal_is);
           normal = begins.start.normal ∙ sym (length-replicate config.normal (replicate (2 ^ config.shift) 0)) ∙ ap (λ (x : NormalState). length x.frames) (sym normal_is);
           secure = begins.start.secure ∙ ap (λ (x : PoolState). x.count) (sym pool_is);
+          vcpus = ap length begins.start.vcpus ∙ length-replicate config.vcpus _;
           steps = (let none = begins.start.steps in omega arith);
         });
+    few = (let count = guests_are.count in let most = range.guests.1 in omega arith);
     size = ap (λ (x : PoolState). x.size) pool_is ∙ ap (λ (x : NormalState). 2 ^ x.shift) (sym normal_is);
     frames_once = once_begun;
   }
 
-  pub fits_begun : Fits stands image (plan_of config) (let m : State S = record { cpus = cpus; guests = guests; pool = pool; normal = normal; steps = 0 } in m) []
+  pub fits_begun : Fits stands image (plan_of config) (let m : State S = record { cpus = cpus; guests = guests; vcpus = config.vcpus; pool = pool; normal = normal; steps = 0 } in m) []
   fits_begun = record {
     cpu_count = cpus_are.count;
     guest_count = guests_are.count;
+    vcpu_count = refl;
     cpus = λ n cpu there.
         let start = cpus_are.each n cpu there in
         record { ctx = start.ctx; own = start.gpr; lpid = start.lpid; vid = start.vid; last = start.last; hand = start.hand };
@@ -157,5 +156,5 @@ module _ {S : Type 0} (stands : S → Tag → List ℕ → List ℕ → Type 0) 
     free = ap (λ (x : PoolState). length x.free) pool_is ∙ length-range_with_len 0 config.secure;
   }
 
-  pub once_at_start : FramesOnce (let m : State S = record { cpus = cpus; guests = guests; pool = pool; normal = normal; steps = 0 } in m)
+  pub once_at_start : FramesOnce (let m : State S = record { cpus = cpus; guests = guests; vcpus = config.vcpus; pool = pool; normal = normal; steps = 0 } in m)
   once_at_start = once_begun

@@ -56,6 +56,7 @@ module _ {S : Type 0} (stands : S → Tag → List ℕ → List ℕ → Type 0) 
           fits = record {
             cpu_count = length-set old.cpus n new_cpu ∙ fits.cpu_count;
             guest_count = fits.guest_count;
+            vcpu_count = fits.vcpu_count;
             cpus = cpus_after plan past e old.cpus n new_cpu own fits.cpus shows;
             guests = guests_stay plan past e stands image old.guests untouched fits.guests;
             normal_is = normal_is;
@@ -66,20 +67,21 @@ module _ {S : Type 0} (stands : S → Tag → List ℕ → List ℕ → Type 0) 
           same = ap (λ (x : Event). next_entry plan past (record { line = x.trace.line; cpu = x.trace.cpu; place = x.trace.place; stamp = x.trace.stamp }) x.trace.cmd) is
 
     -- a step at a guest, once its entry is known
-    pub makes_at_guest : (new_cpu : Cpu) (i : ℕ) (guest new_guest : Guest S) (pool : PoolState) (a : Answer) → slice_get old.guests i ≡ Some guest → ((lpid : ℕ) → touches_guest plan lpid e ≡ (i + 1 == lpid)) →
-        e.saw.frame ≡ None → RowWithPool stands image plan (guest_after plan (i + 1) past) (cpu_after plan n past) e new_guest new_cpu (length old.pool.free) (length pool.free) a →
-        Makes stands image plan (record old { cpus = slice_set old.cpus n new_cpu; guests = slice_set old.guests i new_guest; pool = pool }) past (next_entry plan past (mark_at n line place stamp) cmd) a
-    makes_at_guest new_cpu i guest new_guest pool a here touched unframed row =
-        subst (λ (x : Event). Makes stands image plan (record old { cpus = slice_set old.cpus n new_cpu; guests = slice_set old.guests i new_guest; pool = pool }) past x a) (sym is)
+    pub makes_at_guest : (new_cpu : Cpu) (i : ℕ) (guest new_guest : Guest S) (pool : PoolState) (normal : NormalState) (a : Answer) → slice_get old.guests i ≡ Some guest → ((lpid : ℕ) → touches_guest plan lpid e ≡ (i + 1 == lpid)) →
+        ShowsNormal plan normal (λ k. frame_after plan k (e ∷ past)) → RowWithPool stands image plan (guest_after plan (i + 1) past) (cpu_after plan n past) e new_guest new_cpu (length old.pool.free) (length pool.free) a →
+        Makes stands image plan (record old { cpus = slice_set old.cpus n new_cpu; guests = slice_set old.guests i new_guest; pool = pool; normal = normal }) past (next_entry plan past (mark_at n line place stamp) cmd) a
+    makes_at_guest new_cpu i guest new_guest pool normal a here touched normal_is row =
+        subst (λ (x : Event). Makes stands image plan (record old { cpus = slice_set old.cpus n new_cpu; guests = slice_set old.guests i new_guest; pool = pool; normal = normal }) past x a) (sym is)
         (record {
           answered = row.row.answered;
           extends = record { cpu = subst (λ (k : ℕ). k < plan.cpus) (sym own) (within plan past fits); command = commanded; is = sym is ∙ same };
           fits = record {
             cpu_count = length-set old.cpus n new_cpu ∙ fits.cpu_count;
             guest_count = length-set old.guests i new_guest ∙ fits.guest_count;
+            vcpu_count = fits.vcpu_count;
             cpus = cpus_after plan past e old.cpus n new_cpu own fits.cpus row.row.cpu_is;
             guests = guests_after plan past e stands image old.guests i new_guest touched fits.guests row.row.guest;
-            normal_is = frames_stay plan past e old.normal unframed fits.normal_is;
+            normal_is = normal_is;
             free = row.pool ∙ ap (λ (k : ℕ). pool_with k e.saw.pool) fits.free ∙ sym (free_after plan past e);
           };
         }) where

@@ -1,4 +1,5 @@
 -- What a refused step leaves of the machine.
+use Rattle.pef_core.specs.Normal.{NormalState}
 use Rattle.std.proofs.Common.{◌≡◌, ◌≢◌, ℕ, zero, suc, List, [], ◌∷◌, Some, refl, ap, sym, subst, ◌∙◌, ◌⊎◌, inl, inr}
 use Rattle.std.specs.Prelude.{slice_get, slice_set}
 use Rattle.std.proofs.lemmas.Bool.{cases_eq}
@@ -42,7 +43,7 @@ at_each {X = X} P xs i x y is same h k a b before after = by_place (cases_eq k i
   by_place (inr other) = subst (P a) (let one : a ≡ b = (let two = sym before ∙ sym (get_other xs i k y other) ∙ after in cc) in one) (same a)
 
 same_guest : {S : Type 0} (g : Guest S) → SameGuest g g
-same_guest g = record { rest = record { lpid = refl; shift = refl; normal = refl; secure = refl; phase = refl; generation = refl; pages = refl; sealer = refl }; vcpus = refl }
+same_guest g = record { rest = record { lpid = refl; shift = refl; normal = refl; secure = refl; phase = refl; generation = refl; entry = refl; pages = refl; sealer = refl }; vcpus = refl }
 
 some_same : {S : Type 0} (g h : Guest S) → Some g ≡ Some h → SameGuest g h
 some_same g h same = subst (SameGuest g) (let one : g ≡ h = cc in one) (same_guest g)
@@ -65,15 +66,15 @@ module _ {S : Type 0} (old : State S) (n : ℕ) (cpu : Cpu) (there : slice_get o
     guests_stay same = at_each SameGuest old.guests i guest new_guest here same_guest same
 
     -- a guest that changes so, on a CPU that doesn't
-    pub on_guest : (P : Guest S → Guest S → Type 0) (new_cpu : Cpu) (pool : PoolState) → new_cpu ≡ cpu → P guest new_guest → pool ≡ old.pool →
-        OnGuest i P old.cpus (slice_set old.cpus n new_cpu) old.guests (slice_set old.guests i new_guest) old.pool pool old.normal old.normal
-    on_guest P new_cpu pool same h pool_is = record {
+    pub on_guest : (P : Guest S → Guest S → Type 0) (new_cpu : Cpu) (pool : PoolState) (normal : NormalState) → new_cpu ≡ cpu → P guest new_guest → pool ≡ old.pool → normal ≡ old.normal →
+        OnGuest i P old.cpus (slice_set old.cpus n new_cpu) old.guests (slice_set old.guests i new_guest) old.pool pool old.normal normal
+    on_guest P new_cpu pool normal same h pool_is normal_is = record {
       cpus_stay = ap (slice_set old.cpus n) same ∙ set_same old.cpus n cpu there;
       guest_count = length-set old.guests i new_guest;
       guest = at_place P old.guests i guest new_guest here h;
       others = λ k other. get_other old.guests i k new_guest other;
       pool_stays = pool_is;
-      normal_stays = refl;
+      normal_stays = normal_is;
     }
 
 -- counts of steps are aside

@@ -11,9 +11,11 @@ pub mod Begun
 pub mod Leaving
 pub mod Alone
 pub mod Touching
+pub mod LentFrames
 pub mod Looking
 pub mod FrameRows
 pub mod AtGuest
 pub mod Sites
 pub mod OtherAims
+pub mod Selecting
 pub mod Seeing

@@ -17,7 +17,7 @@ use Rattle.pef_guest.specs.declared.cpu.Cpu.{Cpu}
 use Rattle.pef_core.specs.State.{State}
 use Rattle.pef_core.specs.Steps.{Fits}
 use Rattle.pef_core.specs.Does.{Targets}
-use Rattle.pef_core.specs.Did.{pool_seen, LooksAt}
+use Rattle.pef_core.specs.Did.{pool_seen, HasRegisters, LooksAt}
 use Rattle.pef_core.proofs.Continuing.{mark_at}
 use Rattle.pef_guest.proofs.Deeds.{IsShareOf}
 
@@ -52,11 +52,11 @@ module _ {S : Type 0} (stands : S → Tag → List ℕ → List ℕ → Type 0) 
   abbrev pub deed_at : Plan → List Event → Target → Deed
   deed_at plan past x = deed_after plan past (ask_of (cpu_after plan n past) cmd) cmd x
 
-  pub looks_at : (touched : Bool) (frame : Option ℕ) →
+  pub looks_at : (touched : Bool) (frame : Option ℕ) (gpr : List ℕ) → HasRegisters stands image m n gpr →
       ((plan : Plan) (past : List Event) (line place stamp : ℕ) → Fits stands image plan m past → is_clash plan past (next_entry plan past (mark_at n line place stamp) cmd) ≡ false →
       target_in plan (cpu_after plan n past).ctx (cpu_after plan n past).lpid cmd ≡ t → (touched ≡ is_some (deed_at plan past t).pool) × (frame ≡ (deed_at plan past t).frame)) →
-      LooksAt stands image m n cmd (record { before = cpu.ctx; lpid = cpu.lpid; vid = cpu.vid; last = cpu.last; touched = touched; frame = frame })
-  looks_at touched frame told plan past line place stamp fits clean =
+      LooksAt stands image m n cmd (record { before = cpu.ctx; lpid = cpu.lpid; vid = cpu.vid; last = cpu.last; touched = touched; frame = frame; gpr = gpr })
+  looks_at touched frame gpr has told plan past line place stamp fits clean =
       let shows = fits.cpus n cpu there in
       let at = aimed plan past fits in
       let is = told plan past line place stamp fits clean at in
@@ -67,4 +67,5 @@ module _ {S : Type 0} (stands : S → Tag → List ℕ → List ℕ → Type 0) 
         last = shows.last;
         touched = is.0 ∙ ap (λ (x : Target). is_some (deed_at plan past x).pool) (sym at);
         frame = is.1 ∙ ap (λ (x : Target). (deed_at plan past x).frame) (sym at);
+        gpr = λ run runs. has plan past run fits runs;
       }

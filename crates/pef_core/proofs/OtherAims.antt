@@ -12,7 +12,7 @@ use Rattle.pef_model.specs.declared.state.Run.{Run}
 use Rattle.pef_model.specs.declared.aim.Aim.{Aim}
 use Rattle.pef_model.specs.declared.aim.Aim.TheVariants as aim
 use Rattle.pef_model.specs.declared.command.Cmd.{Cmd}
-use Rattle.pef_model.specs.declared.command.Cmd.TheVariants.{HLd, HSt, Go}
+use Rattle.pef_model.specs.declared.command.Cmd.TheVariants.{HLd, HSt, Go, HSelect, HEnter}
 use Rattle.pef_model.specs.declared.entry.Answer.{Answer}
 use Rattle.pef_model.specs.declared.entry.Answer.TheVariants as answer
 use Rattle.pef_model.specs.Commands.{IsCommand}
@@ -31,7 +31,7 @@ use Rattle.pef_core.specs.Refused.{LeavesRest}
 use Rattle.pef_core.specs.Alone.{LeavesNormal}
 use Rattle.pef_core.proofs.Entries.{entry_at}
 use Rattle.pef_core.proofs.Continuing.{mark_at, alone, makes_alone}
-use Rattle.pef_core.proofs.Places.{selection_stays, sized}
+use Rattle.pef_core.proofs.Places.{selection_stays, one_of, sized}
 use Rattle.pef_core.proofs.WholeAfter.{whole_cpu}
 use Rattle.pef_core.proofs.Leaving.{on_cpu}
 use Rattle.pef_core.proofs.Alone.{one_written, alone_frame, alone_cpu}
@@ -87,6 +87,8 @@ frame_of_aim plan n a is = absurd cc
 no_running : (plan : Plan) (n l : ℕ) (run : Run) (cmd : Cmd) → FrameOf plan n (aim_in (ctx.Guest run) l cmd) → ⊥
 no_running plan n l run (HLd ra) at = at
 no_running plan n l run (HSt ra value) at = at
+no_running plan n l run (HSelect named vid) at = at
+no_running plan n l run (HEnter named vid value) at = at
 no_running plan n l run Go at = at
 no_running plan n l run cmd at = at
 
@@ -149,9 +151,9 @@ module _ {S : Type 0} (takes : S → ℕ → ℕ → Type 0) (old : State S) (n 
     pub own_may : MayAimAtNone cpu.ctx cpu.lpid cmd
     own_may = may_aim (sized old) cpu.ctx cpu.lpid cmd (targets (sized old) refl refl refl)
 
-    module _ (stands : S → Tag → List ℕ → List ℕ → Type 0) (image : S → Tag → List ℕ → List ℕ) (new_cpu : Cpu) (a : Answer) (does : DoesOwn cmd cpu new_cpu a) where
+    module _ (stands : S → Tag → List ℕ → List ℕ → Type 0) (image : S → Tag → List ℕ → List ℕ) (new_cpu : Cpu) (a : Answer) (does : DoesOwn (length old.guests) old.vcpus cmd cpu new_cpu a) where
       pub own_whole : IsWholeMachine takes (record old { cpus = slice_set old.cpus n new_cpu })
-      own_whole = whole_cpu takes old n new_cpu whole old.normal refl refl (selection_stays old.guests old.normal n cpu new_cpu does.keeps is_cpu)
+      own_whole = whole_cpu takes old n new_cpu whole old.normal refl refl (selection_stays old.guests old.normal n old.vcpus cpu new_cpu (one_of takes old whole) does.keeps is_cpu)
 
       abbrev Own : State S
       Own = record old { cpus = slice_set old.cpus n new_cpu }
@@ -159,6 +161,7 @@ module _ {S : Type 0} (takes : S → ℕ → ℕ → Type 0) (old : State S) (n 
       own_leaves : (c : Ctx) (b : Answer) → RefusesOwn c cpu new_cpu b → LeavesRest n c cmd old Own b
       own_leaves ctx.Hv (answer.Ret code) h = λ refusal. on_cpu old n cpu there (λ c d. RefusesCpu c d code) new_cpu h
       own_leaves ctx.Hv answer.Hole h = on_cpu old n cpu there (λ c d. d ≡ record c { last = answer.Hole }) new_cpu h
+      own_leaves ctx.Hv answer.Done h = tt
       own_leaves c answer.Context h = on_cpu old n cpu there (λ c d. d ≡ c) new_cpu h
       own_leaves c b h = absurd h
 
@@ -166,7 +169,7 @@ module _ {S : Type 0} (takes : S → ℕ → ℕ → Type 0) (old : State S) (n 
       own_continues command plan past line place stamp fits clean =
           let c : CpuPart = cpu_after plan n past in
           let shows = fits.cpus n cpu there in
-          let row = does.row plan c (mark_at n line place stamp) shows in
+          let row = does.row plan c (mark_at n line place stamp) (sym fits.guest_count) (sym fits.vcpu_count) shows in
           alone stands image old n below cpu there plan past line place stamp fits new_cpu (ask_of c cmd) cmd a command refl
           (aimed Alone targets plan c shows.ctx shows.lpid (sym fits.normal_is.shift) (sym fits.normal_is.count) (sym fits.guest_count)) row.answered row.cpu_is
 
@@ -209,10 +212,10 @@ module _ {S : Type 0} (takes : S → ℕ → ℕ → Type 0) (old : State S) (n 
       Framed = record old { cpus = slice_set old.cpus n new_cpu; normal = normal }
 
       -- the frame has what the command writes there, and the others stay
-      written : (plan : Plan) → plan.shift ≡ old.normal.shift → plan.normal ≡ length old.normal.frames → plan.guests ≡ length old.guests → LeavesNormal plan cpu cmd a old.normal normal
+      written : (plan : Plan) → plan.shift ≡ old.normal.shift → plan.normal ≡ length old.normal.frames → plan.guests ≡ length old.guests → LeavesNormal old.guests plan cpu cmd a old.normal normal
       written plan shift count guests =
           let sizes : length (frame_at old.normal.frames frame) ≡ 2 ^ plan.shift = size ∙ ap (λ (s : ℕ). 2 ^ s) (sym shift) in
-          one_written plan cpu cmd a old.normal normal frame (targets plan shift count guests) rest (does.written plan.shift frame sizes) (λ ask before. does.answers plan frame ask sizes before)
+          one_written old.guests plan cpu cmd a old.normal normal frame (targets plan shift count guests) rest (does.written plan.shift frame sizes) (λ ask before. does.answers plan frame ask sizes before)
 
       frame_leaves : (c : Ctx) (b : Answer) → IsDone b → LeavesRest n c cmd old Framed b
       frame_leaves ctx.Hv answer.Done h = tt

@@ -15,7 +15,7 @@ use Rattle.pef_core.proofs.Moving.{Site, site}
 
 -- the state of a machine that is open
 abbrev pub state_of : {S : Type 0} → Inside S → State S
-state_of m = record { cpus = m.cpus.items; guests = m.guests.items; pool = m.pool; normal = m.normal; steps = m.steps }
+state_of m = record { cpus = m.cpus.items; guests = m.guests.items; vcpus = m.vcpus; pool = m.pool; normal = m.normal; steps = m.steps }
 
 -- a step has found the guest at which it aims
 pub record AimedSite {S : Type 0} (takes : S → ℕ → ℕ → Type 0) (m : State S) (n : ℕ) (cpu : Cpu) (cmd : Cmd) (lpid : ℕ) (guest : Guest S) : Type 0 where

@@ -1,9 +1,10 @@
 -- A machine stays whole where a CPU, a guest, the pool or the normal frames change as a step changes them.
-use Rattle.std.proofs.Common.{◌≡◌, ◌≢◌, ℕ, zero, suc, ◌+◌, ◌-◌, ◌^◌, ◌<◌, ◌==◌, nat_lt, cond, if◌then◌else◌, List, [], ◌∷◌, ◌++◌, length, Option, Some, refl, ap, sym, subst, ◌∙◌, arith}
+use Rattle.std.proofs.Common.{◌≡◌, ◌≢◌, ℕ, zero, suc, ◌+◌, ◌-◌, ◌^◌, ◌<◌, ◌==◌, nat_lt, cond, if◌then◌else◌, List, [], ◌∷◌, ◌++◌, length, true, Option, Some, inl, inr, refl, ap, sym, subst, ◌∙◌, arith, length-set}
 use Rattle.std.specs.Prelude.{slice_get, slice_set}
 use Rattle.std.specs.List.{count_by, flat_map}
 use Rattle.std.proofs.lemmas.List.Sums.{sum_by-append}
 use Rattle.std.proofs.lemmas.List.Recursion.{is_sum_by}
+use Rattle.pef_model.specs.declared.state.Phase.{Phase}
 use Rattle.pef_model.specs.declared.state.Way.TheVariants as way
 use Rattle.pef_model.specs.declared.state.Mover.{Mover}
 use Rattle.pef_model.specs.declared.state.Move.{Move}
@@ -11,7 +12,6 @@ use Rattle.pef_model.specs.declared.state.Run.{Run}
 use Rattle.pef_model.specs.declared.state.Work.TheVariants.{Inward, Outward}
 use Rattle.pef_model.specs.declared.state.Ctx.{Ctx}
 use Rattle.pef_model.specs.declared.state.Ctx.TheVariants as ctx
-use Rattle.pef_model.specs.Deed.{may_return_in}
 use Rattle.pef_frames.specs.Frame.{FrameState, numbers_of}
 use Rattle.pef_frames.specs.Pool.{PoolState}
 use Rattle.pef_frames.specs.PoolLaw.{times_free}
@@ -19,7 +19,8 @@ use Rattle.pef_pages.specs.Pages.{held}
 use Rattle.pef_guest.specs.declared.cpu.Cpu.{Cpu}
 use Rattle.pef_guest.specs.declared.guest.Guest.{Guest}
 use Rattle.pef_guest.specs.Whole.{IsWhole}
-use Rattle.pef_guest.specs.Keeps.{KeepsGuest, KeepsFrames, KeepsMovers, times_held}
+use Rattle.pef_guest.specs.Ready.{may_run_in}
+use Rattle.pef_guest.specs.Keeps.{IsNextPhase, KeepsGuest, KeepsFrames, KeepsMovers, times_held}
 use Rattle.pef_core.specs.Normal.{NormalState}
 use Rattle.pef_core.specs.State.{State, IsCpuOf, IsGuestOf, IsVcpu, HasVcpu, MayRun, MovesPage, IsMoveOf, Works, FramesOnce, IsWholeMachine, guest_at}
 use Rattle.pef_core.proofs.Lists.{each_set, each_map}
@@ -32,6 +33,11 @@ at_set Q (a ∷ xs) zero (suc k) x y is put h = h
 at_set Q (a ∷ xs) (suc i) zero x y is put h = h
 at_set Q (a ∷ xs) (suc i) (suc k) x y is put h = at_set Q xs i k x y is put h
 
+-- a phase that lets a vCPU run still does, in one generation
+runs_on : (old new : Phase) → IsNextPhase old new → may_run_in old ≡ true → may_run_in new ≡ true
+runs_on old new (inl same) may = ap may_run_in same ∙ may
+runs_on old new (inr begun) may = ap may_run_in begun.1
+
 module _ {S : Type 0} (guests : List (Guest S)) (i : ℕ) (g g' : Guest S) (is : slice_get guests i ≡ Some g) (keeps : KeepsGuest g g') where
   -- a vCPU of the machine still is one
   pub vcpu_stays : (lpid vid : ℕ) → IsVcpu guests lpid vid → IsVcpu (slice_set guests i g') lpid vid
@@ -42,7 +48,7 @@ module _ {S : Type 0} (guests : List (Guest S)) (i : ℕ) (g g' : Guest S) (is :
 
   may_run_stays : (lpid generation : ℕ) → MayRun (guest_at guests lpid) generation → MayRun (guest_at (slice_set guests i g') lpid) generation
   may_run_stays lpid generation h =
-      at_set (λ x. MayRun x generation) guests i (lpid - 1) g g' is (λ may. (omega (arith, may.0, keeps.generation), λ same. (let back : generation ≡ g.generation = omega (arith, may.0, keeps.generation, same) in ap may_return_in (keeps.phase (sym same ∙ back)) ∙ may.1 back))) h
+      at_set (λ x. MayRun x generation) guests i (lpid - 1) g g' is (λ may. (omega (arith, may.0, keeps.generation), λ same. (let back : generation ≡ g.generation = omega (arith, may.0, keeps.generation, same) in runs_on g.phase g'.phase (keeps.phase (sym same ∙ back)) (may.1 back)))) h
 
   -- a page that another CPU moves is moved by it still
   move_stays : (normal : NormalState) (n : ℕ) (mover : Mover) (move : Move) → mover.cpu ≢ n → KeepsMovers n g g' → IsMoveOf guests normal mover move → IsMoveOf (slice_set guests i g') normal mover move
@@ -138,16 +144,29 @@ once_stays m i g g' pool is keeps once cpus number =
     same ∙ once number ∙ ap (λ (count : ℕ). if nat_lt number count then 1 else 0) (sym keeps.count)
 
 module _ {S : Type 0} (takes : S → ℕ → ℕ → Type 0) (m : State S) (n : ℕ) (cpu : Cpu) (whole : IsWholeMachine takes m) where
-  -- another CPU at one place, and other normal frames of the same size and number
-  pub whole_cpu : (normal : NormalState) → normal.shift ≡ m.normal.shift → length normal.frames ≡ length m.normal.frames → IsCpuOf m.guests m.normal n cpu → IsWholeMachine takes (record m { cpus = slice_set m.cpus n cpu; normal = normal })
-  whole_cpu normal same count is = record {
-    cpus = each_set (IsCpuOf m.guests m.normal) (IsCpuOf m.guests normal) m.cpus n cpu whole.cpus
-        (cpu_with m.guests m.normal normal n cpu same count is) (λ k x other h. cpu_with m.guests m.normal normal k x same count h);
-    guests = each_map (IsGuestOf takes m) (IsGuestOf takes (record m { cpus = slice_set m.cpus n cpu; normal = normal })) m.guests whole.guests
-        (λ i g h. record { whole = h.whole; lpid = h.lpid; shift = h.shift ∙ sym same; normal = h.normal ∙ sym count; secure = h.secure; steps = h.steps });
+  -- other normal frames, of the same size and as many
+  pub whole_normal : (normal : NormalState) → normal.shift ≡ m.normal.shift → length normal.frames ≡ length m.normal.frames → IsWholeMachine takes (record m { normal = normal })
+  whole_normal normal same count = record {
+    cpus = each_map (IsCpuOf m.guests m.normal) (IsCpuOf m.guests normal) m.cpus whole.cpus (λ k x h. cpu_with m.guests m.normal normal k x same count h);
+    guests = each_map (IsGuestOf takes m) (IsGuestOf takes (record m { normal = normal })) m.guests whole.guests
+        (λ i g h. record { whole = h.whole; lpid = h.lpid; shift = h.shift ∙ sym same; normal = h.normal ∙ sym count; secure = h.secure; vcpus = h.vcpus; steps = h.steps });
+    few = whole.few;
     size = whole.size ∙ ap (λ (shift : ℕ). 2 ^ shift) (sym same);
     frames_once = whole.frames_once;
   }
+
+  -- another CPU at one place, and such normal frames
+  pub whole_cpu : (normal : NormalState) → normal.shift ≡ m.normal.shift → length normal.frames ≡ length m.normal.frames → IsCpuOf m.guests m.normal n cpu → IsWholeMachine takes (record m { cpus = slice_set m.cpus n cpu; normal = normal })
+  whole_cpu normal same count is =
+      let other = whole_normal normal same count in
+      record {
+        cpus = each_set (IsCpuOf m.guests normal) (IsCpuOf m.guests normal) m.cpus n cpu other.cpus (cpu_with m.guests m.normal normal n cpu same count is) (λ k x different h. h);
+        guests = each_map (IsGuestOf takes (record m { normal = normal })) (IsGuestOf takes (record m { cpus = slice_set m.cpus n cpu; normal = normal })) m.guests other.guests
+            (λ i g h. record { whole = h.whole; lpid = h.lpid; shift = h.shift; normal = h.normal; secure = h.secure; vcpus = h.vcpus; steps = h.steps });
+        few = other.few;
+        size = other.size;
+        frames_once = whole.frames_once;
+      }
 
   -- another CPU at one place and another guest at another, and the pool
   pub whole_guest : (i : ℕ) (g g' : Guest S) (pool : PoolState) → slice_get m.guests i ≡ Some g → IsWhole takes g' → KeepsGuest g g' → KeepsMovers n g g' → KeepsFrames g g' m.pool pool → g.steps < m.steps →
@@ -164,9 +183,11 @@ module _ {S : Type 0} (takes : S → ℕ → ℕ → Type 0) (m : State S) (n : 
               shift = keeps.shift ∙ there.shift;
               normal = keeps.normal ∙ there.normal;
               secure = keeps.secure ∙ there.secure ∙ sym frames.count;
+              vcpus = keeps.vcpus ∙ there.vcpus;
               steps = (let more = keeps.steps in omega arith);
             })
-            (λ k x other h. record { whole = h.whole; lpid = h.lpid; shift = h.shift; normal = h.normal; secure = h.secure ∙ sym frames.count; steps = h.steps });
+            (λ k x other h. record { whole = h.whole; lpid = h.lpid; shift = h.shift; normal = h.normal; secure = h.secure ∙ sym frames.count; vcpus = h.vcpus; steps = h.steps });
+        few = subst (λ (k : ℕ). k < 2 ^ 16) (sym (length-set m.guests i g')) whole.few;
         size = frames.size ∙ whole.size;
         frames_once = once_stays m i g g' pool is frames whole.frames_once (slice_set m.cpus n cpu);
       }
@@ -176,7 +197,8 @@ pub one_step_more : {S : Type 0} (takes : S → ℕ → ℕ → Type 0) (m : Sta
 one_step_more takes m whole = record {
   cpus = whole.cpus;
   guests = each_map (IsGuestOf takes m) (IsGuestOf takes (record m { steps = m.steps + 1 })) m.guests whole.guests
-      (λ i g h. record { whole = h.whole; lpid = h.lpid; shift = h.shift; normal = h.normal; secure = h.secure; steps = (let few = h.steps in omega arith) });
+      (λ i g h. record { whole = h.whole; lpid = h.lpid; shift = h.shift; normal = h.normal; secure = h.secure; vcpus = h.vcpus; steps = (let few = h.steps in omega arith) });
+  few = whole.few;
   size = whole.size;
   frames_once = whole.frames_once;
 }

@@ -1,5 +1,5 @@
 -- What every step of a CPU does to a machine, and what it needs.
-use Rattle.std.specs.Prelude.{◌≡◌, ℕ, ◌<◌, List, length, Some, slice_get}
+use Rattle.std.specs.Prelude.{◌≡◌, ℕ, ◌<◌, List, length, Some, slice_get, ◌⊎◌}
 use Rattle.pef_model.specs.declared.state.Ctx.{Ctx}
 use Rattle.pef_model.specs.declared.state.Ctx.TheVariants as ctx
 use Rattle.pef_model.specs.declared.state.Tag.{Tag}
@@ -9,7 +9,7 @@ use Rattle.pef_model.specs.declared.command.Cmd.{Cmd}
 use Rattle.pef_model.specs.declared.entry.Answer.{Answer}
 use Rattle.pef_model.specs.declared.entry.Answer.TheVariants as answer
 use Rattle.pef_model.specs.Commands.{IsCommand}
-use Rattle.pef_model.specs.Plan.{Plan}
+use Rattle.pef_model.specs.Plan.{Plan, IsWithin}
 use Rattle.pef_model.specs.Event.{Mark}
 use Rattle.pef_model.specs.Cpu.{CpuPart}
 use Rattle.pef_model.specs.Target.{Target, Alone, AtGuest, AtFrame, aim_in, target_in}
@@ -54,26 +54,26 @@ abbrev pub MayAimAtNone : Ctx → ℕ → Cmd → Type 0
 MayAimAtNone ctx.Hv lpid cmd = MayBeAtNone (aim_in ctx.Hv lpid cmd)
 MayAimAtNone before lpid cmd = Unit {0}
 
--- what such a step keeps of its CPU: all but its registers and its last answer
-pub record KeepsSelection (old new : Cpu) : Type 0 where
+-- what such a step keeps of its CPU, in a machine with so many guests of so many vCPUs each: its number, its context and its hand, and its selection, unless it selects one of these vCPUs
+pub record KeepsSelection (guests vcpus : ℕ) (old new : Cpu) : Type 0 where
   pub number : new.number ≡ old.number
   pub ctx : new.ctx ≡ old.ctx
-  pub lpid : new.lpid ≡ old.lpid
-  pub vid : new.vid ≡ old.vid
+  pub selects : ((new.lpid ≡ old.lpid) × (new.vid ≡ old.vid)) ⊎ (IsWithin 1 guests new.lpid × (new.vid < vcpus))
   pub hand : new.hand ≡ old.hand
 
 -- what a refused step on its CPU alone leaves
 abbrev pub RefusesOwn : Ctx → Cpu → Cpu → Answer → Type 0
 RefusesOwn ctx.Hv cpu cpu_new (answer.Ret code) = RefusesCpu cpu cpu_new code
 RefusesOwn ctx.Hv cpu cpu_new answer.Hole = cpu_new ≡ record cpu { last = answer.Hole }
+RefusesOwn ctx.Hv cpu cpu_new answer.Done = Unit {0}
 RefusesOwn before cpu cpu_new answer.Context = cpu_new ≡ cpu
 RefusesOwn before cpu cpu_new other = ⊥
 
--- what every step on its CPU alone does
-pub record DoesOwn (cmd : Cmd) (cpu cpu_new : Cpu) (a : Answer) : Type 0 where
-  pub keeps : KeepsSelection cpu cpu_new
+-- what every step on its CPU alone does, in a machine with so many guests of so many vCPUs each
+pub record DoesOwn (guests vcpus : ℕ) (cmd : Cmd) (cpu cpu_new : Cpu) (a : Answer) : Type 0 where
+  pub keeps : KeepsSelection guests vcpus cpu cpu_new
   pub refused : RefusesOwn cpu.ctx cpu cpu_new a
-  pub row : (plan : Plan) (c : CpuPart) (mark : Mark) → ShowsCpu cpu c → RowRead c (entry_of (ask_of c cmd) mark cmd (deed_alone plan (ask_of c cmd) cmd)) cpu_new a
+  pub row : (plan : Plan) (c : CpuPart) (mark : Mark) → plan.guests ≡ guests → plan.vcpus ≡ vcpus → ShowsCpu cpu c → RowRead c (entry_of (ask_of c cmd) mark cmd (deed_alone plan (ask_of c cmd) cmd)) cpu_new a
 
 -- what every step of a CPU does to a machine
 pub record DoesStep {S : Type 0} (stands : S → Tag → List ℕ → List ℕ → Type 0) (image : S → Tag → List ℕ → List ℕ) (n : ℕ) (cmd : Cmd) (old new : State S) (a : Answer) : Type 0 where

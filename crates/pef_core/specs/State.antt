@@ -7,19 +7,20 @@ use Rattle.pef_model.specs.declared.state.Move.{Move}
 use Rattle.pef_model.specs.declared.state.Work.TheVariants.{Inward, Outward}
 use Rattle.pef_model.specs.declared.state.Ctx.{Ctx}
 use Rattle.pef_model.specs.declared.state.Ctx.TheVariants as ctx
-use Rattle.pef_model.specs.Deed.{may_return_in}
 use Rattle.pef_frames.specs.Frame.{numbers_of}
 use Rattle.pef_frames.specs.Pool.{PoolState}
 use Rattle.pef_pages.specs.Pages.{mover_at, held}
 use Rattle.pef_guest.specs.declared.cpu.Cpu.{Cpu}
 use Rattle.pef_guest.specs.declared.guest.Guest.{Guest}
 use Rattle.pef_guest.specs.Whole.{IsWhole}
+use Rattle.pef_guest.specs.Ready.{may_run_in}
 use Rattle.pef_core.specs.Normal.{NormalState}
 
--- the CPUs from number 0 on, the guests from number 1 on, the free secure frames, the normal frames, the number of steps so far
+-- the CPUs from number 0 on, the guests from number 1 on, how many vCPUs each has, the free secure frames, the normal frames, the number of steps so far
 pub record State (S : Type 0) : Type 0 where
   pub cpus : List Cpu
   pub guests : List (Guest S)
+  pub vcpus : ℕ
   pub pool : PoolState
   pub normal : NormalState
   pub steps : ℕ
@@ -41,7 +42,7 @@ pub record IsVcpu {S : Type 0} (guests : List (Guest S)) (lpid vid : ℕ) : Type
 -- a generation is none that a guest has yet to come to, and where the guest is still in it, its phase lets a vCPU run
 abbrev pub MayRun : {S : Type 0} → Option (Guest S) → ℕ → Type 0
 MayRun None generation = ⊥
-MayRun (Some guest) generation = (generation ≤ guest.generation) × (generation ≡ guest.generation → may_return_in guest.phase ≡ true)
+MayRun (Some guest) generation = (generation ≤ guest.generation) × (generation ≡ guest.generation → may_run_in guest.phase ≡ true)
 
 -- a generation is none that a guest has yet to come to, and where the guest is still in it, this CPU moves its page of this number this way
 abbrev pub MovesPage : {S : Type 0} → Option (Guest S) → ℕ → ℕ → Mover → Type 0
@@ -75,6 +76,7 @@ pub record IsGuestOf {S : Type 0} (takes : S → ℕ → ℕ → Type 0) (m : St
   pub shift : guest.shift ≡ m.normal.shift
   pub normal : guest.normal ≡ length m.normal.frames
   pub secure : guest.secure ≡ m.pool.count
+  pub vcpus : length guest.vcpus.items ≡ m.vcpus
   pub steps : guest.steps ≤ m.steps
 
 -- the numbers of the free secure frames, and of those in all pages
@@ -93,6 +95,7 @@ Each {X = X} P xs = (n : ℕ) (x : X) → slice_get xs n ≡ Some x → P n x
 pub record IsWholeMachine {S : Type 0} (takes : S → ℕ → ℕ → Type 0) (m : State S) : Type 0 where
   pub cpus : Each (IsCpuOf m.guests m.normal) m.cpus
   pub guests : Each (IsGuestOf takes m) m.guests
+  pub few : length m.guests < 2 ^ 16
   pub size : m.pool.size ≡ 2 ^ m.normal.shift
   pub frames_once : FramesOnce m
 

@@ -17,6 +17,7 @@ module _ {S : Type 0} (stands : S → Tag → List ℕ → List ℕ → Type 0) 
   pub record Fits (plan : Plan) (m : State S) (past : List Event) : Type 0 where
     pub cpu_count : length m.cpus ≡ plan.cpus
     pub guest_count : length m.guests ≡ plan.guests
+    pub vcpu_count : m.vcpus ≡ plan.vcpus
     pub cpus : Each (λ n cpu. ShowsCpu cpu (cpu_after plan n past)) m.cpus
     pub guests : Each (λ i guest. Shows stands image plan guest (guest_after plan (i + 1) past)) m.guests
     pub normal_is : ShowsNormal plan m.normal (λ n. frame_after plan n past)

@@ -27,12 +27,15 @@ pub fn aim_of(own: &Cpu, cmd: &Cmd) -> Aim
     match (own.ctx, cmd) {
         (Ctx::Hv, Cmd::HLd { ra }) => Aim::Address(*ra),
         (Ctx::Hv, Cmd::HSt { ra, .. }) => Aim::Address(*ra),
+        (Ctx::Hv, Cmd::HEnter { lpid, .. }) => Aim::NamedGuest(*lpid),
+        (Ctx::Hv, Cmd::UPate { lpid, .. }) => Aim::NamedGuest(*lpid),
         (Ctx::Hv, Cmd::UPagein { lpid, .. }) => Aim::NamedGuest(*lpid),
         (Ctx::Hv, Cmd::UPageout { lpid, .. }) => Aim::NamedGuest(*lpid),
         (Ctx::Hv, Cmd::UReturn { .. }) => Aim::Guest(own.lpid),
         (Ctx::Uv(Work::Inward(page)), Cmd::Go) => Aim::Move(page),
         (Ctx::Uv(Work::Outward(page)), Cmd::Go) => Aim::Move(page),
-        (Ctx::Guest(_), Cmd::HLd { .. } | Cmd::HSt { .. } | Cmd::Go) => Aim::Nothing,
+        (Ctx::Guest(_), Cmd::HLd { .. } | Cmd::HSt { .. }) => Aim::Nothing,
+        (Ctx::Guest(_), Cmd::HSelect { .. } | Cmd::HEnter { .. } | Cmd::Go) => Aim::Nothing,
         (Ctx::Guest(run), _) => Aim::Guest(run.lpid),
         _ => Aim::Nothing,
     }

@@ -1,13 +1,13 @@
 //! A command at the guest at which it aims: the row of its context and its name.
 
-ghost use Rattle.std.specs.Prelude.{◌≡◌, true, false};
+ghost use Rattle.std.specs.Prelude.{◌≡◌, ◌^◌, true, false, length, Some, None};
 ghost use Rattle.pef_frames.specs.Pool.{PoolState};
 ghost use Rattle.pef_guest.specs.Ready.{IsReadyFor, IsReadyPool, IsRunning};
 ghost use Rattle.pef_guest.specs.Does.{DoesLent, DoesRow};
-ghost use Rattle.pef_core.specs.Lent.{IsLent, WantsPool, call_asks, command_asks, pool_of, pool_left, frame_of, frame_left};
+ghost use Rattle.pef_core.specs.Lent.{IsLent, WantsPool, call_asks, command_asks, command_goes, frame_needed, LeavesIn, LeavesLent, pool_of, pool_left, frame_of, frame_left};
 
 use crate::lent::Inner;
-use pef_frames::Pool;
+use pef_frames::{NormalFrame, Pool};
 use pef_guest::{Cpu, Guest};
 use pef_model::{Answer, Cmd, Ctx, Run, Work};
 use pef_move::PageCall;
@@ -22,12 +22,13 @@ pub fn apply_guest<S: Seal>(
 ) -> Answer
     requires ready { IsReadyFor S.takes cmd.now guest.old cpu.old }
     requires lent { IsLent guest.old cpu.old cmd.now inner }
-    ensures { (pool : PoolState) → DoesLent S.takes S.stands S.image cmd.now guest.old guest.new cpu.old cpu.new (pool_of pool inner.entry) (pool_left pool inner.exit) (frame_of inner.entry) (frame_left inner.exit) result }
+    ensures does { (pool : PoolState) → DoesLent S.takes S.stands S.image cmd.now guest.old guest.new cpu.old cpu.new (pool_of pool inner.entry) (pool_left pool inner.exit) (frame_of inner.entry) (frame_left inner.exit) result }
+    ensures left { LeavesLent guest.old cpu.old cmd.now result (frame_of inner.entry) (frame_left inner.exit) }
 {
     match inner {
         Inner::Nothing => without_pool(guest, cpu, cmd),
         Inner::Pool(pool) => with_pool(guest, cpu, pool, cmd),
-        Inner::Frame(..) => unreachable!(),
+        Inner::Frame(number, frame) => with_frame(guest, cpu, number, frame, cmd),
     }
 }
 
@@ -97,10 +98,36 @@ fn access<S: Seal>(guest: &mut Guest<S>, cpu: &Cpu, pool: &mut Pool, run: Run, c
     }
 }
 
+/// A load or store of the vCPU that the CPU runs, in a normal frame, which it is lent.
+pub(crate) fn with_frame<S: Seal>(
+    guest: &mut Guest<S>,
+    cpu: &Cpu,
+    number: u32,
+    frame: &mut NormalFrame,
+    cmd: &Cmd,
+) -> Answer
+    requires ready { IsReadyFor S.takes cmd.now guest.old cpu.now }
+    requires size { length frame.old ≡ 2 ^ guest.old.shift }
+    requires needed { frame_needed guest.old cpu.now.ctx cmd.now ≡ Some number }
+    ensures does { (pool : PoolState) → DoesLent S.takes S.stands S.image cmd.now guest.old guest.new cpu.now cpu.now pool pool (Some (record { number = number; bytes = frame.old })) frame.new result }
+    ensures left { LeavesIn guest.old cpu.now cmd.now result (record { number = number; bytes = frame.old }) frame.new }
+{
+    match (cpu.ctx, cmd) {
+        (Ctx::Guest(run), Cmd::GLd { rd, gpa }) => {
+            pef_access::load_through(guest, cpu, number, frame, run, *rd, *gpa)
+        }
+        (Ctx::Guest(run), Cmd::GSt { rs, gpa }) => {
+            pef_access::store_through(guest, cpu, number, frame, run, *rs, *gpa)
+        }
+        _ => unreachable!(),
+    }
+}
+
 /// A command that is lent nothing.
 fn without_pool<S: Seal>(guest: &mut Guest<S>, cpu: &mut Cpu, cmd: &Cmd) -> Answer
     requires ready { IsReadyFor S.takes cmd.now guest.old cpu.old }
     requires unwanted { WantsPool guest.old cpu.old cpu.old.ctx cmd.now → ⊥ }
+    requires frameless { frame_needed guest.old cpu.old.ctx cmd.now ≡ None }
     ensures { (pool : PoolState) → DoesRow S.takes S.stands S.image cmd.now guest.old guest.new cpu.old cpu.new pool pool result }
 {
     match cpu.ctx {
@@ -121,6 +148,8 @@ fn call<S: Seal>(guest: &mut Guest<S>, cpu: &mut Cpu, cmd: &Cmd) -> Answer
     ensures { (pool : PoolState) → DoesRow S.takes S.stands S.image cmd.now guest.old guest.new cpu.old cpu.new pool pool result }
 {
     match cmd {
+        Cmd::HEnter { vid, .. } => pef_reflect::enter_normal(guest, cpu, *vid),
+        Cmd::UPate { lpid, dw0, dw1 } => pef_reflect::write_entry(guest, cpu, *lpid, *dw0, *dw1),
         Cmd::UPagein {
             lpid,
             src,
@@ -165,12 +194,12 @@ fn command<S: Seal>(guest: &mut Guest<S>, cpu: &mut Cpu, run: Run, cmd: &Cmd) ->
     requires ready { IsReadyFor S.takes cmd.now guest.old cpu.old }
     requires runs { IsRunning cpu.old guest.old run }
     requires unwanted { command_asks guest.old cmd.now ≡ false }
+    requires frameless { command_goes guest.old cmd.now ≡ None }
     ensures { (pool : PoolState) → DoesRow S.takes S.stands S.image cmd.now guest.old guest.new cpu.old cpu.new pool pool result }
 {
     match cmd {
-        Cmd::UPagein { .. } | Cmd::UPageout { .. } | Cmd::UReturn { .. } => {
-            pef_reflect::refuse_call(guest, cpu, run, cmd)
-        }
+        Cmd::UPate { .. } | Cmd::UPagein { .. } | Cmd::UPageout { .. } | Cmd::UReturn { .. } =>
+            pef_reflect::refuse_call(guest, cpu, run, cmd),
         Cmd::GLi { rd, value } => pef_reflect::load_immediate(guest, cpu, run, *rd, *value),
         Cmd::GLd { rd, gpa } => pef_access::load(guest, cpu, run, *rd, *gpa),
         Cmd::GSt { rs, gpa } => pef_access::store(guest, cpu, run, *rs, *gpa),

@@ -1,14 +1,12 @@
 //! What a step did is what its entry tells.
 
 ghost use Rattle.std.specs.Prelude.{◌≡◌, ℕ, Option};
-ghost use Rattle.pef_model.specs.Guest.{Guest};
-ghost use Rattle.pef_model.specs.Plan.{Plan};
 ghost use Rattle.pef_model.specs.Registers.{arguments};
-ghost use Rattle.pef_model.specs.StepLaw.{let_out};
-ghost use Rattle.pef_core.specs.Did.{pool_seen};
+ghost use Rattle.pef_model.specs.StepLaw.{let_out_running};
+ghost use Rattle.pef_core.specs.Did.{pool_seen, shown_of};
 
-use pef_guest::Cpu;
-use pef_model::{Answer, Cmd, Ctx, Exposed, PoolSaw, Saw};
+use pef_guest::{Cpu, registers};
+use pef_model::{Answer, Cmd, Ctx, Exit, Exposed, PoolSaw, Saw};
 
 /// What a step did: its command, its answer, and what it saw beside the object at which it aimed.
 #[derive(Drop)]
@@ -28,11 +26,13 @@ pub(crate) struct Look {
     /// Whether it reads or changes the number of free secure frames.
     pub touched: bool,
     pub frame: Option<u32>,
+    /// R0 to R31 of the vCPU that runs, if one does.
+    pub gpr: [u64; 32],
 }
 
-/// What can be told of a step by its CPU, and by what is known of the pool and the normal frame.
-pub(crate) fn look_of(own: &Cpu, touched: bool, frame: Option<u32>) -> Look
-    ensures { result ≡ record { before = own.now.ctx; lpid = own.now.lpid; vid = own.now.vid; last = own.now.last; touched = touched; frame = frame } }
+/// What can be told of a step by its CPU, and by what is known of the pool, the normal frame and the vCPU's registers.
+pub(crate) fn look_of(own: &Cpu, touched: bool, frame: Option<u32>, gpr: [u64; 32]) -> Look
+    ensures { result ≡ record { before = own.now.ctx; lpid = own.now.lpid; vid = own.now.vid; last = own.now.last; touched = touched; frame = frame; gpr = gpr } }
 {
     Look {
         before: own.ctx,
@@ -41,6 +41,7 @@ pub(crate) fn look_of(own: &Cpu, touched: bool, frame: Option<u32>) -> Look
         last: own.last,
         touched,
         frame,
+        gpr,
     }
 }
 
@@ -58,13 +59,27 @@ pub(crate) fn pool_seen(touched: bool, free: u32, after: u32) -> Option<PoolSaw>
     })
 }
 
-/// The values that a guest lets out in a step, by the context before it: the arguments of its call that came back, and
-/// nothing by any other step.
-pub(crate) fn let_out(before: Ctx, cmd: &Cmd, answer: Answer) -> Exposed
-    ensures { (plan : Plan) (guests : ℕ → Guest) (frame : Option ℕ) → result ≡ let_out plan guests before cmd.now answer frame }
+/// The values that a guest lets out in a step that was looked at before: the arguments of its call that came back, what it
+/// stores in a normal frame, all its registers where it leaves in normal memory, and nothing by any other step.
+pub(crate) fn let_out(look: &Look, cmd: &Cmd, answer: Answer) -> Exposed
+    ensures { result ≡ shown_of look.now.before look.now.gpr cmd.now answer look.now.frame }
 {
-    match (before, answer) {
-        (Ctx::Guest(_), Answer::Ret(_)) => arguments(cmd),
+    match look.before {
+        Ctx::Guest(_) => let_out_running(&look.gpr, cmd, answer, look.frame),
+        Ctx::Hv | Ctx::Uv(_) => Exposed::nothing(),
+    }
+}
+
+/// The same of a step of a vCPU with these registers.
+fn let_out_running(gpr: &[u64; 32], cmd: &Cmd, answer: Answer, frame: Option<u32>) -> Exposed
+    ensures { result ≡ let_out_running gpr.now cmd.now answer frame }
+{
+    match (cmd, answer, frame) {
+        (_, Answer::Ret(_), _) => arguments(cmd),
+        (Cmd::GSt { rs, .. }, Answer::Done, Some(_)) => {
+            Exposed::of(&[registers::value_of(gpr, *rs)])
+        }
+        (Cmd::GIrq, Answer::Exit(Exit::Normal), _) => Exposed::of(gpr),
         _ => Exposed::nothing(),
     }
 }
@@ -75,6 +90,7 @@ fn arguments(cmd: &Cmd) -> Exposed
 {
     cmd.numbers_fit();
     match *cmd {
+        Cmd::UPate { lpid, dw0, dw1 } => Exposed::of(&[lpid, dw0, dw1]),
         Cmd::UPagein {
             lpid,
             src,

@@ -13,7 +13,7 @@ ghost use Rattle.pef_core.specs.Refused.{LeavesRest};
 ghost use Rattle.pef_core.specs.Alone.{LeavesOthers};
 ghost use Rattle.pef_model.specs.Target.{Alone, AtGuest, AtFrame};
 ghost use Rattle.pef_core.specs.Does.{AimsAt, DoesStep};
-ghost use Rattle.pef_core.specs.Did.{LooksAt, TellsStep};
+ghost use Rattle.pef_core.specs.Did.{HasRegisters, LooksAt, TellsStep};
 ghost use Rattle.pef_guest.specs.declared.cpu.Cpu.{Cpu};
 ghost use Rattle.pef_core.specs.Places.{EachPageIsPlaced};
 
@@ -35,6 +35,8 @@ use std::marker::Model;
 pub struct Machine<S: Seal> {
     cpus: Vec<Cpu>,
     guests: Vec<Guest<S>>,
+    /// How many vCPUs each guest has.
+    vcpus: u8,
     /// The free secure frames.
     pool: Pool,
     /// The memory that the hypervisor loads and stores.
@@ -48,9 +50,9 @@ impl<S: Seal> Model for Machine<S> {
 
     ghost Value = { State S };
 
-    ghost view = { λ m. record { cpus = m.cpus.items; guests = m.guests.items; pool = m.pool; normal = m.normal; steps = m.steps } };
+    ghost view = { λ m. record { cpus = m.cpus.items; guests = m.guests.items; vcpus = m.vcpus; pool = m.pool; normal = m.normal; steps = m.steps } };
 
-    ghost invariant = { λ m. IsWholeMachine S.takes (record { cpus = m.cpus.items; guests = m.guests.items; pool = m.pool; normal = m.normal; steps = m.steps }) };
+    ghost invariant = { λ m. IsWholeMachine S.takes (record { cpus = m.cpus.items; guests = m.guests.items; vcpus = m.vcpus; pool = m.pool; normal = m.normal; steps = m.steps }) };
 }
 
 /// The CPUs of a configuration.
@@ -100,6 +102,7 @@ impl<S: Seal> Machine<S> {
         Ok(Machine {
             cpus,
             guests,
+            vcpus: config.vcpus,
             pool,
             normal,
             steps: 0,
@@ -150,7 +153,7 @@ impl<S: Seal> Machine<S> {
                 last: look.last,
                 pool: pool_seen(look.touched, free, self.pool.free()),
                 frame: look.frame,
-                shown: let_out(look.before, cmd, answer),
+                shown: let_out(&look, cmd, answer),
             },
         }
     }
@@ -162,13 +165,31 @@ impl<S: Seal> Machine<S> {
         ensures { LooksAt S.stands S.image self.now cpu cmd.now result }
     {
         let own = &self.cpus[cpu as usize];
+        let gpr = self.running_registers(cpu);
         match target_of(own, cmd, &self.normal, self.guests.len() as u64) {
-            Target::Alone => look_of(own, false, None),
+            Target::Alone => look_of(own, false, None, gpr),
             Target::Guest(lpid) => {
                 let guest = &self.guests[lpid as usize - 1];
-                look_of(own, needs(guest, own, cmd).is_pool(), None)
+                let wanted = needs(guest, own, cmd);
+                look_of(own, wanted.is_pool(), wanted.frame(), gpr)
             }
-            Target::Frame(frame) => look_of(own, false, Some(frame)),
+            Target::Frame(frame) => look_of(own, false, Some(frame), gpr),
+        }
+    }
+
+    /// R0 to R31 of the vCPU that a CPU runs, and zeros where it runs none.
+    fn running_registers(&self, cpu: u8) -> [u64; 32]
+        requires { cpu < length self.now.cpus }
+        ensures { HasRegisters S.stands S.image self.now cpu result }
+    {
+        match self.cpus[cpu as usize].ctx {
+            Ctx::Guest(run) => {
+                self.guests[run.lpid as usize - 1].vcpus[run.vid as usize]
+                    .regs
+                    .gpr
+            }
+            Ctx::Hv => [0; 32],
+            Ctx::Uv(_) => [0; 32],
         }
     }
 
@@ -195,10 +216,11 @@ impl<S: Seal> Machine<S> {
         requires { AimsAt cpu cmd.now Alone self.old }
         ensures { DoesStep S.stands S.image cpu cmd.now self.old self.new result }
     {
-        apply_own(&mut self.cpus[cpu as usize], cmd)
+        let guests = self.guests.len() as u16;
+        apply_own(&mut self.cpus[cpu as usize], cmd, guests, self.vcpus)
     }
 
-    /// A command at the guest at which it aims, with the pool where it needs it.
+    /// A command at the guest at which it aims, with the pool or the normal frame where it needs it.
     fn at_guest(&mut self, cpu: u8, lpid: u64, cmd: &Cmd) -> Answer
         requires { AimsAt cpu cmd.now (AtGuest lpid) self.old }
         ensures { DoesStep S.stands S.image cpu cmd.now self.old self.new result }
@@ -208,6 +230,7 @@ impl<S: Seal> Machine<S> {
         match needs(guest, own, cmd) {
             Want::Nothing => apply_guest(guest, own, Inner::Nothing, cmd),
             Want::Pool => apply_guest(guest, own, Inner::Pool(&mut self.pool), cmd),
+            Want::Frame(number) => self.normal.lend(guest, own, number, cmd),
         }
     }
 

@@ -1,17 +1,23 @@
 //! The normal frames are all of one size, and a step changes at most one of them.
 
-ghost use Rattle.std.specs.Prelude.{◌≡◌, ◌+◌, ◌^◌, ◌<◌, ◌≤◌, length, slice_set, true, IfOk, IfSome, if◌then◌else◌};
+ghost use Rattle.std.specs.Prelude.{◌≡◌, ◌+◌, ◌^◌, ◌<◌, ◌≤◌, length, slice_set, true, Some, IfOk, IfSome, if◌then◌else◌};
+ghost use Rattle.pef_frames.specs.Pool.{PoolState};
+ghost use Rattle.pef_guest.specs.Ready.{IsReadyFor};
+ghost use Rattle.pef_guest.specs.Does.{DoesLent};
+ghost use Rattle.pef_core.specs.Lent.{frame_needed, LeavesIn};
 ghost use Rattle.pef_model.specs.Plan.{IsWithin};
 ghost use Rattle.pef_core.specs.Frames.{AimsAtFrame, DoesFrame};
 ghost use Rattle.pef_access.specs.Access.{has_place, place_at};
 ghost use Rattle.pef_core.specs.Normal.{zero_frames, frame_at, IsPlaceIn};
 
 use crate::at_frame::apply_frame;
+use crate::at_guest::with_frame;
 use pef_access::place_below;
 use pef_frames::NormalFrame;
-use pef_guest::Cpu;
+use pef_guest::{Cpu, Guest};
 use pef_model::{Answer, Cmd};
 use pef_num::Place;
+use pef_seal::Seal;
 use std::alloc::{AllocError, Global};
 use std::marker::Model;
 
@@ -67,6 +73,25 @@ impl Normal {
         ensures place { IfSome result (IsPlaceIn self.now) }
     {
         place_below(ra, self.shift, self.count())
+    }
+
+    /// A command of a CPU at a guest that goes into one of the frames, by its number from 0.
+    pub fn lend<S: Seal>(
+        &mut self,
+        guest: &mut Guest<S>,
+        cpu: &Cpu,
+        number: u32,
+        cmd: &Cmd,
+    ) -> Answer
+        requires number { number < length self.old.frames }
+        requires shift { guest.old.shift ≡ self.old.shift }
+        requires ready { IsReadyFor S.takes cmd.now guest.old cpu.now }
+        requires needed { frame_needed guest.old cpu.now.ctx cmd.now ≡ Some number }
+        ensures does { (pool : PoolState) → DoesLent S.takes S.stands S.image cmd.now guest.old guest.new cpu.now cpu.now pool pool (Some (record { number = number; bytes = frame_at self.old.frames number })) (frame_at self.new.frames number) result }
+        ensures left { LeavesIn guest.old cpu.now cmd.now result (record { number = number; bytes = frame_at self.old.frames number }) (frame_at self.new.frames number) }
+        ensures rest { self.new ≡ record self.old { frames = slice_set self.old.frames number (frame_at self.new.frames number) } }
+    {
+        with_frame(guest, cpu, number, &mut self.frames[number as usize], cmd)
     }
 
     /// A command of a CPU at one of the frames, by its number from 0.

@@ -1,7 +1,7 @@
 //! Whether a step may be done at a guest or at a normal frame, by what can be tested of it, the CPU and the pool.
 
 ghost use Rattle.std.specs.Prelude.{◌≡◌, ◌↔◌, ◌^◌, ◌<◌, true, IsTrue, length};
-ghost use Rattle.pef_model.specs.Deed.{may_return_in};
+ghost use Rattle.pef_guest.specs.Ready.{may_run_in};
 ghost use Rattle.pef_guest.specs.Whole.{IsWhole};
 ghost use Rattle.pef_guest.specs.Aims.{guest_aimed};
 ghost use Rattle.pef_guest.specs.Ready.{MayEnd, ReadyIn, IsReadyFor, IsReadyPool};
@@ -114,10 +114,10 @@ fn may_end<S: Seal>(guest: &Guest<S>, cpu: &Cpu, way: Way, page: Move) -> bool
 
 /// Whether a vCPU is one of the guest's, whose phase lets it run where it is still in the generation.
 fn may_run<S: Seal>(guest: &Guest<S>, run: Run) -> bool
-    ensures { IsTrue result ↔ (run.vid < length guest.now.vcpus.items) × (run.generation ≡ guest.now.generation → may_return_in guest.now.phase ≡ true) }
+    ensures { IsTrue result ↔ (run.vid < length guest.now.vcpus.items) × (run.generation ≡ guest.now.generation → may_run_in guest.now.phase ≡ true) }
 {
     if run.generation != guest.generation {
         return (run.vid as usize) < guest.vcpus.len();
     }
-    (run.vid as usize) < guest.vcpus.len() && guest.may_return()
+    (run.vid as usize) < guest.vcpus.len() && guest.may_run()
 }

@@ -1,7 +1,7 @@
 use Rattle.pef_core.proofs.at_guest.command.Goals as goal
 
-pub returns-in-UPagein : goal.returns-in-UPagein
-returns-in-UPagein g c pool = c.refuse_call.ensures pool
+pub returns-in-UPate : goal.returns-in-UPate
+returns-in-UPate g c pool = c.refuse_call.ensures pool
 
 pub returns-in-GLi : goal.returns-in-GLi
 returns-in-GLi g c pool = rw c.in-GLi.is (c.load_immediate.ensures pool)

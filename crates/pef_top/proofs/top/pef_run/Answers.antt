@@ -1,5 +1,5 @@
 use Rattle.pef_top.specs.Top.{TookNoScript}
-use Rattle.pef_top.proofs.Outcomes.{at_one, at_four, not_three, not_four, fault_outcome, fault_due, due_reported}
+use Rattle.pef_top.proofs.Outcomes.{at_one, at_four, not_three, not_four, fault_outcome, fault_due}
 use Rattle.pef_top.proofs.top.pef_run.Goals as goal
 
 pub returns-in-Err-clause-fault : goal.returns-in-Err-clause-fault

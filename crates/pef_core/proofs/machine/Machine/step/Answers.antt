@@ -1,4 +1,5 @@
-use Rattle.std.proofs.Common.{◌+◌, subst, ap, ◌∙◌}
+use Rattle.pef_core.specs.State.{State}
+use Rattle.std.proofs.Common.{◌+◌, subst, ap, ◌∙◌, ◌<◌, ◌^◌, sym, arith}
 use Rattle.std.specs.Prelude.{slice_get}
 use Rattle.pef_core.specs.Steps.{Continues}
 use Rattle.pef_core.specs.Refused.{LeavesRest}
@@ -18,7 +19,7 @@ returns-clause-step g c =
     subst (λ m. Continues g.S.Seal.stands g.S.Seal.image m c.counted.new.self c.args.cpu c.args.cmd.now c.counted.result) c.self.view_is
     (λ plan past line place stamp fits.
     c.counted.ensures.step c.numbers_fit.ensures plan past line place stamp
-    (record { cpu_count = fits.cpu_count; guest_count = fits.guest_count; cpus = fits.cpus; guests = fits.guests; normal_is = fits.normal_is; free = fits.free }))
+    (record { cpu_count = fits.cpu_count; guest_count = fits.guest_count; vcpu_count = fits.vcpu_count; cpus = fits.cpus; guests = fits.guests; normal_is = fits.normal_is; free = fits.free }))
 
 pub returns-clause-refused : goal.returns-clause-refused
 returns-clause-refused g c own there =
@@ -29,3 +30,9 @@ pub returns-clause-alone : goal.returns-clause-alone
 returns-clause-alone g c =
     subst (λ m. LeavesOthers c.args.cpu c.args.cmd.now m c.counted.new.self c.counted.result) c.self.view_is
     (λ own there. (let rest = c.counted.ensures.alone own there in record { cpus = rest.cpus; guests = rest.guests; keeps = rest.keeps; lives = rest.lives; movers = rest.movers; pool = rest.pool; normal = rest.normal }))
+
+pub counted-requires-clause-steps : goal.counted-requires-clause-steps
+counted-requires-clause-steps g c = record {
+  few = (let count = subst (λ (m : State _). m.steps < 2 ^ 63) (sym c.self.view_is) c.requires.count in omega arith);
+  fewer = λ i guest there. (let most = (c.self.invariant.guests i guest there).steps in omega arith);
+}
