@@ -1,10 +1,10 @@
 //! A page of one guest goes out and comes in while another guest stores and loads, each step at the objects that it names alone.
 
-ghost use Rattle.std.specs.Prelude.{◌≡◌, ◌^◌, true, false, length, IfOk, IsFalse};
+ghost use Rattle.std.specs.Prelude.{◌≡◌, ◌^◌, true, false, length, Some, None, IfOk, IsFalse};
 ghost use Rattle.pef_model.specs.Plan.{IsInRange, IsWithin};
 ghost use Rattle.pef_guest.specs.Ready.{IsReadyFor, IsReadyPool};
 ghost use Rattle.pef_guest.specs.Whole.{IsWhole};
-ghost use Rattle.pef_core.specs.Lent.{WantsPool};
+ghost use Rattle.pef_core.specs.Lent.{WantsPool, frame_needed};
 
 use crate::machine::{immediate, load, store, u_return};
 use pef_core::{Inner, Want, apply_frame, apply_guest, needs, ready, ready_frame, ready_pool};
@@ -39,7 +39,7 @@ fn guest_of(alloc: Global, config: &Config, lpid: u16) -> Result<Guest<StreamSea
     Guest::build(alloc, config, lpid, StreamSeal::build(config.key))
 }
 
-/// Does a step at a guest, with the pool where it needs it, and compares what it answers.
+/// Does a step at a guest that needs no normal frame, with the pool where it needs it, and compares what it answers.
 fn at_guest(
     rt: &impl Abort,
     guest: &mut Guest<StreamSeal>,
@@ -56,6 +56,33 @@ fn at_guest(
     match needs(guest, cpu, cmd) {
         Want::Nothing => assert_eq!(rt; without_pool(guest, cpu, cmd), answer),
         Want::Pool => assert_eq!(rt; with_pool(guest, cpu, pool, cmd), answer),
+        Want::Frame(_) => assert!(rt; false),
+    }
+}
+
+/// Does a step at a guest that needs a normal frame of this number, and compares what it answers.
+fn at_guest_through(
+    rt: &impl Abort,
+    guest: &mut Guest<StreamSeal>,
+    cpu: &mut Cpu,
+    number: u32,
+    frame: &mut NormalFrame,
+    cmd: &Cmd,
+    answer: Answer,
+)
+    requires whole { IsWhole ⟦<StreamSeal as Seal>⟧.takes guest.old }
+    requires size { length frame.old ≡ 256 }
+    ensures whole { IsWhole ⟦<StreamSeal as Seal>⟧.takes guest.new }
+    ensures size { length frame.new ≡ 256 }
+{
+    assert_eq!(rt; guest.shift, 8);
+    assert!(rt; ready(guest, cpu, cmd));
+    match needs(guest, cpu, cmd) {
+        Want::Frame(needed) => {
+            assert_eq!(rt; needed, number);
+            assert_eq!(rt; with_frame(guest, cpu, needed, frame, cmd), answer);
+        }
+        Want::Nothing | Want::Pool => assert!(rt; false),
     }
 }
 
@@ -63,6 +90,7 @@ fn at_guest(
 fn without_pool<S: Seal>(guest: &mut Guest<S>, cpu: &mut Cpu, cmd: &Cmd) -> Answer
     requires ready { IsReadyFor S.takes cmd.now guest.old cpu.old }
     requires unwanted { WantsPool guest.old cpu.old cpu.old.ctx cmd.now → ⊥ }
+    requires frameless { frame_needed guest.old cpu.old.ctx cmd.now ≡ None }
     ensures { IsWhole S.takes guest.new }
 {
     apply_guest(guest, cpu, Inner::Nothing, cmd)
@@ -76,6 +104,32 @@ fn with_pool<S: Seal>(guest: &mut Guest<S>, cpu: &mut Cpu, pool: &mut Pool, cmd:
     ensures { IsWhole S.takes guest.new }
 {
     apply_guest(guest, cpu, Inner::Pool(pool), cmd)
+}
+
+/// A step at a guest that is lent a normal frame, by its number.
+fn with_frame<S: Seal>(
+    guest: &mut Guest<S>,
+    cpu: &mut Cpu,
+    number: u32,
+    frame: &mut NormalFrame,
+    cmd: &Cmd,
+) -> Answer
+    requires ready { IsReadyFor S.takes cmd.now guest.old cpu.old }
+    requires needed { frame_needed guest.old cpu.old.ctx cmd.now ≡ Some number }
+    requires size { length frame.old ≡ 2 ^ guest.old.shift }
+    ensures whole { IsWhole S.takes guest.new }
+    ensures size { length frame.new ≡ length frame.old }
+{
+    apply_guest(guest, cpu, Inner::Frame(number, frame), cmd)
+}
+
+/// A guest comes to its next generation, as where it has ended, without a step.
+fn ends(rt: &impl Abort, guest: &mut Guest<StreamSeal>)
+    requires { IsWhole ⟦<StreamSeal as Seal>⟧.takes guest.old }
+    ensures { IsWhole ⟦<StreamSeal as Seal>⟧.takes guest.new }
+{
+    assert!(rt; guest.generation <= guest.steps && guest.steps < 1 << 63);
+    guest.generation += 1;
 }
 
 /// Does the copy of a page's move at a normal frame of 2^shift bytes.
@@ -227,5 +281,92 @@ fn a_page_of_guest_2_goes_out_and_in_while_guest_1_runs(rt: HostRuntime) -> Resu
         Answer::Val(7),
     );
     assert_eq!(rt; pool.free(), 14);
+    Ok(())
+}
+
+#[test]
+fn a_move_that_ends_after_its_guest_comes_back_and_leaves_all(rt: HostRuntime) -> Result<(), Fail> {
+    let config = config(rt.alloc())?;
+    let mut guest = guest_of(rt.alloc(), &config, 2)?;
+    let mut pool = Pool::build(rt.alloc(), 16, 256)?;
+    let mut frame = NormalFrame::build(rt.alloc(), 256)?;
+    let mut runs = selecting(rt.alloc(), 0, 2, 0)?;
+    let mut moves = selecting(rt.alloc(), 1, 1, 0)?;
+    enters_and_stores(&rt, &mut guest, &mut runs, &mut pool, 9);
+    at_guest(
+        &rt,
+        &mut guest,
+        &mut moves,
+        &mut pool,
+        &page_out(),
+        Answer::Step,
+    );
+    copies(&rt, &mut moves, &mut frame, 8);
+    ends(&rt, &mut guest);
+    at_guest(
+        &rt,
+        &mut guest,
+        &mut moves,
+        &mut pool,
+        &Cmd::Go,
+        Answer::Ret(Code::UParameter),
+    );
+    assert_eq!(rt; pool.free(), 15);
+    at_guest(
+        &rt,
+        &mut guest,
+        &mut runs,
+        &mut pool,
+        &load(0),
+        Answer::Gone,
+    );
+    Ok(())
+}
+
+#[test]
+fn a_guest_in_normal_memory_stores_in_the_frame_that_it_needs(rt: HostRuntime) -> Result<(), Fail> {
+    let mut config = Config::with_defaults(rt.alloc());
+    config.shift = 8;
+    let mut guest = guest_of(rt.alloc(), &config, 1)?;
+    let mut pool = Pool::build(rt.alloc(), 16, 256)?;
+    let mut frame = NormalFrame::build(rt.alloc(), 256)?;
+    let mut cpu = selecting(rt.alloc(), 0, 1, 0)?;
+    let entry = Cmd::UPate {
+        lpid: 1,
+        dw0: 0x300,
+        dw1: 2,
+    };
+    let enter = Cmd::HEnter {
+        lpid: 1,
+        vid: 0,
+        value: 0,
+    };
+    at_guest(
+        &rt,
+        &mut guest,
+        &mut cpu,
+        &mut pool,
+        &entry,
+        Answer::Ret(Code::USuccess),
+    );
+    at_guest(&rt, &mut guest, &mut cpu, &mut pool, &enter, Answer::Enter);
+    at_guest(
+        &rt,
+        &mut guest,
+        &mut cpu,
+        &mut pool,
+        &immediate(7),
+        Answer::Done,
+    );
+    at_guest_through(
+        &rt,
+        &mut guest,
+        &mut cpu,
+        4,
+        &mut frame,
+        &store(0x108),
+        Answer::Done,
+    );
+    assert_eq!(rt; frame.load(8), 7);
     Ok(())
 }

@@ -7,4 +7,4 @@ any_pool : PoolState
 any_pool = record { count = 0; size = 0; free = [] }
 
 pub returns : goal.returns
-returns g c = (c.apply_guest.ensures any_pool).whole
+returns g c = (c.apply_guest.ensures.does any_pool).whole
