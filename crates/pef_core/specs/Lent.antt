@@ -7,7 +7,7 @@ use Rattle.pef_model.specs.declared.state.Ctx.{Ctx}
 use Rattle.pef_model.specs.declared.state.Ctx.TheVariants as ctx
 use Rattle.pef_model.specs.declared.state.Tag.{Tag}
 use Rattle.pef_model.specs.declared.command.Cmd.{Cmd}
-use Rattle.pef_model.specs.declared.command.Cmd.TheVariants.{UPagein, GLd, GSt}
+use Rattle.pef_model.specs.declared.command.Cmd.TheVariants.{UPagein, UPageout, GLd, GSt}
 use Rattle.pef_model.specs.Plan.{Plan}
 use Rattle.pef_model.specs.Event.{Mark}
 use Rattle.pef_model.specs.Target.{touches_pool}
@@ -42,6 +42,12 @@ abbrev pub frame_wanted : Want → Option ℕ
 frame_wanted want.Nothing = None
 frame_wanted want.Pool = None
 frame_wanted (want.Frame n) = Some n
+
+-- whether a call of the hypervisor is for a page
+abbrev pub is_page_call : Cmd → Bool
+is_page_call (UPagein lpid src gpa flags order) = true
+is_page_call (UPageout lpid dest gpa flags order) = true
+is_page_call cmd = false
 
 -- whether a call of the hypervisor asks for a free frame: UV_PAGE_IN does, where its operands are right
 abbrev pub call_asks : {S : Type 0} → Guest S → Cmd → Bool

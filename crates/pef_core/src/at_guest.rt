@@ -4,7 +4,7 @@ ghost use Rattle.std.specs.Prelude.{◌≡◌, ◌^◌, true, false, length, Som
 ghost use Rattle.pef_frames.specs.Pool.{PoolState};
 ghost use Rattle.pef_guest.specs.Ready.{IsReadyFor, IsReadyPool, IsRunning};
 ghost use Rattle.pef_guest.specs.Does.{DoesLent, DoesRow};
-ghost use Rattle.pef_core.specs.Lent.{IsLent, WantsPool, call_asks, command_asks, command_goes, frame_needed, LeavesIn, LeavesLent, pool_of, pool_left, frame_of, frame_left};
+ghost use Rattle.pef_core.specs.Lent.{IsLent, WantsPool, is_page_call, call_asks, command_asks, command_goes, frame_needed, LeavesIn, LeavesLent, pool_of, pool_left, frame_of, frame_left};
 
 use crate::lent::Inner;
 use pef_frames::{NormalFrame, Pool};
@@ -150,6 +150,20 @@ fn call<S: Seal>(guest: &mut Guest<S>, cpu: &mut Cpu, cmd: &Cmd) -> Answer
     match cmd {
         Cmd::HEnter { vid, .. } => pef_reflect::enter_normal(guest, cpu, *vid),
         Cmd::UPate { lpid, dw0, dw1 } => pef_reflect::write_entry(guest, cpu, *lpid, *dw0, *dw1),
+        Cmd::UReturn { r0, r2, outs } => pef_reflect::uv_return(guest, cpu, *r0, *r2, outs),
+        _ => page_call(guest, cpu, cmd),
+    }
+}
+
+/// A call of the hypervisor for a page, which is lent nothing.
+fn page_call<S: Seal>(guest: &mut Guest<S>, cpu: &mut Cpu, cmd: &Cmd) -> Answer
+    requires ready { IsReadyFor S.takes cmd.now guest.old cpu.old }
+    requires hypervisor { cpu.old.ctx ≡ Ctx.Hv }
+    requires named { is_page_call cmd.now ≡ true }
+    requires unwanted { call_asks guest.old cmd.now ≡ false }
+    ensures { (pool : PoolState) → DoesRow S.takes S.stands S.image cmd.now guest.old guest.new cpu.old cpu.new pool pool result }
+{
+    match cmd {
         Cmd::UPagein {
             lpid,
             src,
@@ -184,7 +198,6 @@ fn call<S: Seal>(guest: &mut Guest<S>, cpu: &mut Cpu, cmd: &Cmd) -> Answer
                 order: *order,
             },
         ),
-        Cmd::UReturn { r0, r2, outs } => pef_reflect::uv_return(guest, cpu, *r0, *r2, outs),
         _ => unreachable!(),
     }
 }

@@ -81,8 +81,8 @@ impl Want {
     }
 }
 
-/// The normal frame that a command of a CPU touches at the guest at which it aims: that of a load or store of a guest in normal
-/// memory, under its generation.
+/// The normal frame that a command of a CPU touches at the guest at which it aims: that of a load or store of its vCPU, under the
+/// guest's generation, in normal memory or in a Shared page.
 fn touched_frame<S: Seal>(guest: &Guest<S>, cpu: &Cpu, cmd: &Cmd) -> Option<u32>
     requires { IsReadyFor S.takes cmd.now guest.now cpu.now }
     ensures here { result ≡ frame_needed guest.now cpu.now.ctx cmd.now }

@@ -272,8 +272,8 @@ impl<S: Seal> Machine<S> {
         self.normal.count()
     }
 
-    /// A normal frame, by its number from 0: what the hypervisor's stores and the copies of page-outs have left there, and
-    /// else zeros.
+    /// A normal frame, by its number from 0: what the hypervisor's stores, those of guests in normal memory and the copies of
+    /// page-outs have left there, and else zeros.
     pub fn frame(&self, number: u32) -> &NormalFrame
         requires { number < length self.now.normal.frames }
         ensures { result.now ≡ frame_at self.now.normal.frames number }

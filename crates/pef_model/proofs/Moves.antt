@@ -43,8 +43,8 @@ registers_by_is plan past e lpid vid = by_test (touches_guest plan lpid e) where
   by_test false = refl
 
 steps : (g : Guest) (regs : Regs) (run : Run) (cmd : Cmd) (a : Answer) (after : Ctx) (shown : List ℕ) → Outcome (ctx.Guest run) cmd a after shown →
-    Steps g.part.phase cmd a regs (registers_after_command g regs cmd a)
-steps g regs run cmd a after shown h = record { nip = grind (arith, common_steps); srr0 = λ other. grind (arith, common_steps) }
+    Steps cmd a regs (registers_after_command g regs cmd a)
+steps g regs run cmd a after shown h = record { nip = grind (arith, common_steps); srr0 = grind (arith, common_steps) }
 
 -- a step that aims at its own guest leaves its vCPU these registers
 aimed_registers : (run : Run) (v : ℕ) (cmd : Cmd) (a : Answer) (g : Guest) (lpid vid : ℕ) → run.lpid ≡ lpid → run.vid ≡ vid →
@@ -170,7 +170,7 @@ each_entry_leaves_registers plan past e lpid vid extends =
     let is = registers_by_is plan past e lpid vid in
     record {
       own = λ (run : Run) (step : IsStepOf lpid vid run e).
-          subst (λ (x : Regs). Steps (guest_after plan lpid past).part.phase e.trace.cmd e.trace.answer (registers vid) x)
+          subst (λ (x : Regs). Steps e.trace.cmd e.trace.answer (registers vid) x)
           (sym (is ∙ ap (λ (c : Ctx). registers_by plan c e.saw.lpid e.saw.vid e.trace.cmd e.trace.answer g lpid vid) (runs_alone e.saw.before run step.before)
           ∙ own_registers plan run e.saw.lpid e.saw.vid e.trace.cmd e.trace.answer g lpid vid step.guest_is step.vcpu_is))
           (steps g (registers vid) run e.trace.cmd e.trace.answer e.saw.after e.saw.shown

@@ -67,10 +67,10 @@ SelectRefusals =
     answers_of (line_at 1 0 (HSelect 0 2) ∷ line_at 2 0 (HSelect 4 2) ∷ line_at 3 0 (HSelect 3 2) ∷ line_at 4 0 (HSelect 3 1) ∷ line_at 5 0 (return_with 0) ∷ line_at 6 0 (HSelect 1 1) ∷ line_at 7 0 (return_with 0) ∷ [])
     ≡ rets (UParameter ∷ UParameter ∷ UP2 ∷ []) ++ (Done ∷ Ret UInvalid ∷ Done ∷ Enter ∷ [])
 
--- h.enter: no guest 0, none past the last, one that is Secure, one that is Absent; no vCPU past the last, one that runs on another CPU; one that waits
+-- h.enter: no guest 0, none past the last, one that is Secure, one that is Absent; no vCPU past the last, one that runs on another CPU; one that waits, and a second beside it
 abbrev pub EnterRefusals : Type 0
 EnterRefusals =
     answers_of
     (line_at 1 0 (HEnter 0 2 0) ∷ line_at 2 0 (HEnter 4 2 0) ∷ line_at 3 0 (HEnter 1 2 0) ∷ line_at 4 0 (HEnter 2 2 0) ∷ line_at 5 0 (UPate 2 0x0 1) ∷ line_at 6 0 (HEnter 2 2 0) ∷ line_at 7 1 (HEnter 2 1 0)
-    ∷ line_at 8 0 (HEnter 2 1 0) ∷ line_at 9 1 GIrq ∷ line_at 10 0 (HEnter 2 1 0) ∷ [])
-    ≡ rets (UParameter ∷ UParameter ∷ UParameter ∷ UParameter ∷ USuccess ∷ UP2 ∷ []) ++ (Enter ∷ Ret UP2 ∷ Exit Normal ∷ Enter ∷ [])
+    ∷ line_at 8 0 (HEnter 2 1 0) ∷ line_at 9 1 GIrq ∷ line_at 10 0 (HEnter 2 1 0) ∷ line_at 11 1 (HEnter 2 0 0) ∷ line_at 12 0 (GLi 20 7) ∷ line_at 13 1 (GLi 20 9) ∷ [])
+    ≡ rets (UParameter ∷ UParameter ∷ UParameter ∷ UParameter ∷ USuccess ∷ UP2 ∷ []) ++ (Enter ∷ Ret UP2 ∷ Exit Normal ∷ Enter ∷ Enter ∷ Done ∷ Done ∷ [])

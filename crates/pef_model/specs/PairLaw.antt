@@ -57,9 +57,11 @@ normal_pair stored kept = record {
   lines = line_at 1 0 (UPate 2 0x100 1) ∷ line_at 2 0 (HEnter 2 0 0) ∷ line_at 3 0 (GLi 20 stored) ∷ line_at 4 0 (GSt 20 0x8) ∷ line_at 5 0 (GLi 20 kept) ∷ line_at 6 0 GIrq ∷ [];
 }
 
--- it hides neither: the scripts differ in secrets alone, and the views differ where what is stored does, and where what is kept does
+-- it hides neither: the scripts differ in secrets alone; where what is stored differs, or what is kept, the runs aren't alike and the views differ
 pub record NormalGuestsHideNothing : Type 0 where
   pub scripts : DifferInSecrets (normal_pair 7 5) (normal_pair 9 6)
+  pub stored_apart : IsAlike small_config (run_of (normal_pair 7 5)) small_config (run_of (normal_pair 9 5)) → ⊥
+  pub kept_apart : IsAlike small_config (run_of (normal_pair 7 5)) small_config (run_of (normal_pair 7 6)) → ⊥
   pub stored : view (plan_of small_config) (run_of (normal_pair 7 5)) ≢ view (plan_of small_config) (run_of (normal_pair 9 5))
   pub kept : view (plan_of small_config) (run_of (normal_pair 7 5)) ≢ view (plan_of small_config) (run_of (normal_pair 7 6))
 

@@ -1,6 +1,5 @@
 -- Laws of one entry: what it makes of its CPU and lets out, and what it makes of a vCPU's registers.
 use Rattle.std.specs.Prelude.{◌≡◌, ◌≢◌, ℕ, ◌+◌, ◌%◌, ◌^◌, ◌==◌, ◌<◌, Bool, true, false, ◌||◌, if◌then◌else◌, List, [], ◌∷◌, Option, Some, None, unwrap_or, slice_get, slice_index}
-use Rattle.pef_model.specs.declared.state.Phase.{Phase}
 use Rattle.pef_model.specs.declared.state.Phase.TheVariants as phase
 use Rattle.pef_model.specs.declared.state.Pending.TheVariants as pending
 use Rattle.pef_model.specs.declared.state.VState.{VState}
@@ -141,12 +140,12 @@ goes_on cmd (answer.Val value) = true
 goes_on cmd (answer.Ret code) = true
 goes_on cmd a = false
 
--- what a step of a vCPU of a guest in this phase makes of its registers beside R0 to R31
-pub record Steps (found : Phase) (cmd : Cmd) (a : Answer) (old new : Regs) : Type 0 where
+-- what a step of a vCPU makes of its registers beside R0 to R31
+pub record Steps (cmd : Cmd) (a : Answer) (old new : Regs) : Type 0 where
   -- the next instruction is the one after where the step was done, and else the same
   pub nip : new.nip ≡ (if goes_on cmd a then (old.nip + 4) % 2 ^ 64 else old.nip)
-  -- SRR0 stays, but where the guest is Normal
-  pub srr0 : found ≢ phase.Normal → new.srr0 ≡ old.srr0
+  -- SRR0 stays
+  pub srr0 : new.srr0 ≡ old.srr0
 
 -- what R2 of UV_RETURN makes of the registers of the vCPU that it takes up, beside R0 to R31
 pub record IsInterrupted (r2 : ℕ) (old new : Regs) : Type 0 where
@@ -165,16 +164,15 @@ takes_nothing vstate.Fresh = true
 takes_nothing (vstate.Parked pending.Irq) = true
 takes_nothing other = false
 
--- what holds of a guest while no step but of its own vCPUs, and the UV_RETURN that takes one up, changes a register: it has one generation, and is neither Normal nor Starting
+-- what holds of a guest while no step but of its own vCPUs, and the UV_RETURN that takes one up, changes a register: it has one generation, and isn't Starting
 pub record KeepsRegisters (plan : Plan) (past : List Event) (e : Event) (lpid : ℕ) : Type 0 where
   pub generation : (guest_after plan lpid (e ∷ past)).part.generation ≡ (guest_after plan lpid past).part.generation
-  pub normal : (guest_after plan lpid past).part.phase ≢ phase.Normal
   pub starting : (guest_after plan lpid past).part.phase ≢ phase.Starting
 
 -- what an entry makes of a vCPU's registers
 pub record LeavesRegisters (plan : Plan) (past : List Event) (e : Event) (lpid vid : ℕ) : Type 0 where
   -- its own step moves it on
-  pub own : (run : Run) → IsStepOf lpid vid run e → Steps (guest_after plan lpid past).part.phase e.trace.cmd e.trace.answer (registers_of plan past lpid vid) (registers_of plan (e ∷ past) lpid vid)
+  pub own : (run : Run) → IsStepOf lpid vid run e → Steps e.trace.cmd e.trace.answer (registers_of plan past lpid vid) (registers_of plan (e ∷ past) lpid vid)
   -- UV_RETURN that takes it up may interrupt it
   pub taken :
       (r0 r2 : ℕ) (outs : List ℕ) → TakesUp lpid vid r0 r2 outs e → takes_nothing ((guest_after plan lpid past).part.vcpus vid).state ≡ true →

@@ -79,13 +79,13 @@ pub enum Pending {
 /// The state of a vCPU.
 #[derive(Clone, Copy, Debug, PartialEq, Eq)]
 pub enum VState {
-    /// It doesn't run, and UV_RETURN doesn't take it up.
+    /// It doesn't run, and `h.enter` takes it up; UV_RETURN doesn't.
     Idle,
     /// It hasn't run yet, and UV_RETURN takes it up.
     Fresh,
     /// It runs on the CPU of this number.
     Running(u8),
-    /// It has left, and UV_RETURN takes it up again, on any CPU.
+    /// It has left, and is taken up again on any CPU: by UV_RETURN in a secure guest, by `h.enter` in one in normal memory.
     Parked(Pending),
 }
 

@@ -58,7 +58,6 @@ pub fn uv_return<S: Seal>(
 /// is no ultracall, so it loads no register: one that comes back has its code in R3. This project's own.
 pub fn enter_normal<S: Seal>(guest: &mut Guest<S>, cpu: &mut Cpu, vid: u64) -> Answer
     requires hypervisor { cpu.old.ctx ≡ Ctx.Hv }
-    requires few { length guest.old.vcpus.items ≤ 2 ^ 8 }
     requires whole { IsWhole S.takes guest.old }
     requires steps { guest.old.steps < 2 ^ 63 }
     ensures { (pool : PoolState) (lpid value : ℕ) → lpid ≡ guest.old.lpid → DoesRow S.takes S.stands S.image (Cmd.HEnter lpid vid value) guest.old guest.new cpu.old cpu.new pool pool result }

@@ -6,14 +6,8 @@ use Rattle.pef_model.specs.declared.command.Cmd.TheVariants.{HEnter}
 use Rattle.pef_guest.specs.Aims.{guest_aimed}
 use Rattle.pef_core.proofs.at_guest.call.Goals as goal
 
-pub returns-in-UPageout : goal.returns-in-UPageout
-returns-in-UPageout g c pool = rw c.in-UPageout.is (c.page_out_begin.ensures.does pool)
-
 pub returns-in-UReturn : goal.returns-in-UReturn
 returns-in-UReturn g c pool = rw c.in-UReturn.is (c.uv_return.ensures pool)
-
-pub returns-in-UPagein : goal.returns-in-UPagein
-returns-in-UPagein g c pool = rw c.in-UPagein.is (c.page_in_refused.ensures.does pool)
 
 pub returns-in-HEnter : goal.returns-in-HEnter
 returns-in-HEnter g c pool =
