@@ -17,6 +17,7 @@ use Rattle.pef_model.specs.Plan.{Plan}
 use Rattle.pef_model.specs.Event.{Event}
 use Rattle.pef_model.specs.Target.{Ask, frame_of, is_hypervisor, guest_address_in}
 use Rattle.pef_model.specs.Cpu.{CpuPart}
+use Rattle.pef_model.specs.Slots.{has_slot}
 use Rattle.pef_model.specs.GuestPart.{GuestPart, Meeting, Moves, Private, Normal, Unbacked, has_place, meets, page_of}
 use Rattle.pef_model.specs.Guest.{Guest}
 use Rattle.pef_model.specs.Deed.{Deed, deed_access, deed_gone}
@@ -65,24 +66,25 @@ again_moves ask success through out any (Normal n) done written h = absurd ((wri
 again_moves ask success through out any m done written h = cc
 
 -- which lies in a page with a mover, of a guest that isn't Normal
-moves_at : (plan : Plan) (g : GuestPart) (gpa : ℕ) → meets plan g gpa ≡ Moves → (g.phase ≢ phase.Normal) × (has_place plan gpa ≡ true) × IsSome (g.pages (page_of plan gpa)).mover
-moves_at plan g gpa h = (λ normal. grind (arith, common_steps), grind (arith, common_steps), grind (arith, common_steps))
+moves_at : (plan : Plan) (g : GuestPart) (gpa : ℕ) → meets plan g gpa ≡ Moves → (g.phase ≢ phase.Normal) × (has_place plan gpa ≡ true) × (has_slot g.slots (page_of plan gpa) ≡ true) × IsSome (g.pages (page_of plan gpa)).mover
+moves_at plan g gpa h = (λ normal. grind (arith, common_steps), grind (arith, common_steps), grind (arith, common_steps), grind (arith, common_steps))
 
 meets_again : (plan : Plan) (g : GuestPart) (gpa : ℕ) (ask : Ask) (success : Answer) (through : ℕ → Answer) (out : List ℕ) (any : Bool) →
-    g.phase ≢ phase.Normal → has_place plan gpa ≡ true → IsSome (g.pages (page_of plan gpa)).mover → Accesses plan g gpa ask success through out any Again
-meets_again plan g gpa ask success through out any other place moves = grind (arith, common_steps)
+    g.phase ≢ phase.Normal → has_place plan gpa ≡ true → has_slot g.slots (page_of plan gpa) ≡ true → IsSome (g.pages (page_of plan gpa)).mover → Accesses plan g gpa ask success through out any Again
+meets_again plan g gpa ask success through out any other place slot moves = grind (arith, common_steps)
 
 -- what answers Hole can't be accessed
 hole_meets : (plan : Plan) (g : GuestPart) (gpa : ℕ) (ask : Ask) (success : Answer) (through : ℕ → Answer) (out : List ℕ) (free : ℕ) → IsDone success → ((n : ℕ) → IsDone (through n)) → g.phase ≢ phase.Normal →
     Accesses plan g gpa ask success through out (nat_lt 0 free) Hole → CannotBeAccessed plan g free gpa
-hole_meets plan g gpa ask success through out free done written normal h = by_place (gpa % 8 == 0) (nat_lt (page_of plan gpa) plan.pages) (g.pages (page_of plan gpa)).mover (g.pages (page_of plan gpa)).kind refl refl refl refl where
+hole_meets plan g gpa ask success through out free done written normal h = by_place (gpa % 8 == 0) (nat_lt (page_of plan gpa) plan.pages) (has_slot g.slots (page_of plan gpa)) (g.pages (page_of plan gpa)).mover (g.pages (page_of plan gpa)).kind refl refl refl refl refl where
   other : success ≢ Hole
   other = done.1
 
-  by_place : (b c : Bool) (m : Option Mover) (k : Kind) → (gpa % 8 == 0) ≡ b → nat_lt (page_of plan gpa) plan.pages ≡ c → (g.pages (page_of plan gpa)).mover ≡ m → (g.pages (page_of plan gpa)).kind ≡ k → CannotBeAccessed plan g free gpa
-  by_place false c m k s t u v = inl (λ zero_. grind (arith, nat_tests))
-  by_place true false m k s t u v = inr (inl (grind (arith, nat_tests)))
-  by_place true true m k s t u v = inr (inr (grind (arith, nat_tests, common_steps), subst (λ (x : Kind). IsOutOfReach x free) (sym v) (reach_by k v))) where
+  by_place : (b c d : Bool) (m : Option Mover) (k : Kind) → (gpa % 8 == 0) ≡ b → nat_lt (page_of plan gpa) plan.pages ≡ c → has_slot g.slots (page_of plan gpa) ≡ d → (g.pages (page_of plan gpa)).mover ≡ m → (g.pages (page_of plan gpa)).kind ≡ k → CannotBeAccessed plan g free gpa
+  by_place false c d m k s t slot u v = inl (λ zero_. grind (arith, nat_tests))
+  by_place true false d m k s t slot u v = inr (inl (grind (arith, nat_tests)))
+  by_place true true false m k s t slot u v = inr (inr (inl slot))
+  by_place true true true m k s t slot u v = inr (inr (inr (grind (arith, nat_tests, common_steps), subst (λ (x : Kind). IsOutOfReach x free) (sym v) (reach_by k v)))) where
     reach_by : (k : Kind) → (g.pages (page_of plan gpa)).kind ≡ k → IsOutOfReach k free
     reach_by kind.Invalid is = grind (arith, nat_tests, common_steps)
     reach_by kind.Secure is = grind (arith, nat_tests, common_steps)
@@ -94,7 +96,8 @@ meets_hole : (plan : Plan) (g : GuestPart) (gpa : ℕ) (ask : Ask) (success : An
     CannotBeAccessed plan g free gpa → Accesses plan g gpa ask success through out (nat_lt 0 free) Hole
 meets_hole plan g gpa ask success through out free normal (inl other) = grind (arith, nat_tests, common_steps)
 meets_hole plan g gpa ask success through out free normal (inr (inl above)) = grind (arith, nat_tests, common_steps)
-meets_hole plan g gpa ask success through out free normal (inr (inr (rest, none))) = grind (arith, nat_tests, common_steps)
+meets_hole plan g gpa ask success through out free normal (inr (inr (inl outside))) = grind (arith, nat_tests, common_steps)
+meets_hole plan g gpa ask success through out free normal (inr (inr (inr (rest, none)))) = grind (arith, nat_tests, common_steps)
 
 -- of a Normal guest it lies outside the partition entry
 normal_hole : (plan : Plan) (g : GuestPart) (gpa : ℕ) (ask : Ask) (success : Answer) (through : ℕ → Answer) (out : List ℕ) (any : Bool) → ((n : ℕ) → IsDone (through n)) → g.phase ≡ phase.Normal →
@@ -152,14 +155,14 @@ module _ (plan : Plan) (past : List Event) (e : Event) (extends : Extends plan p
         let met = moves_at plan g.part gpa
         (again_moves (ask_in cpu (ctx.Guest run) e.trace.cmd) (success_of g e.trace.cmd) (through_of plan (found_after plan past) e.trace.cmd) (shown_of run g e.trace.cmd) any (meets plan g.part gpa)
         (success_is_done g e.trace.cmd) (through_is_done plan (found_after plan past) e.trace.cmd) (sym (access_answer run gpa access) ∙ is)) in
-        record { run = run; gpa = gpa; access = access; phase = met.0; place = met.1; mover = met.2 }
+        record { run = run; gpa = gpa; access = access; phase = met.0; place = met.1; slot = met.2; mover = met.3 }
 
   again_to : AgainCause plan past e → e.trace.answer ≡ Again
   again_to (AtAccess meeting) =
       let g : Guest = guest_after plan meeting.run.lpid past in
       access_answer meeting.run meeting.gpa meeting.access
       ∙ meets_again plan g.part meeting.gpa (ask_in cpu (ctx.Guest meeting.run) e.trace.cmd) (success_of g e.trace.cmd) (through_of plan (found_after plan past) e.trace.cmd) (shown_of meeting.run g e.trace.cmd) any
-      meeting.phase meeting.place meeting.mover
+      meeting.phase meeting.place meeting.slot meeting.mover
 
   hole_from : (run : Run) (gpa : ℕ) → IsAccess plan past e run gpa → (part_after plan past run.lpid).phase ≢ phase.Normal → e.trace.answer ≡ Hole → CannotBeAccessed plan (part_after plan past run.lpid) (pool_after plan past) gpa
   hole_from run gpa access normal is =

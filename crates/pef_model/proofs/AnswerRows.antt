@@ -8,7 +8,7 @@ use Rattle.pef_model.specs.declared.state.Ctx.{Ctx}
 use Rattle.pef_model.specs.declared.state.Ctx.TheVariants as ctx
 use Rattle.pef_model.specs.declared.command.Code.{Code}
 use Rattle.pef_model.specs.declared.command.Cmd.{Cmd}
-use Rattle.pef_model.specs.declared.command.Cmd.TheVariants.{HLd, HSt, HSelect, HEnter, UPate, UPagein, UPageout, UReturn, Go}
+use Rattle.pef_model.specs.declared.command.Cmd.TheVariants.{HLd, HSt, HSelect, HEnter, UPate, URegslot, UUnregslot, UPagein, UPageout, UReturn, Go}
 use Rattle.pef_model.specs.Plan.{Plan}
 use Rattle.pef_model.specs.Event.{Event, Mark, mark_of}
 use Rattle.pef_model.specs.Target.{Ask, Alone, AtGuest, AtFrame, frame_of, has_real_place, target_in, is_command_in}
@@ -81,6 +81,14 @@ write_can : (plan : Plan) (past : List Event) (ask : Ask) (lpid dw0 dw1 : ℕ) (
     Can ctx.Hv (UPate lpid dw0 dw1) (deed_after plan past (record ask { before = ctx.Hv }) (UPate lpid dw0 dw1) (if b then AtGuest lpid else Alone))
 write_can plan past ask lpid dw0 dw1 b = grind (arith, common_steps)
 
+register_can : (plan : Plan) (past : List Event) (ask : Ask) (lpid start size flags id : ℕ) (b : Bool) →
+    Can ctx.Hv (URegslot lpid start size flags id) (deed_after plan past (record ask { before = ctx.Hv }) (URegslot lpid start size flags id) (if b then AtGuest lpid else Alone))
+register_can plan past ask lpid start size flags id b = grind (arith, common_steps)
+
+unregister_can : (plan : Plan) (past : List Event) (ask : Ask) (lpid id : ℕ) (b : Bool) →
+    Can ctx.Hv (UUnregslot lpid id) (deed_after plan past (record ask { before = ctx.Hv }) (UUnregslot lpid id) (if b then AtGuest lpid else Alone))
+unregister_can plan past ask lpid id b = grind (arith, common_steps)
+
 inward_can : (plan : Plan) (past : List Event) (ask : Ask) (move : Move) (b : Bool) → move.copied ≡ b →
     Can (ctx.Uv (Inward move)) Go (deed_after plan past (record ask { before = ctx.Uv (Inward move) }) Go (if b then AtGuest move.lpid else AtFrame move.frame))
 inward_can plan past ask move b copied = grind (arith, common_steps)
@@ -100,6 +108,8 @@ deed_can plan past ctx.Hv ask (HSt ra value) = store_can plan past ask ra value 
 deed_can plan past ctx.Hv ask (HSelect lpid vid) = select_can plan lpid vid
 deed_can plan past ctx.Hv ask (HEnter lpid vid value) = enter_can plan past ask lpid vid value (nat_le 1 lpid && nat_le lpid plan.guests)
 deed_can plan past ctx.Hv ask (UPate lpid dw0 dw1) = write_can plan past ask lpid dw0 dw1 (nat_le 1 lpid && nat_le lpid plan.guests)
+deed_can plan past ctx.Hv ask (URegslot lpid start size flags id) = register_can plan past ask lpid start size flags id (nat_le 1 lpid && nat_le lpid plan.guests)
+deed_can plan past ctx.Hv ask (UUnregslot lpid id) = unregister_can plan past ask lpid id (nat_le 1 lpid && nat_le lpid plan.guests)
 deed_can plan past ctx.Hv ask (UPagein lpid src gpa flags order) = page_in_can plan past ask lpid src gpa flags order (nat_le 1 lpid && nat_le lpid plan.guests)
 deed_can plan past ctx.Hv ask (UPageout lpid dest gpa flags order) = page_out_can plan past ask lpid dest gpa flags order (nat_le 1 lpid && nat_le lpid plan.guests)
 deed_can plan past ctx.Hv ask (UReturn r0 r2 outs) = return_can (guest_after plan ask.lpid past).part (record ask { before = ctx.Hv }) r0 r2 outs

@@ -16,7 +16,7 @@ use Rattle.pef_model.specs.Plan.{Plan}
 use Rattle.pef_model.specs.Event.{Event}
 use Rattle.pef_model.specs.Target.{Ask, AtGuest, target_in, is_guest, frame_of}
 use Rattle.pef_model.specs.Cpu.{CpuPart}
-use Rattle.pef_model.specs.GuestPart.{Page, Meeting, NoPlace, Moves, Private, Unbacked, meets, meets_in, meets_page, meets_kind, page_of, has_place, Normal}
+use Rattle.pef_model.specs.GuestPart.{Page, Meeting, NoPlace, Moves, Private, Unbacked, meets, meets_in, meets_page, meets_kind, page_of, Normal, is_in_slot}
 use Rattle.pef_model.specs.Guest.{Guest, stored_in}
 use Rattle.pef_model.specs.Deed.{Deed, deed_access, deed_running, deed_gone}
 use Rattle.pef_model.specs.History.{cpu_after, guest_after, pool_after, deed_after, Extends, found_after}
@@ -82,7 +82,7 @@ module _ (plan : Plan) (g : Guest) (run : Run) (found : ℕ → ℕ → ℕ) (by
 
       by_phase : (phase : Phase) → Fails (meets_in phase plan g.part at)
       by_phase phase.Normal = by_entry (at % 8 == 0) (nat_lt (page_of plan at) g.part.entry.length_)
-      by_phase phase = by_place (has_place plan at)
+      by_phase phase = by_place (is_in_slot plan g.part at)
 
     -- so no command of the guest stores there
     running_away : (any : Bool) (ask : Ask) (cmd : Cmd) → stores cmd (deed_running plan run g found any ask cmd) ≡ None

@@ -26,7 +26,7 @@ use Rattle.pef_model.proofs.Folds.{same_test, test_same, counts}
 use Rattle.pef_model.proofs.Puts.{put_in, here_or_elsewhere, put_in-here, put_in-elsewhere, IsElsewhere}
 use Rattle.pef_model.proofs.Outcomes.{Outcome, outcome}
 use Rattle.pef_model.proofs.Steps.{ctx_after}
-use Rattle.pef_model.proofs.Changes.{Change, Quiet, Begins, Copies, Ends, Drops, Comes, Reads, Accepts, Refuses, Takes, Parked, Gone, Backs, Writes, Selected, LeavesCpu}
+use Rattle.pef_model.proofs.Changes.{Change, Quiet, Begins, Copies, Ends, Drops, Comes, Reads, Accepts, Refuses, Takes, Parked, Gone, Backs, Writes, Slots, Selected, LeavesCpu}
 use Rattle.pef_model.proofs.ChangeOf.{change}
 use Rattle.pef_model.proofs.Fields.{field_after, same_field, kept_field, entry_field}
 use Rattle.pef_model.proofs.Moving.{IsMoving}
@@ -215,6 +215,8 @@ module _ (plan : Plan) (past : List Event) (e : Event) (extends : Extends plan p
       (λ elsewhere. none)
   page_step all (Writes x) =
       page_kept (none_begins _ _ _ x.cpu_is (λ move hypervisor call. cc)) (entry_field plan past e (λ (g : GuestPart). g.pages) x.lpid x.base x.length_ x.parts refl refl)
+  page_step all (Slots x) =
+      page_kept (none_begins _ _ _ x.cpu_is (λ move hypervisor call. cc)) (same_field plan past e (λ (g : GuestPart). g.pages) _ _ x.parts refl)
   page_step all (Selected x) =
       page_kept (none_begins _ _ _ x.cpu_is (λ move hypervisor call. cc)) (kept_field plan past e (λ (g : GuestPart). g.pages) x.parts)
 

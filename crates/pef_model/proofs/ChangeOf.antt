@@ -4,7 +4,7 @@ use Rattle.pef_model.specs.declared.state.Work.TheVariants.{Inward, Outward}
 use Rattle.pef_model.specs.declared.state.Ctx.{Ctx}
 use Rattle.pef_model.specs.declared.state.Ctx.TheVariants as ctx
 use Rattle.pef_model.specs.declared.command.Cmd.{Cmd}
-use Rattle.pef_model.specs.declared.command.Cmd.TheVariants.{HLd, HSt, HSelect, HEnter, UPate, UPagein, UPageout, UReturn, GLi, GLd, GSt, GIrq, Go}
+use Rattle.pef_model.specs.declared.command.Cmd.TheVariants.{HLd, HSt, HSelect, HEnter, UPate, URegslot, UUnregslot, UPagein, UPageout, UReturn, GLi, GLd, GSt, GIrq, Go}
 use Rattle.pef_model.specs.Plan.{Plan}
 use Rattle.pef_model.specs.Event.{Event, Mark, mark_of}
 use Rattle.pef_model.specs.Target.{has_real_place}
@@ -13,7 +13,7 @@ use Rattle.pef_model.specs.History.{cpu_after, next_entry_by, Extends}
 use Rattle.pef_model.proofs.Changes.{Change, asked, refused}
 use Rattle.pef_model.proofs.HypervisorChanges.{load, store, return, page_out, named, go}
 use Rattle.pef_model.proofs.PageInChanges.{page_in, go_in}
-use Rattle.pef_model.proofs.EntryChanges.{select, enter, write}
+use Rattle.pef_model.proofs.EntryChanges.{select, enter, write, register, unregister}
 use Rattle.pef_model.proofs.GuestChanges.{at_own}
 
 -- by the context before the step, and the command
@@ -26,6 +26,10 @@ change_in plan past cpu mark ctx.Hv h (HEnter lpid vid value) = named plan past 
     (record { ctx_is = refl; hand_is = refl; lpid_is = refl }) (enter plan past cpu mark h lpid vid value)
 change_in plan past cpu mark ctx.Hv h (UPate lpid dw0 dw1) = named plan past cpu mark h (UPate lpid dw0 dw1) lpid (nat_le 1 lpid && nat_le lpid plan.guests) refl
     (record { ctx_is = refl; hand_is = refl; lpid_is = refl }) (write plan past cpu mark h lpid dw0 dw1)
+change_in plan past cpu mark ctx.Hv h (URegslot lpid start size flags id) = named plan past cpu mark h (URegslot lpid start size flags id) lpid (nat_le 1 lpid && nat_le lpid plan.guests) refl
+    (record { ctx_is = refl; hand_is = refl; lpid_is = refl }) (register plan past cpu mark h lpid start size flags id)
+change_in plan past cpu mark ctx.Hv h (UUnregslot lpid id) = named plan past cpu mark h (UUnregslot lpid id) lpid (nat_le 1 lpid && nat_le lpid plan.guests) refl
+    (record { ctx_is = refl; hand_is = refl; lpid_is = refl }) (unregister plan past cpu mark h lpid id)
 change_in plan past cpu mark ctx.Hv h (UPagein lpid src gpa flags order) = named plan past cpu mark h (UPagein lpid src gpa flags order) lpid (nat_le 1 lpid && nat_le lpid plan.guests) refl
     (record { ctx_is = refl; hand_is = refl; lpid_is = refl }) (page_in plan past cpu mark h lpid src gpa flags order)
 change_in plan past cpu mark ctx.Hv h (UPageout lpid dest gpa flags order) = named plan past cpu mark h (UPageout lpid dest gpa flags order) lpid (nat_le 1 lpid && nat_le lpid plan.guests) refl
@@ -45,6 +49,8 @@ change_in plan past cpu mark (ctx.Guest run) h (HSt ra value) = refused plan pas
 change_in plan past cpu mark (ctx.Guest run) h (HSelect lpid vid) = refused plan past cpu mark (ctx.Guest run) h (HSelect lpid vid) (record { ctx_is = refl; hand_is = refl; lpid_is = refl }) refl
 change_in plan past cpu mark (ctx.Guest run) h (HEnter lpid vid value) = refused plan past cpu mark (ctx.Guest run) h (HEnter lpid vid value) (record { ctx_is = refl; hand_is = refl; lpid_is = refl }) refl
 change_in plan past cpu mark (ctx.Guest run) h (UPate lpid dw0 dw1) = at_own plan past cpu mark run h (UPate lpid dw0 dw1) refl
+change_in plan past cpu mark (ctx.Guest run) h (URegslot lpid start size flags id) = at_own plan past cpu mark run h (URegslot lpid start size flags id) refl
+change_in plan past cpu mark (ctx.Guest run) h (UUnregslot lpid id) = at_own plan past cpu mark run h (UUnregslot lpid id) refl
 change_in plan past cpu mark (ctx.Guest run) h (UPagein lpid src gpa flags order) = at_own plan past cpu mark run h (UPagein lpid src gpa flags order) refl
 change_in plan past cpu mark (ctx.Guest run) h (UPageout lpid dest gpa flags order) = at_own plan past cpu mark run h (UPageout lpid dest gpa flags order) refl
 change_in plan past cpu mark (ctx.Guest run) h (UReturn r0 r2 outs) = at_own plan past cpu mark run h (UReturn r0 r2 outs) refl

@@ -7,6 +7,7 @@ use Rattle.pef_model.specs.declared.state.Phase.TheVariants as phase
 use Rattle.pef_model.specs.declared.state.VState.TheVariants as vstate
 use Rattle.pef_model.specs.declared.state.Run.{Run}
 use Rattle.pef_model.specs.declared.state.Move.{Move}
+use Rattle.pef_model.specs.declared.state.Slot.{Slot}
 use Rattle.pef_model.specs.declared.state.Work.{Work}
 use Rattle.pef_model.specs.declared.state.Work.TheVariants.{Inward, Outward}
 use Rattle.pef_model.specs.declared.state.Ctx.{Ctx}
@@ -154,6 +155,14 @@ pub record WritesEntry (plan : Plan) (past : List Event) (cpu : CpuPart) (e : Ev
   pub parts : PutsPart plan past e lpid (with_entry (part_after plan past lpid) base length_)
   pub pool : pool_after plan (e ∷ past) ≡ pool_after plan past
 
+-- the memory slots of a guest change, and nothing else of it
+pub record ChangesSlots (plan : Plan) (past : List Event) (cpu : CpuPart) (e : Event) : Type 0 where
+  pub lpid : ℕ
+  pub slots : List Slot
+  pub cpu_is : LeavesCpu cpu e cpu.ctx cpu.hand cpu.lpid
+  pub parts : PutsPart plan past e lpid (record (part_after plan past lpid) { slots = slots })
+  pub pool : pool_after plan (e ∷ past) ≡ pool_after plan past
+
 -- a vCPU is selected
 pub record Selects (plan : Plan) (past : List Event) (cpu : CpuPart) (e : Event) : Type 0 where
   pub lpid : ℕ
@@ -213,6 +222,7 @@ pub data Change (plan : Plan) (past : List Event) (cpu : CpuPart) (e : Event) : 
   Gone : FindsGone plan past cpu e → Change plan past cpu e
   Backs : BacksPage plan past cpu e → Change plan past cpu e
   Writes : WritesEntry plan past cpu e → Change plan past cpu e
+  Slots : ChangesSlots plan past cpu e → Change plan past cpu e
   Selected : Selects plan past cpu e → Change plan past cpu e
 
 -- what holds of a guest in normal memory with this entry, and of one that ends, holds where the entry is set

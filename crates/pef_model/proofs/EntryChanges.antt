@@ -1,4 +1,4 @@
--- Which change a step makes that selects a vCPU, enters one, or sets a partition entry.
+-- Which change a step makes that selects a vCPU, enters one, sets a partition entry, or changes memory slots.
 use Rattle.std.proofs.Common.{◌≡◌, ℕ, nat_lt, nat_le, List, Bool, true, false, not, refl, ap, sym, ◌∙◌, ◌&&◌, ◌||◌, if◌then◌else◌, Option, Some, None, inr}
 use Rattle.std.proofs.lemmas.Bool.{and_parts, not-false, or_right}
 use Rattle.pef_model.specs.declared.state.VState.{VState}
@@ -6,19 +6,21 @@ use Rattle.pef_model.specs.declared.state.VState.TheVariants as vstate
 use Rattle.pef_model.specs.declared.state.Ctx.TheVariants as ctx
 use Rattle.pef_model.specs.declared.command.Code.{Code}
 use Rattle.pef_model.specs.declared.command.Code.TheVariants.{USuccess, UParameter, UP2, UP3, UPermission}
-use Rattle.pef_model.specs.declared.command.Cmd.TheVariants.{HSelect, HEnter, UPate}
+use Rattle.pef_model.specs.declared.command.Cmd.TheVariants.{HSelect, HEnter, UPate, URegslot, UUnregslot}
 use Rattle.pef_model.specs.declared.entry.Answer.{Answer}
 use Rattle.pef_model.specs.declared.entry.Answer.TheVariants as answer
 use Rattle.pef_model.specs.Plan.{Plan}
 use Rattle.pef_model.specs.Event.{Event, Mark}
 use Rattle.pef_model.specs.Target.{Ask, AtGuest, target_in}
 use Rattle.pef_model.specs.Cpu.{CpuPart}
-use Rattle.pef_model.specs.GuestPart.{GuestPart, with_running_vcpu, with_entry}
+use Rattle.pef_model.specs.Slots.{registered_by, unregistered_by}
+use Rattle.pef_model.specs.GuestPart.{GuestPart, with_running_vcpu, with_entry, slot_asked}
 use Rattle.pef_model.specs.PageOut.{has_frame}
 use Rattle.pef_model.specs.Entry.{has_frames, may_write_in, write_code, may_enter_in, can_be_entered, enter_code}
 use Rattle.pef_model.specs.Deed.{answering, returning, may_return_in}
 use Rattle.pef_model.specs.History.{deed_after, part_after}
-use Rattle.pef_model.proofs.Changes.{Change, Takes, Writes, Selected, asked, entry, at_none, at_nothing, at_one, at_guest}
+use Rattle.pef_model.specs.SlotCalls.{register_code, unregister_code}
+use Rattle.pef_model.proofs.Changes.{Change, Takes, Writes, Slots, Selected, asked, entry, at_none, at_nothing, at_one, at_guest}
 use Rattle.pef_model.proofs.HypervisorChanges.{passes}
 use Rattle.pef_model.proofs.PageInChanges.{numbered}
 
@@ -110,3 +112,28 @@ module _ (plan : Plan) (past : List Event) (cpu : CpuPart) (mark : Mark) (h : cp
       pool = refl;
     })
     by_code code t = at_one plan past cpu (event code) lpid (record { ctx_is = sym h; hand_is = refl; lpid_is = refl }) target refl refl
+
+  -- the calls for memory slots change these alone, whatever their code
+  pub register : (lpid start size flags id : ℕ) → target_in plan ctx.Hv cpu.lpid (URegslot lpid start size flags id) ≡ AtGuest lpid →
+      Change plan past cpu (entry cpu ctx.Hv mark (URegslot lpid start size flags id) (deed_after plan past (asked cpu ctx.Hv (URegslot lpid start size flags id)) (URegslot lpid start size flags id) (AtGuest lpid)))
+  register lpid start size flags id target =
+      let g : GuestPart = part_after plan past lpid in
+      Slots (record {
+        lpid = lpid;
+        slots = registered_by (register_code plan g start size flags id) g.slots (slot_asked plan start size id);
+        cpu_is = record { ctx_is = sym h; hand_is = refl; lpid_is = refl };
+        parts = at_guest plan past (entry cpu ctx.Hv mark (URegslot lpid start size flags id) (deed_after plan past (asked cpu ctx.Hv (URegslot lpid start size flags id)) (URegslot lpid start size flags id) (AtGuest lpid))) lpid _ target refl;
+        pool = refl;
+      })
+
+  pub unregister : (lpid id : ℕ) → target_in plan ctx.Hv cpu.lpid (UUnregslot lpid id) ≡ AtGuest lpid →
+      Change plan past cpu (entry cpu ctx.Hv mark (UUnregslot lpid id) (deed_after plan past (asked cpu ctx.Hv (UUnregslot lpid id)) (UUnregslot lpid id) (AtGuest lpid)))
+  unregister lpid id target =
+      let g : GuestPart = part_after plan past lpid in
+      Slots (record {
+        lpid = lpid;
+        slots = unregistered_by (unregister_code g id) g.slots id;
+        cpu_is = record { ctx_is = sym h; hand_is = refl; lpid_is = refl };
+        parts = at_guest plan past (entry cpu ctx.Hv mark (UUnregslot lpid id) (deed_after plan past (asked cpu ctx.Hv (UUnregslot lpid id)) (UUnregslot lpid id) (AtGuest lpid))) lpid _ target refl;
+        pool = refl;
+      })

@@ -13,7 +13,7 @@ use Rattle.pef_model.specs.History.{cpu_after, pool_after, IsLegal}
 use Rattle.pef_model.specs.CountLaw.{frames_held, FramesAreCounted}
 use Rattle.pef_model.proofs.Puts.{put-here, put-other, put_in, here_or_elsewhere, put_in-elsewhere}
 use Rattle.pef_model.proofs.Orders.{invalid_not_secure, out_not_secure}
-use Rattle.pef_model.proofs.Changes.{Change, Quiet, Begins, Copies, Ends, Drops, Comes, Reads, Accepts, Refuses, Takes, Parked, Gone, Backs, Writes, Selected}
+use Rattle.pef_model.proofs.Changes.{Change, Quiet, Begins, Copies, Ends, Drops, Comes, Reads, Accepts, Refuses, Takes, Parked, Gone, Backs, Writes, Slots, Selected}
 use Rattle.pef_model.proofs.ChangeOf.{change}
 use Rattle.pef_model.proofs.Fields.{field_after, same_field, kept_field, entry_field}
 use Rattle.pef_model.proofs.Paging.{pages, AllMoved, all_moved}
@@ -171,6 +171,7 @@ module _ (plan : Plan) (past : List Event) (e : Event) where
       let cpu = ranged e.trace.cpu in
       Puts x.run.lpid x.gfn (secured old) (cpu.runs x.run x.before) x.placed (field_after plan past e (λ (g : GuestPart). g.pages) _ _ x.parts) (omega arith)
   frame_step all ranged placed (Writes x) = Stays (entry_field plan past e (λ (g : GuestPart). g.pages) x.lpid x.base x.length_ x.parts refl refl) x.pool
+  frame_step all ranged placed (Slots x) = Stays (same_field plan past e (λ (g : GuestPart). g.pages) _ _ x.parts refl) x.pool
   frame_step all ranged placed (Selected x) = Stays (kept_field plan past e (λ (g : GuestPart). g.pages) x.parts) x.pool
 
 -- the frames are counted, and each page that has one is one of the plan's

@@ -51,6 +51,7 @@ listed_kept g h = record {
         ap is_secure (put-other g.pages at (secured (g.pages at)) gfn other) ∙ h gfn (omega arith)
   ];
   written = λ dw0 dw1. entry_gives IsListed g dw0 dw1 h h;
+  slots = λ slots. h;
 }
 
 -- so they are after each history
@@ -85,6 +86,7 @@ grows_kept g h = record {
       (filter_all (λ n. is_secure (put g.pages at (secured (g.pages at)) n)) g.order (λ gfn some. secure_put g at (secured (g.pages at)) (λ secure. refl) gfn (h gfn some)))
       (take-append_seam g.order (at ∷ []));
   written = λ dw0 dw1. entry_gives (Grows g) g dw0 dw1 (all_still g refl (λ gfn secure. secure)) (all_still g refl (λ gfn secure. secure));
+  slots = λ slots. all_still (record g { slots = slots }) refl (λ gfn secure. secure);
 } where
   all_still : (new : GuestPart) → new.order ≡ g.order → ((gfn : ℕ) → is_secure (g.pages gfn) ≡ true → is_secure (new.pages gfn) ≡ true) → Grows g new
   all_still new same still = grows_by g new g.order (filter_all (λ gfn. is_secure (new.pages gfn)) g.order (λ gfn some. still gfn (h gfn some)))

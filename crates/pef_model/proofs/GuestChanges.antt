@@ -11,7 +11,7 @@ use Rattle.pef_model.specs.declared.state.Mover.{Mover}
 use Rattle.pef_model.specs.declared.state.Run.{Run}
 use Rattle.pef_model.specs.declared.state.Ctx.TheVariants as ctx
 use Rattle.pef_model.specs.declared.command.Cmd.{Cmd}
-use Rattle.pef_model.specs.declared.command.Cmd.TheVariants.{HLd, HSt, HSelect, HEnter, UPate, UPagein, UPageout, UReturn, GLi, GLd, GSt, GIrq, Go}
+use Rattle.pef_model.specs.declared.command.Cmd.TheVariants.{HLd, HSt, HSelect, HEnter, UPate, URegslot, UUnregslot, UPagein, UPageout, UReturn, GLi, GLd, GSt, GIrq, Go}
 use Rattle.pef_model.specs.declared.entry.Exit.{Exit}
 use Rattle.pef_model.specs.declared.entry.Exit.TheVariants as exit
 use Rattle.pef_model.specs.declared.entry.Answer.{Answer}
@@ -21,7 +21,7 @@ use Rattle.pef_model.specs.Plan.{Plan}
 use Rattle.pef_model.specs.Event.{Event, Mark}
 use Rattle.pef_model.specs.Target.{Ask, AtGuest, target_in, frame_of}
 use Rattle.pef_model.specs.Cpu.{CpuPart, cpu_of_guest}
-use Rattle.pef_model.specs.GuestPart.{Page, GuestPart, Meeting, NoPlace, Moves, Private, Unbacked, meets, meets_in, meets_page, meets_kind, part_in, part_of_access, page_of, has_place, is_invalid, with_secure_page, Normal}
+use Rattle.pef_model.specs.GuestPart.{Page, GuestPart, Meeting, NoPlace, Moves, Private, Unbacked, meets, meets_in, meets_page, meets_kind, part_in, part_of_access, page_of, has_place, is_invalid, with_secure_page, Normal, is_in_slot}
 use Rattle.pef_model.specs.Guest.{Guest}
 use Rattle.pef_model.specs.Seal.{doublewords}
 use Rattle.pef_model.proofs.Folds.{test_same}
@@ -51,11 +51,11 @@ unbacked_page page = by_mover page.mover refl where
   by_mover None rests h = (unbacked_kind page.kind h, rests)
   by_mover (Some mover) rests h = cc
 
-unbacked_place : (plan : Plan) (g : GuestPart) (gpa : ℕ) → is_backed_in g.phase ≡ true → (b : Bool) → has_place plan gpa ≡ b → (if b then meets_page (g.pages (page_of plan gpa)) else NoPlace) ≡ Unbacked →
+unbacked_place : (plan : Plan) (g : GuestPart) (gpa : ℕ) → is_backed_in g.phase ≡ true → (b : Bool) → is_in_slot plan g gpa ≡ b → (if b then meets_page (g.pages (page_of plan gpa)) else NoPlace) ≡ Unbacked →
     IsUnbacked plan g gpa
 unbacked_place plan g gpa backed true t h =
     let found = unbacked_page (g.pages (page_of plan gpa)) h in
-    record { placed = t; backed = backed; invalid = ap (λ (k : Kind). is_invalid (record (g.pages (page_of plan gpa)) { kind = k })) found.0; at_rest = found.1 }
+    record { placed = (and_parts (has_place plan gpa) _ t).0; backed = backed; invalid = ap (λ (k : Kind). is_invalid (record (g.pages (page_of plan gpa)) { kind = k })) found.0; at_rest = found.1 }
 unbacked_place plan g gpa backed false t h = cc
 
 -- an access meets no other page so
@@ -68,7 +68,7 @@ unbacked plan g gpa h = by_phase g.phase refl h where
 
   by_phase : (p : Phase) → g.phase ≡ p → meets_in p plan g gpa ≡ Unbacked → IsUnbacked plan g gpa
   by_phase phase.Normal is k = by_entry (gpa % 8 == 0) (nat_lt (page_of plan gpa) g.entry.length_) k
-  by_phase p is k = unbacked_place plan g gpa (ap is_backed_in is) (has_place plan gpa) refl k
+  by_phase p is k = unbacked_place plan g gpa (ap is_backed_in is) (is_in_slot plan g gpa) refl k
 
 module _ (plan : Plan) (past : List Event) (cpu : CpuPart) (mark : Mark) (run : Run) (h : cpu.ctx ≡ ctx.Guest run) where
   abbrev g : Guest
@@ -139,6 +139,8 @@ module _ (plan : Plan) (past : List Event) (cpu : CpuPart) (mark : Mark) (run : 
   running (HSelect lpid vid) same target = cc
   running (HEnter lpid vid value) same target = cc
   running (UPate lpid dw0 dw1) same target = at_one plan past cpu _ run.lpid (record { ctx_is = sym h; hand_is = refl; lpid_is = refl }) target refl refl
+  running (URegslot lpid start size flags id) same target = at_one plan past cpu _ run.lpid (record { ctx_is = sym h; hand_is = refl; lpid_is = refl }) target refl refl
+  running (UUnregslot lpid id) same target = at_one plan past cpu _ run.lpid (record { ctx_is = sym h; hand_is = refl; lpid_is = refl }) target refl refl
   running (UPagein lpid src gpa flags order) same target = at_one plan past cpu _ run.lpid (record { ctx_is = sym h; hand_is = refl; lpid_is = refl }) target refl refl
   running (UPageout lpid dest gpa flags order) same target = at_one plan past cpu _ run.lpid (record { ctx_is = sym h; hand_is = refl; lpid_is = refl }) target refl refl
   running (UReturn r0 r2 outs) same target = at_one plan past cpu _ run.lpid (record { ctx_is = sym h; hand_is = refl; lpid_is = refl }) target refl refl

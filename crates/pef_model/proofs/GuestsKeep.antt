@@ -25,7 +25,7 @@ words_stay plan [] lpid = (refl, refl)
 words_stay plan (e ∷ past) lpid =
     let before = words_stay plan past lpid in (
       holds_after (λ (new : GuestPart). new.words ≡ plan.words lpid) plan past e lpid
-          (life_kept (λ (new : GuestPart). new.words ≡ plan.words lpid) (part_after plan past lpid) (λ pages vcpus order. before.0)
+          (life_kept (λ (new : GuestPart). new.words ≡ plan.words lpid) (part_after plan past lpid) (λ pages vcpus order slots. before.0)
           (λ dw0 dw1. entry_gives (λ (new : GuestPart). new.words ≡ plan.words lpid) (part_after plan past lpid) dw0 dw1 before.0 before.0)),
       by_test (touches_guest plan lpid e) before.1,
     ) where

@@ -88,4 +88,7 @@ mod AnswerRows
 mod PartedAddresses
 mod BeginAnswers
 mod EntryAnswers
+mod SlotAnswers
+mod SlotChanges
+pub mod SlotsApart
 mod ExitAnswers

@@ -13,7 +13,7 @@ use Rattle.pef_model.specs.History.{cpu_after, IsLegal, part_after}
 use Rattle.pef_model.proofs.Folds.{same_test}
 use Rattle.pef_model.proofs.Times.{times, times-append, times_passed, times_stopped}
 use Rattle.pef_model.proofs.Puts.{put-here, put-other}
-use Rattle.pef_model.proofs.Changes.{Change, Quiet, Begins, Copies, Ends, Drops, Comes, Reads, Accepts, Refuses, Takes, Parked, Gone, Backs, Writes, Selected, KeepsParts, PutsPart, entry_gives}
+use Rattle.pef_model.proofs.Changes.{Change, Quiet, Begins, Copies, Ends, Drops, Comes, Reads, Accepts, Refuses, Takes, Parked, Gone, Backs, Writes, Slots, Selected, KeepsParts, PutsPart, entry_gives}
 use Rattle.pef_model.proofs.ChangeOf.{change}
 use Rattle.pef_model.proofs.Fields.{holds_same, holds_one}
 use Rattle.pef_model.proofs.Paging.{pages, AllMoved, all_moved}
@@ -104,6 +104,7 @@ counts_by plan past e all h (Backs x) =
     counts_one plan past e _ _ x.parts (counts_behind (part_after plan past x.run.lpid) x.gfn (invalid_not_secure (pages plan past x.run.lpid x.gfn) x.invalid) (h x.run.lpid)) h
 counts_by plan past e all h (Writes x) =
     counts_one plan past e _ _ x.parts (entry_gives (λ (g : GuestPart). (gfn : ℕ) → CountsPage gfn g) (part_after plan past x.lpid) x.base x.length_ (h x.lpid) (h x.lpid)) h
+counts_by plan past e all h (Slots x) = counts_one plan past e _ _ x.parts (h x.lpid) h
 counts_by plan past e all h (Selected x) = counts_same plan past e x.parts h
 
 -- so an order has each Secure page once after a legal history

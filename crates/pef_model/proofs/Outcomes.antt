@@ -11,7 +11,7 @@ use Rattle.pef_model.specs.declared.state.Ctx.TheVariants as ctx
 use Rattle.pef_model.specs.declared.command.Code.{Code}
 use Rattle.pef_model.specs.declared.command.Code.TheVariants.{USuccess, UParameter, UInvalid}
 use Rattle.pef_model.specs.declared.command.Cmd.{Cmd}
-use Rattle.pef_model.specs.declared.command.Cmd.TheVariants.{HLd, HSt, HSelect, HEnter, UPate, UPagein, UPageout, UReturn, GLi, GLd, GSt, GIrq, Go}
+use Rattle.pef_model.specs.declared.command.Cmd.TheVariants.{HLd, HSt, HSelect, HEnter, UPate, URegslot, UUnregslot, UPagein, UPageout, UReturn, GLi, GLd, GSt, GIrq, Go}
 use Rattle.pef_model.specs.declared.entry.Answer.{Answer}
 use Rattle.pef_model.specs.declared.entry.Answer.TheVariants.{Done, Val, Ret, Step, Enter, Exit, Again, Gone, Hole, Context}
 use Rattle.pef_model.specs.Memory.{offset_of}
@@ -53,6 +53,10 @@ Outcome ctx.Hv (HEnter lpid vid value) (Ret code) after shown = (after ≡ ctx.H
 Outcome ctx.Hv (HEnter lpid vid value) a after shown = ⊥
 Outcome ctx.Hv (UPate lpid dw0 dw1) (Ret code) after shown = (after ≡ ctx.Hv) × (shown ≡ [])
 Outcome ctx.Hv (UPate lpid dw0 dw1) a after shown = ⊥
+Outcome ctx.Hv (URegslot lpid start size flags id) (Ret code) after shown = (after ≡ ctx.Hv) × (shown ≡ [])
+Outcome ctx.Hv (URegslot lpid start size flags id) a after shown = ⊥
+Outcome ctx.Hv (UUnregslot lpid id) (Ret code) after shown = (after ≡ ctx.Hv) × (shown ≡ [])
+Outcome ctx.Hv (UUnregslot lpid id) a after shown = ⊥
 Outcome ctx.Hv (UPagein lpid src gpa flags order) Step after shown = BeginsIn lpid after × (shown ≡ [])
 Outcome ctx.Hv (UPagein lpid src gpa flags order) (Ret code) after shown = (after ≡ ctx.Hv) × (shown ≡ [])
 Outcome ctx.Hv (UPagein lpid src gpa flags order) a after shown = ⊥
@@ -81,6 +85,8 @@ Outcome (ctx.Guest run) Go Context after shown = after ≡ ctx.Guest run
 Outcome (ctx.Guest run) Go a after shown = ⊥
 Outcome (ctx.Guest run) cmd Gone after shown = after ≡ ctx.Hv
 Outcome (ctx.Guest run) (UPate lpid dw0 dw1) (Ret code) after shown = after ≡ ctx.Guest run
+Outcome (ctx.Guest run) (URegslot lpid start size flags id) (Ret code) after shown = after ≡ ctx.Guest run
+Outcome (ctx.Guest run) (UUnregslot lpid id) (Ret code) after shown = after ≡ ctx.Guest run
 Outcome (ctx.Guest run) (UPagein lpid src gpa flags order) (Ret code) after shown = after ≡ ctx.Guest run
 Outcome (ctx.Guest run) (UPageout lpid dest gpa flags order) (Ret code) after shown = after ≡ ctx.Guest run
 Outcome (ctx.Guest run) (UReturn r0 r2 outs) (Ret code) after shown = after ≡ ctx.Guest run
@@ -240,11 +246,21 @@ enter_comes plan past asked lpid vid value true = by_code (enter_code plan (gues
   by_code None = refl
   by_code (Some code) = (refl, refl)
 
--- a partition entry that is written likewise
+-- a partition entry that is written likewise, and calls for memory slots
 write_comes : (plan : Plan) (past : List Event) (asked : Ask) (lpid dw0 dw1 : ℕ) (b : Bool) →
     Comes ctx.Hv (UPate lpid dw0 dw1) (deed_after plan past (record asked { before = ctx.Hv }) (UPate lpid dw0 dw1) (if b then AtGuest lpid else Alone))
 write_comes plan past asked lpid dw0 dw1 false = (refl, refl)
 write_comes plan past asked lpid dw0 dw1 true = (refl, refl)
+
+register_comes : (plan : Plan) (past : List Event) (asked : Ask) (lpid start size flags id : ℕ) (b : Bool) →
+    Comes ctx.Hv (URegslot lpid start size flags id) (deed_after plan past (record asked { before = ctx.Hv }) (URegslot lpid start size flags id) (if b then AtGuest lpid else Alone))
+register_comes plan past asked lpid start size flags id false = (refl, refl)
+register_comes plan past asked lpid start size flags id true = (refl, refl)
+
+unregister_comes : (plan : Plan) (past : List Event) (asked : Ask) (lpid id : ℕ) (b : Bool) →
+    Comes ctx.Hv (UUnregslot lpid id) (deed_after plan past (record asked { before = ctx.Hv }) (UUnregslot lpid id) (if b then AtGuest lpid else Alone))
+unregister_comes plan past asked lpid id false = (refl, refl)
+unregister_comes plan past asked lpid id true = (refl, refl)
 
 -- a step's deed has such an outcome
 pub deed_comes : (plan : Plan) (past : List Event) (c : Ctx) (asked : Ask) (cmd : Cmd) →
@@ -254,6 +270,8 @@ deed_comes plan past ctx.Hv asked (HSt ra value) = normal_store_comes plan past 
 deed_comes plan past ctx.Hv asked (HSelect lpid vid) = select_comes plan asked lpid vid
 deed_comes plan past ctx.Hv asked (HEnter lpid vid value) = enter_comes plan past asked lpid vid value (nat_le 1 lpid && nat_le lpid plan.guests)
 deed_comes plan past ctx.Hv asked (UPate lpid dw0 dw1) = write_comes plan past asked lpid dw0 dw1 (nat_le 1 lpid && nat_le lpid plan.guests)
+deed_comes plan past ctx.Hv asked (URegslot lpid start size flags id) = register_comes plan past asked lpid start size flags id (nat_le 1 lpid && nat_le lpid plan.guests)
+deed_comes plan past ctx.Hv asked (UUnregslot lpid id) = unregister_comes plan past asked lpid id (nat_le 1 lpid && nat_le lpid plan.guests)
 deed_comes plan past ctx.Hv asked (UPagein lpid src gpa flags order) = page_in_comes plan past asked lpid src gpa flags order (nat_le 1 lpid && nat_le lpid plan.guests)
 deed_comes plan past ctx.Hv asked (UPageout lpid dest gpa flags order) = page_out_comes plan past asked lpid dest gpa flags order (nat_le 1 lpid && nat_le lpid plan.guests)
 deed_comes plan past ctx.Hv asked (UReturn r0 r2 outs) = return_comes (guest_after plan asked.lpid past).part asked r0 r2 outs

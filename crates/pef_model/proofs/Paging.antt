@@ -23,7 +23,7 @@ use Rattle.pef_model.specs.MoveLaw.{KeepsWhatIsSealed, EachCpuMovesItsPage, Each
 use Rattle.pef_model.specs.CountLaw.{EachNormalGuestIsPlain}
 use Rattle.pef_model.specs.Target.{work_by}
 use Rattle.pef_model.proofs.Fields.{ctxs, hands, ctxs_after, hands_after, same_ctxs, same_hands, field_after, same_field, kept_field, entry_field, holds_same, holds_one}
-use Rattle.pef_model.proofs.Changes.{Change, Quiet, Begins, Copies, Ends, Drops, Comes, Reads, Accepts, Refuses, Takes, Parked, Gone, Backs, Writes, Selected, KeepsParts, PutsPart, may_run_in, is_backed_in, entry_gives}
+use Rattle.pef_model.proofs.Changes.{Change, Quiet, Begins, Copies, Ends, Drops, Comes, Reads, Accepts, Refuses, Takes, Parked, Gone, Backs, Writes, Slots, Selected, KeepsParts, PutsPart, may_run_in, is_backed_in, entry_gives}
 use Rattle.pef_model.proofs.ChangeOf.{change}
 use Rattle.pef_model.proofs.Works.{way_of, move_of}
 use Rattle.pef_model.proofs.Moving.{AreMoved, IsMoving, moved_on, moved_copied, moved_dropped, moved_backed, moved_begun, moved_ended, moved_renewed}
@@ -155,6 +155,7 @@ module _ (plan : Plan) (past : List Event) (e : Event) (legal : IsLegal plan pas
   moved_by (Backs x) =
       one_page _ _ (same_ctxs plan past e _ _ x.cpu_is) (same_hands plan past e _ _ x.cpu_is) x.parts refl
       (moved_backed _ _ _ _ m all x.run.lpid x.gfn (secured (pages plan past x.run.lpid x.gfn)) x.at_rest refl (keeps_secured (pages plan past x.run.lpid x.gfn)))
+  moved_by (Slots x) = no_pages _ _ (same_ctxs plan past e _ _ x.cpu_is) (same_hands plan past e _ _ x.cpu_is) x.parts refl refl all
   moved_by (Writes x) =
       let g : GuestPart = part_after plan past x.lpid in
       let rest : (gfn : ℕ) → (pages plan past x.lpid gfn).mover ≡ None = (λ gfn. let page = plain x.lpid x.allowed gfn in page.1) in
@@ -190,6 +191,7 @@ module _ (plan : Plan) (past : List Event) (e : Event) (legal : IsLegal plan pas
   plain_by (Gone x) = holds_same plan past e IsPlain x.parts plain
   plain_by (Backs x) = holds_one plan past e IsPlain _ _ x.parts (λ may. absurd (backed_not_plain _ (runs_in plan past (all_run plan past legal) m x.run x.before x.generation) x.backed may)) plain
   plain_by (Writes x) = holds_one plan past e IsPlain _ _ x.parts (entry_gives IsPlain (part_after plan past x.lpid) x.base x.length_ (λ may. plain x.lpid x.allowed) (λ may. plain x.lpid x.allowed)) plain
+  plain_by (Slots x) = holds_one plan past e IsPlain _ _ x.parts (plain x.lpid) plain
   plain_by (Selected x) = holds_same plan past e IsPlain x.parts plain
 
 -- so it is after a legal history

@@ -7,6 +7,7 @@ use Rattle.pef_model.specs.Plan.{Plan}
 use Rattle.pef_model.specs.Event.{Event}
 use Rattle.pef_model.specs.Target.{touches_guest}
 use Rattle.pef_model.specs.declared.state.Pending.TheVariants as pending
+use Rattle.pef_model.specs.declared.state.Slot.{Slot}
 use Rattle.pef_model.specs.declared.state.Work.{Work}
 use Rattle.pef_model.specs.declared.state.Work.TheVariants.{Inward, Outward}
 use Rattle.pef_model.specs.declared.state.Ctx.{Ctx}
@@ -14,11 +15,12 @@ use Rattle.pef_model.specs.declared.state.Ctx.TheVariants as ctx
 use Rattle.pef_model.specs.declared.command.Code.{Code}
 use Rattle.pef_model.specs.declared.command.Code.TheVariants.{USuccess, UP2}
 use Rattle.pef_model.specs.declared.command.Cmd.{Cmd}
-use Rattle.pef_model.specs.declared.command.Cmd.TheVariants.{HEnter, UPate, UPagein, UPageout, UReturn, GLd, GSt, GIrq}
+use Rattle.pef_model.specs.declared.command.Cmd.TheVariants.{HEnter, UPate, URegslot, UUnregslot, UPagein, UPageout, UReturn, GLd, GSt, GIrq}
 use Rattle.pef_model.specs.declared.entry.PoolSaw.{PoolSaw}
 use Rattle.pef_model.specs.declared.entry.Answer.{Answer}
 use Rattle.pef_model.specs.declared.entry.Answer.TheVariants.{Done, Val, Ret, Step, Enter, Exit}
-use Rattle.pef_model.specs.GuestPart.{GuestPart, Page, VcpuPart, part_of_write, part_of_hypervisor, part_of_work, part_of_access, part_of_guest, part_in, page_of, start_phase, with_secure_page, with_running_vcpu, with_parked_vcpu, with_page_leaving, with_page_out, with_page_coming, with_page_refused, with_entry}
+use Rattle.pef_model.specs.Slots.{registered_by, unregistered_by}
+use Rattle.pef_model.specs.GuestPart.{GuestPart, Page, VcpuPart, part_of_write, part_of_hypervisor, part_of_work, part_of_access, part_of_guest, part_in, page_of, slot_asked, start_phase, with_secure_page, with_running_vcpu, with_parked_vcpu, with_page_leaving, with_page_out, with_page_coming, with_page_refused, with_entry}
 use Rattle.pef_model.specs.Guest.{Guest, next_guest}
 use Rattle.pef_model.specs.History.{guest_after, part_after}
 use Rattle.pef_model.proofs.Changes.{entry_gives, may_run_in}
@@ -34,6 +36,7 @@ pub record IsKept (P : GuestPart → Type 0) (g : GuestPart) : Type 0 where
   pub refused : (gfn : ℕ) → P (with_page_refused g gfn)
   pub secure : (gfn : ℕ) → P (with_secure_page g gfn)
   pub written : (dw0 dw1 : ℕ) → P (with_entry g dw0 dw1)
+  pub slots : (slots : List Slot) → P (record g { slots = slots })
 
 module _ (P : GuestPart → Type 0) (plan : Plan) (g : GuestPart) (k : IsKept P g) where
   by_write : (code : Code) (dw0 dw1 : ℕ) → P (part_of_write g code dw0 dw1)
@@ -46,6 +49,8 @@ module _ (P : GuestPart → Type 0) (plan : Plan) (g : GuestPart) (k : IsKept P 
   by_hypervisor vid cpu bytes Enter (UReturn r0 r2 outs) = k.running vid cpu
   by_hypervisor vid cpu bytes Enter (HEnter lpid named value) = k.running named cpu
   by_hypervisor vid cpu bytes (Ret code) (UPate lpid dw0 dw1) = by_write code dw0 dw1
+  by_hypervisor vid cpu bytes (Ret code) (URegslot lpid start size flags id) = k.slots (registered_by code g.slots (slot_asked plan start size id))
+  by_hypervisor vid cpu bytes (Ret code) (UUnregslot lpid id) = k.slots (unregistered_by code g.slots id)
   by_hypervisor vid cpu bytes a cmd = k.same
 
   by_work : (bytes : List ℕ) (a : Answer) (work : Work) → P (part_of_work g bytes a work)
@@ -79,19 +84,20 @@ holds_after P plan past e lpid kept = by_test (touches_guest plan lpid e) where
   by_test true = by_ctx P plan g.part kept e.saw.before e.trace.answer e.trace.cmd e.saw.pool e.saw.vid e.trace.cpu e.bytes
   by_test false = kept.same
 
--- a fact that no change of pages, vCPUs and order touches is kept, if it is where a partition entry is set
-pub life_kept : (P : GuestPart → Type 0) (g : GuestPart) → ((pages : ℕ → Page) (vcpus : ℕ → VcpuPart) (order : List ℕ) → P (record g { pages = pages; vcpus = vcpus; order = order })) →
+-- a fact that no change of pages, vCPUs, order and slots touches is kept, if it is where a partition entry is set
+pub life_kept : (P : GuestPart → Type 0) (g : GuestPart) → ((pages : ℕ → Page) (vcpus : ℕ → VcpuPart) (order : List ℕ) (slots : List Slot) → P (record g { pages = pages; vcpus = vcpus; order = order; slots = slots })) →
     ((dw0 dw1 : ℕ) → P (with_entry g dw0 dw1)) → IsKept P g
 life_kept P g h written = record {
-  same = h g.pages g.vcpus g.order;
-  running = λ vid cpu. h g.pages (with_running_vcpu g vid cpu).vcpus g.order;
-  parked = λ vid pending. h g.pages (with_parked_vcpu g vid pending).vcpus g.order;
-  leaving = λ gfn cpu bytes. h (with_page_leaving g gfn cpu bytes).pages g.vcpus g.order;
-  out = λ gfn. h (with_page_out g gfn).pages g.vcpus (with_page_out g gfn).order;
-  coming = λ gfn cpu. h (with_page_coming g gfn cpu).pages g.vcpus g.order;
-  refused = λ gfn. h (with_page_refused g gfn).pages g.vcpus g.order;
-  secure = λ gfn. h (with_secure_page g gfn).pages g.vcpus (with_secure_page g gfn).order;
+  same = h g.pages g.vcpus g.order g.slots;
+  running = λ vid cpu. h g.pages (with_running_vcpu g vid cpu).vcpus g.order g.slots;
+  parked = λ vid pending. h g.pages (with_parked_vcpu g vid pending).vcpus g.order g.slots;
+  leaving = λ gfn cpu bytes. h (with_page_leaving g gfn cpu bytes).pages g.vcpus g.order g.slots;
+  out = λ gfn. h (with_page_out g gfn).pages g.vcpus (with_page_out g gfn).order g.slots;
+  coming = λ gfn cpu. h (with_page_coming g gfn cpu).pages g.vcpus g.order g.slots;
+  refused = λ gfn. h (with_page_refused g gfn).pages g.vcpus g.order g.slots;
+  secure = λ gfn. h (with_secure_page g gfn).pages g.vcpus (with_secure_page g gfn).order g.slots;
   written = written;
+  slots = λ slots. h g.pages g.vcpus g.order slots;
 }
 
 -- a guest's generation never falls
@@ -99,7 +105,7 @@ pub generation_grows : (plan : Plan) (past : List Event) (e : Event) (lpid : ℕ
 generation_grows plan past e lpid =
     let g : GuestPart = part_after plan past lpid in
     holds_after (λ (new : GuestPart). g.generation ≤ new.generation) plan past e lpid
-    (life_kept (λ (new : GuestPart). g.generation ≤ new.generation) g (λ pages vcpus order. omega arith) (λ dw0 dw1. entry_gives (λ (new : GuestPart). g.generation ≤ new.generation) g dw0 dw1 (omega arith) (omega arith)))
+    (life_kept (λ (new : GuestPart). g.generation ≤ new.generation) g (λ pages vcpus order slots. omega arith) (λ dw0 dw1. entry_gives (λ (new : GuestPart). g.generation ≤ new.generation) g dw0 dw1 (omega arith) (omega arith)))
 
 -- no guest is on its way to become secure, or back
 abbrev pub IsSettled : Phase → Type 0
@@ -116,7 +122,7 @@ settled plan (e ∷ past) lpid =
     let g : GuestPart = part_after plan past lpid in
     let is = settled plan past lpid in
     holds_after (λ (new : GuestPart). IsSettled new.phase) plan past e lpid
-    (life_kept (λ (new : GuestPart). IsSettled new.phase) g (λ pages vcpus order. is) (λ dw0 dw1. entry_gives (λ (new : GuestPart). IsSettled new.phase) g dw0 dw1 tt tt))
+    (life_kept (λ (new : GuestPart). IsSettled new.phase) g (λ pages vcpus order slots. is) (λ dw0 dw1. entry_gives (λ (new : GuestPart). IsSettled new.phase) g dw0 dw1 tt tt))
 
 -- so a guest that runs is Secure, or in normal memory
 pub secure_where_runs : (p : Phase) → IsSettled p → may_run_in p ≡ true → p ≢ phase.Normal → p ≡ phase.Secure

@@ -13,7 +13,7 @@ use Rattle.pef_model.specs.MoveLaw.{EachMoveIsOfAGeneration}
 use Rattle.pef_model.proofs.Works.{move_of}
 use Rattle.pef_model.proofs.Puts.{put-here, put-other}
 use Rattle.pef_model.proofs.Parts.{generation_grows}
-use Rattle.pef_model.proofs.Changes.{Change, Quiet, Begins, Copies, Ends, Drops, Comes, Reads, Accepts, Refuses, Takes, Parked, Gone, Backs, Writes, Selected}
+use Rattle.pef_model.proofs.Changes.{Change, Quiet, Begins, Copies, Ends, Drops, Comes, Reads, Accepts, Refuses, Takes, Parked, Gone, Backs, Writes, Slots, Selected}
 use Rattle.pef_model.proofs.ChangeOf.{change}
 use Rattle.pef_model.proofs.Fields.{cpus_after, of_each}
 
@@ -49,6 +49,7 @@ reached_by plan past cpu e reached (Parked x) = subst (Reached (generations plan
 reached_by plan past cpu e reached (Gone x) = subst (Reached (generations plan past)) (sym x.cpu_is.ctx_is) tt
 reached_by plan past cpu e reached (Backs x) = subst (Reached (generations plan past)) (sym x.cpu_is.ctx_is) reached
 reached_by plan past cpu e reached (Writes x) = subst (Reached (generations plan past)) (sym x.cpu_is.ctx_is) reached
+reached_by plan past cpu e reached (Slots x) = subst (Reached (generations plan past)) (sym x.cpu_is.ctx_is) reached
 reached_by plan past cpu e reached (Selected x) = subst (Reached (generations plan past)) (sym x.cpu_is.ctx_is) reached
 
 -- so it is after a legal history

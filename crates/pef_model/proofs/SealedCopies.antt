@@ -18,7 +18,7 @@ use Rattle.pef_model.specs.PageOut.{tag_of, private_page, sealed_page}
 use Rattle.pef_model.specs.Authority.{InSealedBytes, authority_by}
 use Rattle.pef_model.specs.History.{cpu_after, guest_after, part_after, last_store, IsLegal, begins_out_in, begins_out}
 use Rattle.pef_model.specs.MoveLaw.{OutPageIsSealed}
-use Rattle.pef_model.proofs.Changes.{Change, Quiet, Begins, Copies, Ends, Drops, Comes, Reads, Accepts, Refuses, Takes, Parked, Gone, Backs, Writes, Selected, WritesEntry}
+use Rattle.pef_model.proofs.Changes.{Change, Quiet, Begins, Copies, Ends, Drops, Comes, Reads, Accepts, Refuses, Takes, Parked, Gone, Backs, Writes, Slots, Selected, WritesEntry}
 use Rattle.pef_model.proofs.ChangeOf.{change}
 use Rattle.pef_model.proofs.Fields.{same_field, kept_field}
 use Rattle.pef_model.proofs.Paging.{pages, generations, AllPlain, all_plain, all_moved}
@@ -44,6 +44,7 @@ stays_or_written plan past e (Takes x) = inl (same_field plan past e (λ (g : Gu
 stays_or_written plan past e (Parked x) = inl (same_field plan past e (λ (g : GuestPart). g.generation) _ _ x.parts refl)
 stays_or_written plan past e (Gone x) = inl (kept_field plan past e (λ (g : GuestPart). g.generation) x.parts)
 stays_or_written plan past e (Backs x) = inl (same_field plan past e (λ (g : GuestPart). g.generation) _ _ x.parts refl)
+stays_or_written plan past e (Slots x) = inl (same_field plan past e (λ (g : GuestPart). g.generation) _ _ x.parts refl)
 stays_or_written plan past e (Selected x) = inl (kept_field plan past e (λ (g : GuestPart). g.generation) x.parts)
 stays_or_written plan past e (Writes x) = inr x
 

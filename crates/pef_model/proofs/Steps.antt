@@ -12,7 +12,7 @@ use Rattle.pef_model.specs.declared.state.Ctx.{Ctx}
 use Rattle.pef_model.specs.declared.state.Ctx.TheVariants as ctx
 use Rattle.pef_model.specs.declared.command.TheConstants.{EXTERNAL_INTERRUPT}
 use Rattle.pef_model.specs.declared.command.Cmd.{Cmd}
-use Rattle.pef_model.specs.declared.command.Cmd.TheVariants.{HLd, HSt, HSelect, HEnter, UPate, UPagein, UPageout, UReturn, Go}
+use Rattle.pef_model.specs.declared.command.Cmd.TheVariants.{HLd, HSt, HSelect, HEnter, UPate, URegslot, UUnregslot, UPagein, UPageout, UReturn, Go}
 use Rattle.pef_model.specs.declared.entry.Exit.TheVariants as exit
 use Rattle.pef_model.specs.declared.entry.Answer.{Answer}
 use Rattle.pef_model.specs.declared.entry.Answer.TheVariants.{Done, Val, Ret, Step, Exit, Gone, Context}
@@ -47,6 +47,8 @@ context_leaves cpu ctx.Hv after (HSt ra value) shown bytes before h = absurd h
 context_leaves cpu ctx.Hv after (HSelect lpid vid) shown bytes before h = absurd h
 context_leaves cpu ctx.Hv after (HEnter lpid vid value) shown bytes before h = absurd h
 context_leaves cpu ctx.Hv after (UPate lpid dw0 dw1) shown bytes before h = absurd h
+context_leaves cpu ctx.Hv after (URegslot lpid start size flags id) shown bytes before h = absurd h
+context_leaves cpu ctx.Hv after (UUnregslot lpid id) shown bytes before h = absurd h
 context_leaves cpu ctx.Hv after (UPagein lpid src gpa flags order) shown bytes before h = absurd h
 context_leaves cpu ctx.Hv after (UPageout lpid dest gpa flags order) shown bytes before h = absurd h
 context_leaves cpu ctx.Hv after (UReturn r0 r2 outs) shown bytes before h = absurd h

@@ -12,7 +12,7 @@ use Rattle.pef_model.specs.Plan.{Plan}
 use Rattle.pef_model.specs.Event.{Event}
 use Rattle.pef_model.specs.Seal.{doublewords}
 use Rattle.pef_model.specs.Target.{Ask}
-use Rattle.pef_model.specs.GuestPart.{GuestPart, Meeting, NoPlace, Unbacked, Normal, meets, meets_in, meets_page, meets_entry, has_place, page_of}
+use Rattle.pef_model.specs.GuestPart.{GuestPart, Meeting, NoPlace, Unbacked, Normal, meets, meets_in, meets_page, meets_entry, has_place, page_of, is_in_slot}
 use Rattle.pef_model.specs.Memory.{offset_of}
 use Rattle.pef_model.specs.Deed.{Deed, deed_access, deed_gone}
 use Rattle.pef_model.specs.History.{cpu_after, guest_after, pool_after, found_after, Extends, reg}
@@ -26,13 +26,13 @@ meets_aligned plan g gpa n is = by_phase g.phase is where
   by_entry true t h = test_same (gpa % 8) 0 t
   by_entry false t h = cc
 
-  by_place : (b : Bool) → has_place plan gpa ≡ b → (if b then meets_page (g.pages (page_of plan gpa)) else NoPlace) ≡ Normal n → gpa % 8 ≡ 0
-  by_place true t h = test_same (gpa % 8) 0 (and_parts _ _ t).0
+  by_place : (b : Bool) → is_in_slot plan g gpa ≡ b → (if b then meets_page (g.pages (page_of plan gpa)) else NoPlace) ≡ Normal n → gpa % 8 ≡ 0
+  by_place true t h = test_same (gpa % 8) 0 (and_parts _ _ (and_parts (has_place plan gpa) _ t).0).0
   by_place false t h = cc
 
   by_phase : (p : Phase) → meets_in p plan g gpa ≡ Normal n → gpa % 8 ≡ 0
   by_phase phase.Normal h = by_entry (gpa % 8 == 0) refl h
-  by_phase p h = by_place (has_place plan gpa) refl h
+  by_phase p h = by_place (is_in_slot plan g gpa) refl h
 
 -- an access of a guest that tells a normal frame meets it, answers as one in a normal frame does, and has what it lets out as its bytes
 pub record IsThrough (plan : Plan) (g : GuestPart) (gpa n : ℕ) (through : ℕ → Answer) (out : List ℕ) (e : Event) : Type 0 where

@@ -17,7 +17,7 @@ use Rattle.pef_model.specs.declared.entry.Answer.TheVariants.{Done, Val}
 use Rattle.pef_model.specs.Plan.{Plan}
 use Rattle.pef_model.specs.Event.{Event, mark_of}
 use Rattle.pef_model.specs.Target.{Ask, Target, AtGuest, frame_of, told, target_in}
-use Rattle.pef_model.specs.GuestPart.{GuestPart, Meeting, NoPlace, Moves, Private, Normal, Unbacked, meets, meets_in, meets_kind, has_place, is_private_in, is_shared, page_of}
+use Rattle.pef_model.specs.GuestPart.{GuestPart, Meeting, NoPlace, Moves, Private, Normal, Unbacked, meets, meets_in, meets_kind, is_private_in, is_shared, page_of, is_in_slot}
 use Rattle.pef_model.specs.Guest.{Guest}
 use Rattle.pef_model.specs.Deed.{Deed, deed_access, deed_running, deed_gone, deed_guest, deed_guest_in}
 use Rattle.pef_model.specs.History.{cpu_after, guest_after, pool_after, found_after, deed_after, ask_of, entry_of, Extends, part_after}
@@ -84,7 +84,7 @@ entry_is_none false there n h = h
 own_is_private : (plan : Plan) (g : GuestPart) (gpa : ℕ) (p : Phase) → is_own (meets_in p plan g gpa) ≡ true → is_private_in p (g.pages (page_of plan gpa)).kind ≡ true
 own_is_private plan g gpa phase.Normal h =
     entry_is_none (gpa % 8 == 0) (nat_lt (page_of plan gpa) g.entry.length_) (frame_of plan g.entry.base + page_of plan gpa) h
-own_is_private plan g gpa other h = own_kind (has_place plan gpa) (is_some (g.pages (page_of plan gpa)).mover) (g.pages (page_of plan gpa)).kind h
+own_is_private plan g gpa other h = own_kind (is_in_slot plan g gpa) (is_some (g.pages (page_of plan gpa)).mover) (g.pages (page_of plan gpa)).kind h
 
 -- an access to a private page meets no normal frame
 private_kind : (here moves : Bool) (k : Kind) → not (is_shared k) ≡ true → frame_met (if here then (if moves then Moves else meets_kind k) else NoPlace) ≡ None
@@ -97,7 +97,7 @@ private_kind false moves k h = refl
 
 pub private_frame : (plan : Plan) (g : GuestPart) (gpa : ℕ) (p : Phase) → is_private_in p (g.pages (page_of plan gpa)).kind ≡ true → frame_met (meets_in p plan g gpa) ≡ None
 private_frame plan g gpa phase.Normal h = cc
-private_frame plan g gpa other h = private_kind (has_place plan gpa) (is_some (g.pages (page_of plan gpa)).mover) (g.pages (page_of plan gpa)).kind h
+private_frame plan g gpa other h = private_kind (is_in_slot plan g gpa) (is_some (g.pages (page_of plan gpa)).mover) (g.pages (page_of plan gpa)).kind h
 
 pub private_access_tells_no_frame : PrivateAccessTellsNoFrame
 private_access_tells_no_frame plan past e run gpa extends before address done =

@@ -7,7 +7,7 @@ use Rattle.pef_model.specs.declared.state.Ctx.TheVariants as ctx
 use Rattle.pef_model.specs.declared.command.Code.{Code}
 use Rattle.pef_model.specs.declared.command.Code.TheVariants.{USuccess, UParameter, UP2, UP3, UP4, UP5, UFunction, UBusy, UPermission, UInvalid}
 use Rattle.pef_model.specs.declared.command.Cmd.{Cmd}
-use Rattle.pef_model.specs.declared.command.Cmd.TheVariants.{HLd, HSt, HSelect, HEnter, UPate, UPagein, UPageout, UReturn, GLi, GLd, GSt, GIrq}
+use Rattle.pef_model.specs.declared.command.Cmd.TheVariants.{HLd, HSt, HSelect, HEnter, UPate, URegslot, UUnregslot, UPagein, UPageout, UReturn, GLi, GLd, GSt, GIrq}
 use Rattle.pef_model.specs.declared.entry.Exit.TheVariants.{Normal, Irq}
 use Rattle.pef_model.specs.declared.entry.Answer.{Answer}
 use Rattle.pef_model.specs.declared.entry.Answer.TheVariants.{Done, Val, Ret, Step, Enter, Exit, Again, Gone, Hole, Context}
@@ -15,6 +15,16 @@ use Rattle.pef_model.specs.Plan.{Plan}
 use Rattle.pef_model.specs.Event.{Event}
 use Rattle.pef_model.specs.History.{Extends}
 use Rattle.pef_model.specs.Target.{is_command_in}
+
+-- whether UV_REGISTER_MEM_SLOT can come back with a code
+abbrev pub is_of_register : Code → Bool
+is_of_register UParameter = true
+is_of_register UP2 = true
+is_of_register UP3 = true
+is_of_register UP4 = true
+is_of_register UP5 = true
+is_of_register USuccess = true
+is_of_register code = false
 
 -- whether UV_PAGE_IN can come back at once with a code
 abbrev pub is_of_page_in : Code → Bool
@@ -55,6 +65,10 @@ can_answer_hypervisor (UPate lpid dw0 dw1) (Ret UPermission) = true
 can_answer_hypervisor (UPate lpid dw0 dw1) (Ret UP2) = true
 can_answer_hypervisor (UPate lpid dw0 dw1) (Ret UP3) = true
 can_answer_hypervisor (UPate lpid dw0 dw1) (Ret USuccess) = true
+can_answer_hypervisor (URegslot lpid start size flags id) (Ret code) = is_of_register code
+can_answer_hypervisor (UUnregslot lpid id) (Ret UParameter) = true
+can_answer_hypervisor (UUnregslot lpid id) (Ret UP2) = true
+can_answer_hypervisor (UUnregslot lpid id) (Ret USuccess) = true
 can_answer_hypervisor (UPagein lpid src gpa flags order) Step = true
 can_answer_hypervisor (UPagein lpid src gpa flags order) (Ret code) = is_of_page_in code
 can_answer_hypervisor (UPageout lpid dest gpa flags order) Step = true
@@ -82,6 +96,8 @@ can_answer_outward move a = false
 abbrev pub can_answer_vcpu : Cmd → Answer → Bool
 can_answer_vcpu cmd Gone = true
 can_answer_vcpu (UPate lpid dw0 dw1) (Ret UPermission) = true
+can_answer_vcpu (URegslot lpid start size flags id) (Ret UPermission) = true
+can_answer_vcpu (UUnregslot lpid id) (Ret UPermission) = true
 can_answer_vcpu (UPagein lpid src gpa flags order) (Ret UPermission) = true
 can_answer_vcpu (UPageout lpid dest gpa flags order) (Ret UPermission) = true
 can_answer_vcpu (UReturn r0 r2 outs) (Ret UInvalid) = true

@@ -1,5 +1,5 @@
 -- Laws of causes: where U_BUSY, Again, Hole, Context and Gone come.
-use Rattle.std.specs.Prelude.{◌≡◌, ◌≢◌, ◌⊎◌, ◌↔◌, ℕ, ◌+◌, ◌%◌, ◌≤◌, ◌<◌, Bool, true, false, List, ◌∷◌, Option, Some, None, IsSome, is_some}
+use Rattle.std.specs.Prelude.{◌≡◌, ◌≢◌, ◌⊎◌, ◌↔◌, ℕ, ◌+◌, ◌/◌, ◌%◌, ◌^◌, ◌≤◌, ◌<◌, Bool, true, false, List, ◌∷◌, length, Option, Some, None, IsSome, is_some}
 use Rattle.pef_model.specs.declared.state.Phase.{Phase}
 use Rattle.pef_model.specs.declared.state.Phase.TheVariants.{Absent, Starting, Normal}
 use Rattle.pef_model.specs.declared.state.Kind.{Kind}
@@ -10,7 +10,7 @@ use Rattle.pef_model.specs.declared.state.Ctx.TheVariants as ctx
 use Rattle.pef_model.specs.declared.command.TheConstants.{PAGE_IN_FLAGS}
 use Rattle.pef_model.specs.declared.command.Code.TheVariants.{USuccess, UBusy}
 use Rattle.pef_model.specs.declared.command.Cmd.{Cmd}
-use Rattle.pef_model.specs.declared.command.Cmd.TheVariants.{HLd, HSt, HSelect, HEnter, UPate, UPagein, UPageout, UReturn, GIrq}
+use Rattle.pef_model.specs.declared.command.Cmd.TheVariants.{HLd, HSt, HSelect, HEnter, UPate, URegslot, UUnregslot, UPagein, UPageout, UReturn, GIrq}
 use Rattle.pef_model.specs.declared.entry.Exit.TheVariants as exit
 use Rattle.pef_model.specs.declared.entry.Answer.TheVariants as answer
 use Rattle.pef_model.specs.Plan.{Plan, IsWithin}
@@ -18,10 +18,12 @@ use Rattle.pef_model.specs.Event.{Event}
 use Rattle.pef_model.specs.Registers.{zero_registers}
 use Rattle.pef_model.specs.Target.{frame_of, vcpu_in, guest_address_in, is_command_in}
 use Rattle.pef_model.specs.Cpu.{CpuPart}
+use Rattle.pef_model.specs.Slots.{has_slot, has_id, meets_slots}
 use Rattle.pef_model.specs.GuestPart.{Page, GuestPart, page_of, has_place, is_shared}
 use Rattle.pef_model.specs.PageOut.{may_page_out_in, can_go_out, has_frame, has_page}
 use Rattle.pef_model.specs.PageIn.{may_page_in_in, may_come_in}
 use Rattle.pef_model.specs.Entry.{can_be_entered}
+use Rattle.pef_model.specs.SlotCalls.{may_change_slots_in, has_pages}
 use Rattle.pef_model.specs.Deed.{may_return_in, is_waiting}
 use Rattle.pef_model.specs.History.{cpu_after, pool_after, Extends, part_after, page_after, ChangesNoMemory}
 
@@ -133,6 +135,33 @@ WritesExactlyWhere =
     (plan : Plan) (past : List Event) (e : Event) (lpid dw0 dw1 : ℕ) → Extends plan past e → e.saw.before ≡ ctx.Hv → e.trace.cmd ≡ UPate lpid dw0 dw1 →
     (e.trace.answer ≡ answer.Ret USuccess) ↔ MayBeWritten plan past lpid dw0 dw1
 
+-- a slot may be registered of a guest of the machine that is Starting or Secure
+pub record MayBeRegistered (plan : Plan) (past : List Event) (lpid start size flags id : ℕ) : Type 0 where
+  pub guest : IsWithin 1 plan.guests lpid
+  pub phase : may_change_slots_in (part_after plan past lpid).phase ≡ true
+  -- from one of its pages on, with one page or more, all its own
+  pub page : has_page plan start ≡ true
+  pub pages : has_pages plan (page_of plan start) size ≡ true
+  -- none of which lies in a slot
+  pub apart : meets_slots (part_after plan past lpid).slots (page_of plan start) (size / 2 ^ plan.shift) ≡ false
+  pub flags_are : flags ≡ 0
+  -- under an id of 16 bits that no slot has, where there are fewer than 32
+  pub id_is : id < 2 ^ 16
+  pub free : has_id (part_after plan past lpid).slots id ≡ false
+  pub room : length (part_after plan past lpid).slots < 32
+
+-- UV_REGISTER_MEM_SLOT of the hypervisor registers it exactly there
+abbrev pub RegistersExactlyWhere : Type 0
+RegistersExactlyWhere =
+    (plan : Plan) (past : List Event) (e : Event) (lpid start size flags id : ℕ) → Extends plan past e → e.saw.before ≡ ctx.Hv → e.trace.cmd ≡ URegslot lpid start size flags id →
+    (e.trace.answer ≡ answer.Ret USuccess) ↔ MayBeRegistered plan past lpid start size flags id
+
+-- UV_UNREGISTER_MEM_SLOT takes one out exactly where a guest of the machine that is Starting or Secure has one of that id
+abbrev pub UnregistersExactlyWhere : Type 0
+UnregistersExactlyWhere =
+    (plan : Plan) (past : List Event) (e : Event) (lpid id : ℕ) → Extends plan past e → e.saw.before ≡ ctx.Hv → e.trace.cmd ≡ UUnregslot lpid id →
+    (e.trace.answer ≡ answer.Ret USuccess) ↔ (IsWithin 1 plan.guests lpid × (may_change_slots_in (part_after plan past lpid).phase ≡ true) × (has_id (part_after plan past lpid).slots id ≡ true))
+
 -- h.select selects exactly a vCPU of a guest of the machine
 abbrev pub SelectsExactlyWhere : Type 0
 SelectsExactlyWhere =
@@ -145,13 +174,14 @@ pub record IsAccess (plan : Plan) (past : List Event) (e : Event) (run : Run) (g
   pub address : guest_address_in e.trace.cmd ≡ Some gpa
   pub generation : run.generation ≡ (part_after plan past run.lpid).generation
 
--- an entry is such an access to a page with a mover, of a guest that isn't Normal
+-- an entry is such an access to a page with a mover, in a slot of a guest that isn't Normal
 pub record MeetsMover (plan : Plan) (past : List Event) (e : Event) : Type 0 where
   pub run : Run
   pub gpa : ℕ
   pub access : IsAccess plan past e run gpa
   pub phase : (part_after plan past run.lpid).phase ≢ Normal
   pub place : has_place plan gpa ≡ true
+  pub slot : has_slot (part_after plan past run.lpid).slots (page_of plan gpa) ≡ true
   pub mover : IsSome (page_after plan past run.lpid (page_of plan gpa)).mover
 
 -- what has Again as its answer, a case for each kind of step
@@ -185,9 +215,10 @@ IsOutOfReach Secure free = ⊥
 IsOutOfReach (Shared (Some n) fresh) free = ⊥
 IsOutOfReach other free = Unit {0}
 
--- an address of a guest that isn't Normal can't be accessed: it is none of a doubleword of a page, or its page is at rest and out of reach
+-- an address of a guest that isn't Normal can't be accessed: it is none of a doubleword of a page, or its page lies in no slot, or is at rest and out of reach
 abbrev pub CannotBeAccessed : Plan → GuestPart → ℕ → ℕ → Type 0
-CannotBeAccessed plan g free gpa = (gpa % 8 ≢ 0) ⊎ ((plan.pages ≤ page_of plan gpa) ⊎ (((g.pages (page_of plan gpa)).mover ≡ None) × IsOutOfReach (g.pages (page_of plan gpa)).kind free))
+CannotBeAccessed plan g free gpa =
+    (gpa % 8 ≢ 0) ⊎ ((plan.pages ≤ page_of plan gpa) ⊎ ((has_slot g.slots (page_of plan gpa) ≡ false) ⊎ (((g.pages (page_of plan gpa)).mover ≡ None) × IsOutOfReach (g.pages (page_of plan gpa)).kind free)))
 
 -- an address is none of a doubleword of a page in a guest's partition entry
 abbrev pub IsOutsideEntry : Plan → GuestPart → ℕ → Type 0

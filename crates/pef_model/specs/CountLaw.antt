@@ -1,5 +1,5 @@
--- Laws of whole histories: each vCPU runs on one CPU, and the frames are counted.
-use Rattle.std.specs.Prelude.{◌≡◌, ◌≢◌, ℕ, ◌+◌, ◌<◌, ◌≤◌, ◌==◌, if◌then◌else◌, List, ◌∷◌, filter, length, take, Some, None, true}
+-- Laws of whole histories: each vCPU runs on one CPU, the frames are counted, and memory slots are apart.
+use Rattle.std.specs.Prelude.{◌≡◌, ◌≢◌, ℕ, ◌+◌, ◌<◌, ◌≤◌, ◌==◌, if◌then◌else◌, List, ◌∷◌, All, filter, length, take, Some, None, true}
 use Rattle.std.specs.List.{count_by}
 use Rattle.pef_model.specs.declared.state.Phase.TheVariants.{Normal, Secure}
 use Rattle.pef_model.specs.declared.state.Kind.TheVariants.{Invalid}
@@ -9,6 +9,7 @@ use Rattle.pef_model.specs.declared.state.Ctx.TheVariants as ctx
 use Rattle.pef_model.specs.Plan.{Plan}
 use Rattle.pef_model.specs.Event.{Event}
 use Rattle.pef_model.specs.Target.{vcpu_in}
+use Rattle.pef_model.specs.Slots.{AreSlots}
 use Rattle.pef_model.specs.GuestPart.{is_secure, frames_in, sum_below}
 use Rattle.pef_model.specs.Entry.{may_write_in}
 use Rattle.pef_model.specs.History.{cpu_after, pool_after, IsLegal, part_after, page_after}
@@ -71,3 +72,11 @@ pub record IsPlain (plan : Plan) (past : List Event) (lpid gfn : ℕ) : Type 0 w
 
 abbrev pub EachNormalGuestIsPlain : Type 0
 EachNormalGuestIsPlain = (plan : Plan) (past : List Event) (lpid gfn : ℕ) → IsLegal plan past → may_write_in (part_after plan past lpid).phase ≡ true → IsPlain plan past lpid gfn
+
+-- a guest's slots are apart, and each lies in the guest's pages
+pub record HasItsSlots (plan : Plan) (past : List Event) (lpid : ℕ) : Type 0 where
+  pub are : AreSlots (part_after plan past lpid).slots
+  pub within : All (λ slot. slot.first + slot.count ≤ plan.pages) (part_after plan past lpid).slots
+
+abbrev pub EachGuestHasItsSlots : Type 0
+EachGuestHasItsSlots = (plan : Plan) (past : List Event) (lpid : ℕ) → 0 < plan.pages → IsLegal plan past → HasItsSlots plan past lpid

@@ -13,7 +13,7 @@ use Rattle.pef_model.specs.declared.state.Ctx.TheVariants as ctx
 use Rattle.pef_model.specs.declared.command.Code.{Code}
 use Rattle.pef_model.specs.declared.command.Code.TheVariants.{USuccess, UParameter, UP2, UBusy, UPermission, UInvalid}
 use Rattle.pef_model.specs.declared.command.Cmd.{Cmd}
-use Rattle.pef_model.specs.declared.command.Cmd.TheVariants.{HLd, HSt, HSelect, HEnter, UPate, UPagein, UPageout, UReturn, GLi, GLd, GSt, GIrq}
+use Rattle.pef_model.specs.declared.command.Cmd.TheVariants.{HLd, HSt, HSelect, HEnter, UPate, URegslot, UUnregslot, UPagein, UPageout, UReturn, GLi, GLd, GSt, GIrq}
 use Rattle.pef_model.specs.declared.entry.Exit.TheVariants as exit
 use Rattle.pef_model.specs.declared.entry.Answer.{Answer}
 use Rattle.pef_model.specs.declared.entry.Answer.TheVariants as answer
@@ -27,6 +27,7 @@ use Rattle.pef_model.specs.Memory.{offset_of}
 use Rattle.pef_model.specs.PageOut.{page_out_code, bytes_out}
 use Rattle.pef_model.specs.PageIn.{page_in_operands, is_last_sealed}
 use Rattle.pef_model.specs.Entry.{write_code, enter_code}
+use Rattle.pef_model.specs.SlotCalls.{register_code, unregister_code}
 use Rattle.pef_model.specs.Seal.{doublewords}
 use Rattle.pef_model.specs.Doubleword.{doubleword}
 
@@ -66,6 +67,8 @@ answer_alone plan ctx.Hv (HSt ra value) = answer.Hole
 answer_alone plan ctx.Hv (HSelect lpid vid) = answer_select plan lpid vid
 answer_alone plan ctx.Hv (HEnter lpid vid value) = answer.Ret UParameter
 answer_alone plan ctx.Hv (UPate lpid dw0 dw1) = answer.Ret UParameter
+answer_alone plan ctx.Hv (URegslot lpid start size flags id) = answer.Ret UParameter
+answer_alone plan ctx.Hv (UUnregslot lpid id) = answer.Ret UParameter
 answer_alone plan ctx.Hv (UPagein lpid src gpa flags order) = answer.Ret UParameter
 answer_alone plan ctx.Hv (UPageout lpid dest gpa flags order) = answer.Ret UParameter
 answer_alone plan before cmd = answer.Context
@@ -239,6 +242,8 @@ deed_running plan run g found any ask cmd = deed_refused ask cmd (call_of cmd)
 abbrev pub deed_hypervisor : Plan → Guest → Bool → Ask → Cmd → Deed
 deed_hypervisor plan g any ask (HEnter lpid vid value) = deed_enter plan g.part ask lpid vid
 deed_hypervisor plan g any ask (UPate lpid dw0 dw1) = deed_write plan g.part ask dw0 dw1
+deed_hypervisor plan g any ask (URegslot lpid start size flags id) = answering ask (answer.Ret (register_code plan g.part start size flags id))
+deed_hypervisor plan g any ask (UUnregslot lpid id) = answering ask (answer.Ret (unregister_code g.part id))
 deed_hypervisor plan g any ask (UPagein lpid src gpa flags order) = deed_page_in plan g.part any ask lpid src gpa flags order
 deed_hypervisor plan g any ask (UPageout lpid dest gpa flags order) = deed_page_out plan g ask lpid dest gpa flags order
 deed_hypervisor plan g any ask (UReturn r0 r2 outs) = deed_return g.part ask

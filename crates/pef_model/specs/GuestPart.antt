@@ -10,12 +10,13 @@ use Rattle.pef_model.specs.declared.state.Pending.{Pending}
 use Rattle.pef_model.specs.declared.state.Pending.TheVariants as pending
 use Rattle.pef_model.specs.declared.state.VState.{VState}
 use Rattle.pef_model.specs.declared.state.VState.TheVariants as vstate
+use Rattle.pef_model.specs.declared.state.Slot.{Slot}
 use Rattle.pef_model.specs.declared.state.Work.{Work}
 use Rattle.pef_model.specs.declared.state.Work.TheVariants.{Inward, Outward}
 use Rattle.pef_model.specs.declared.state.Ctx.{Ctx}
 use Rattle.pef_model.specs.declared.state.Ctx.TheVariants as ctx
 use Rattle.pef_model.specs.declared.command.Cmd.{Cmd}
-use Rattle.pef_model.specs.declared.command.Cmd.TheVariants.{HEnter, UPate, UPagein, UPageout, UReturn, GLd, GSt, GIrq}
+use Rattle.pef_model.specs.declared.command.Cmd.TheVariants.{HEnter, UPate, URegslot, UUnregslot, UPagein, UPageout, UReturn, GLd, GSt, GIrq}
 use Rattle.pef_model.specs.declared.command.Code.{Code}
 use Rattle.pef_model.specs.declared.command.Code.TheVariants.{USuccess, UP2}
 use Rattle.pef_model.specs.declared.entry.Answer.{Answer}
@@ -24,6 +25,7 @@ use Rattle.pef_model.specs.declared.entry.PoolSaw.{PoolSaw}
 use Rattle.pef_model.specs.Plan.{Plan}
 use Rattle.pef_model.specs.Event.{Event}
 use Rattle.pef_model.specs.Target.{frame_of}
+use Rattle.pef_model.specs.Slots.{has_slot, start_slots, registered_by, unregistered_by}
 
 -- a page, as far as it is public: its kind; who moves it; how often it was paged out, begun page-outs included; where it is Out what was last sealed of it; where it moves outward what is to be that; its bytes where it is Secure in a guest that isn't secure yet, or no longer
 pub record Page : Type 0 where
@@ -49,6 +51,7 @@ pub record GuestPart : Type 0 where
   pub phase : Phase
   pub generation : ℕ
   pub entry : PartitionEntry
+  pub slots : List Slot
   pub words : ℕ
   pub pages : ℕ → Page
   pub vcpus : ℕ → VcpuPart
@@ -98,6 +101,7 @@ start_part plan lpid = record {
   phase = start_phase (plan.is_born lpid);
   generation = 1;
   entry = no_entry;
+  slots = start_slots plan (plan.is_born lpid);
   words = plan.words lpid;
   pages = λ gfn. invalid_page;
   vcpus = λ vid. new_vcpu (start_state (plan.is_born lpid));
@@ -111,6 +115,10 @@ page_of plan gpa = gpa / 2 ^ plan.shift
 -- whether a guest address is that of a doubleword in a page of the guest
 abbrev pub has_place : Plan → ℕ → Bool
 has_place plan gpa = (gpa % 8 == 0) && nat_lt (page_of plan gpa) plan.pages
+
+-- whether it is that of a doubleword in a page of one of the guest's slots
+abbrev pub is_in_slot : Plan → GuestPart → ℕ → Bool
+is_in_slot plan g gpa = has_place plan gpa && has_slot g.slots (page_of plan gpa)
 
 -- whether a page of this kind is Shared
 abbrev pub is_shared : Kind → Bool
@@ -130,7 +138,7 @@ is_private g gfn = is_private_in g.phase (g.pages gfn).kind
 
 -- what an access to a guest address meets
 pub data Meeting : Type 0 where
-  -- no doubleword of a page
+  -- no doubleword of a page that the guest has
   NoPlace : Meeting
   -- a page on the move
   Moves : Meeting
@@ -161,10 +169,10 @@ meets_page page = if is_some page.mover then Moves else meets_kind page.kind
 abbrev pub meets_entry : Plan → PartitionEntry → ℕ → Meeting
 meets_entry plan entry gfn = if nat_lt gfn entry.length_ then Normal (frame_of plan entry.base + gfn) else NoPlace
 
--- by the guest's phase: a Normal guest goes through its partition entry
+-- by the guest's phase: a Normal guest goes through its partition entry, and every other has the pages in its slots
 abbrev pub meets_in : Phase → Plan → GuestPart → ℕ → Meeting
 meets_in phase.Normal plan g gpa = if gpa % 8 == 0 then meets_entry plan g.entry (page_of plan gpa) else NoPlace
-meets_in phase plan g gpa = if has_place plan gpa then meets_page (g.pages (page_of plan gpa)) else NoPlace
+meets_in phase plan g gpa = if is_in_slot plan g gpa then meets_page (g.pages (page_of plan gpa)) else NoPlace
 
 -- what an access of a guest meets
 abbrev pub meets : Plan → GuestPart → ℕ → Meeting
@@ -255,6 +263,10 @@ abbrev pub part_of_write : GuestPart → Code → ℕ → ℕ → GuestPart
 part_of_write g USuccess dw0 dw1 = with_entry g dw0 dw1
 part_of_write g code dw0 dw1 = g
 
+-- the slot that UV_REGISTER_MEM_SLOT asks for: from a start on, of a size, both in bytes
+abbrev pub slot_asked : Plan → ℕ → ℕ → ℕ → Slot
+slot_asked plan start size id = record { id = id; first = page_of plan start; count = size / 2 ^ plan.shift }
+
 -- after a step of the hypervisor
 abbrev pub part_of_hypervisor : Plan → GuestPart → ℕ → ℕ → List ℕ → Answer → Cmd → GuestPart
 part_of_hypervisor plan g vid cpu bytes answer.Step (UPageout lpid dest gpa flags order) = with_page_leaving g (page_of plan gpa) cpu bytes
@@ -262,6 +274,8 @@ part_of_hypervisor plan g vid cpu bytes answer.Step (UPagein lpid src gpa flags 
 part_of_hypervisor plan g vid cpu bytes answer.Enter (UReturn r0 r2 outs) = with_running_vcpu g vid cpu
 part_of_hypervisor plan g vid cpu bytes answer.Enter (HEnter lpid named value) = with_running_vcpu g named cpu
 part_of_hypervisor plan g vid cpu bytes (answer.Ret code) (UPate lpid dw0 dw1) = part_of_write g code dw0 dw1
+part_of_hypervisor plan g vid cpu bytes (answer.Ret code) (URegslot lpid start size flags id) = record g { slots = registered_by code g.slots (slot_asked plan start size id) }
+part_of_hypervisor plan g vid cpu bytes (answer.Ret code) (UUnregslot lpid id) = record g { slots = unregistered_by code g.slots id }
 part_of_hypervisor plan g vid cpu bytes a cmd = g
 
 -- after a step of a call in progress

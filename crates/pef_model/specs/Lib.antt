@@ -8,6 +8,8 @@ pub mod Target
 pub mod Cpu
 pub mod Guest
 pub mod GuestPart
+pub mod Slots
+pub mod SlotCalls
 pub mod Memory
 pub mod PageOut
 pub mod PageIn
@@ -39,6 +41,7 @@ pub mod SeenReport
 pub mod PairLaw
 pub mod NameLaw
 pub mod EntryLaw
+pub mod SlotLaw
 pub mod CauseLaw
 pub mod OldMoveLaw
 pub mod ToldLaw

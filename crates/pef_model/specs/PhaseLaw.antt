@@ -11,9 +11,9 @@ use Rattle.pef_model.specs.declared.state.VState.{VState}
 use Rattle.pef_model.specs.declared.state.VState.TheVariants.{Idle, Fresh, Running, Parked}
 use Rattle.pef_model.specs.declared.state.Ctx.{Ctx}
 use Rattle.pef_model.specs.declared.state.Ctx.TheVariants as ctx
-use Rattle.pef_model.specs.declared.command.Code.TheVariants.{USuccess, UParameter, UP2, UP3, UBusy, UPermission, UInvalid}
+use Rattle.pef_model.specs.declared.command.Code.TheVariants.{USuccess, UParameter, UP2, UP3, UP5, UBusy, UPermission, UInvalid}
 use Rattle.pef_model.specs.declared.command.Cmd.{Cmd}
-use Rattle.pef_model.specs.declared.command.Cmd.TheVariants.{HEnter, UPate, GLd, GIrq}
+use Rattle.pef_model.specs.declared.command.Cmd.TheVariants.{HEnter, UPate, URegslot, UUnregslot, GLd, GIrq}
 use Rattle.pef_model.specs.declared.entry.Exit.TheVariants as exit
 use Rattle.pef_model.specs.declared.entry.Answer.{Answer}
 use Rattle.pef_model.specs.declared.entry.Answer.TheVariants.{Val, Ret, Step, Enter, Exit, Again, Hole, Nothing}
@@ -51,6 +51,10 @@ abbrev pub guest_in : Phase → Page → VState → Guest
 guest_in phase page state = record (start_guest small_plan 1) {
   part = record (start_part small_plan 1) { phase = phase; entry = record { base = 0x100; length_ = 2 }; pages = λ gfn. page; vcpus = λ vid. new_vcpu state };
 }
+
+-- a guest without memory slots
+abbrev pub without_slots : Guest → Guest
+without_slots g = record g { part = record g.part { slots = [] } }
 
 -- the answer of a command at a guest in this context, where each doubleword of a normal frame is the frame's number, with this vCPU selected, where a secure frame is free or none is
 abbrev pub answer_selecting : Ctx → ℕ → Guest → Bool → Cmd → Answer
@@ -124,13 +128,15 @@ met_in phase = map (λ page. meets small_plan (guest_in phase page Idle).part 0x
 abbrev pub met_in_own : List Meeting
 met_in_own = Unbacked ∷ Private ∷ Away ∷ Unshared ∷ Normal 3 ∷ Moves ∷ Moves ∷ []
 
--- what an access meets: in a guest that is Normal the entry's frame whatever the page is, in each other guest the page; and no place where the address is unaligned, past the entry or past the last page
+-- what an access meets: in a guest that is Normal the entry's frame whatever the page is, in each other guest the page; and no place where the address is unaligned, past the entry, past the last page or in no slot
 pub record MeetsByPhase : Type 0 where
   pub normal : met_in phase.Normal ≡ replicate 7 (Normal 2)
   pub starting : met_in phase.Starting ≡ met_in_own
   pub secure : met_in phase.Secure ≡ met_in_own
   pub aborting : met_in phase.Aborting ≡ met_in_own
   pub no_place : map (meets small_plan (guest_in phase.Normal invalid_page Idle).part) (0x104 ∷ 0x200 ∷ []) ≡ NoPlace ∷ NoPlace ∷ []
+  pub no_slot : map (λ page. meets small_plan (record (guest_in phase.Secure page Idle).part { slots = [] }) 0x108) pages ≡ replicate 7 NoPlace
+  pub normal_slots : map (λ page. meets small_plan (record (guest_in phase.Normal page Idle).part { slots = [] }) 0x108) pages ≡ replicate 7 (Normal 2)
   pub no_page : map (meets small_plan (guest_in phase.Secure invalid_page Idle).part) (0x104 ∷ 0x400 ∷ []) ≡ NoPlace ∷ NoPlace ∷ []
 
 -- what a load of a vCPU answers in a guest of this phase, by the page
@@ -158,6 +164,15 @@ pub record NormalByPhase : Type 0 where
       map (λ phase. answer_at (ctx.Guest (record { lpid = 1; vid = 0; generation = 1 })) (guest_in phase invalid_page (Running 1)) true GIrq) (phase.Normal ∷ phase.Starting ∷ phase.Secure ∷ phase.Aborting ∷ [])
       ≡ Exit exit.Normal ∷ replicate 3 (Exit exit.Irq)
 
+-- what the calls for slots answer by phase of a guest with slot 0
+pub record SlotsByPhase : Type 0 where
+  pub registers :
+      map (λ id. map (λ phase. answer_at ctx.Hv (without_slots (guest_in phase invalid_page Idle)) true (URegslot 1 0x0 0x100 0 id)) phases) (7 ∷ 0x10000 ∷ [])
+      ≡ (Ret UParameter ∷ Ret UParameter ∷ Ret USuccess ∷ Ret USuccess ∷ Ret UParameter ∷ []) ∷ (Ret UParameter ∷ Ret UParameter ∷ Ret UP5 ∷ Ret UP5 ∷ Ret UParameter ∷ []) ∷ []
+  pub unregisters :
+      map (λ id. map (λ phase. answer_at ctx.Hv (guest_in phase invalid_page Idle) true (UUnregslot 1 id)) phases) (0 ∷ 1 ∷ [])
+      ≡ (Ret UParameter ∷ Ret UParameter ∷ Ret USuccess ∷ Ret USuccess ∷ Ret UParameter ∷ []) ∷ (Ret UParameter ∷ Ret UParameter ∷ Ret UP2 ∷ Ret UP2 ∷ Ret UParameter ∷ []) ∷ []
+
 -- the tables
 pub record TablesByPhase : Type 0 where
   pub returns : ReturnsByPhase
@@ -168,3 +183,4 @@ pub record TablesByPhase : Type 0 where
   pub meets_ : MeetsByPhase
   pub loads : LoadsByKind
   pub normal : NormalByPhase
+  pub slots : SlotsByPhase

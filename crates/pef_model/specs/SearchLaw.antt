@@ -13,6 +13,7 @@ use Rattle.pef_model.specs.Plan.{Plan}
 use Rattle.pef_model.specs.Event.{Event, newest}
 use Rattle.pef_model.specs.Registers.{Call, number_of, call_of, value_returned}
 use Rattle.pef_model.specs.Target.{caller, touches_guest}
+use Rattle.pef_model.specs.Slots.{has_slot}
 use Rattle.pef_model.specs.GuestPart.{page_of, is_private, ends_guest}
 use Rattle.pef_model.specs.Guest.{Guest}
 use Rattle.pef_model.specs.History.{guest_after, last_store, reg, Extends, IsLegal}
@@ -93,7 +94,7 @@ LastStoreIsStored =
 abbrev pub LastStoreIsZero : Type 0
 LastStoreIsZero = (plan : Plan) (past : List Event) (lpid gpa : ℕ) → HasNoStore plan lpid gpa [] past → last_store plan past lpid gpa ≡ 0
 
--- an access to an address in a page of the guest that is Secure and at rest is done
+-- an access to an address in a page of the guest that lies in a slot, is Secure and at rest is done
 pub record AccessIsDone (plan : Plan) (past : List Event) (e : Event) (run : Run) (gpa : ℕ) : Type 0 where
   pub load : (rd : ℕ) → e.trace.cmd ≡ GLd rd gpa → e.trace.answer ≡ answer.Val (last_store plan past run.lpid gpa)
   pub store : (rs : ℕ) → e.trace.cmd ≡ GSt rs gpa → e.trace.answer ≡ answer.Done
@@ -101,5 +102,5 @@ pub record AccessIsDone (plan : Plan) (past : List Event) (e : Event) (run : Run
 abbrev pub SecurePageIsReached : Type 0
 SecurePageIsReached =
     (plan : Plan) (past : List Event) (e : Event) (run : Run) (gpa : ℕ) → Extends plan past e → e.saw.before ≡ ctx.Guest run → run.generation ≡ (guest_after plan run.lpid past).part.generation → (guest_after plan run.lpid past).part.phase ≡ phase.Secure →
-    gpa % 8 ≡ 0 → gpa / 2 ^ plan.shift < plan.pages → ((guest_after plan run.lpid past).part.pages (page_of plan gpa)).kind ≡ Secure → ((guest_after plan run.lpid past).part.pages (page_of plan gpa)).mover ≡ None →
+    gpa % 8 ≡ 0 → gpa / 2 ^ plan.shift < plan.pages → has_slot (guest_after plan run.lpid past).part.slots (page_of plan gpa) ≡ true → ((guest_after plan run.lpid past).part.pages (page_of plan gpa)).kind ≡ Secure → ((guest_after plan run.lpid past).part.pages (page_of plan gpa)).mover ≡ None →
     AccessIsDone plan past e run gpa

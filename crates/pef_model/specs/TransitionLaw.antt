@@ -1,5 +1,5 @@
--- Laws of transitions: which entries change a page's kind, which a vCPU's state, and which how a guest lives.
-use Rattle.std.specs.Prelude.{◌≡◌, ℕ, ◌+◌, ◌==◌, Bool, false, ◌&&◌, if◌then◌else◌, List, ◌∷◌, Option, Some, None, unwrap_or, option_map}
+-- Laws of transitions: which entries change a page's kind, which a vCPU's state, which how a guest lives, and which its slots.
+use Rattle.std.specs.Prelude.{◌≡◌, ℕ, ◌+◌, ◌==◌, Bool, false, ◌&&◌, if◌then◌else◌, List, [], ◌∷◌, ◌++◌, Option, Some, None, unwrap_or, option_map}
 use Rattle.pef_model.specs.declared.state.Phase.{Phase}
 use Rattle.pef_model.specs.declared.state.Phase.TheVariants.{Absent, Normal}
 use Rattle.pef_model.specs.declared.state.Kind.{Kind}
@@ -10,10 +10,11 @@ use Rattle.pef_model.specs.declared.state.VState.{VState}
 use Rattle.pef_model.specs.declared.state.VState.TheVariants.{Idle, Running, Parked}
 use Rattle.pef_model.specs.declared.state.Work.TheVariants.{Inward, Outward}
 use Rattle.pef_model.specs.declared.state.Run.{Run}
+use Rattle.pef_model.specs.declared.state.Slot.{Slot}
 use Rattle.pef_model.specs.declared.state.Ctx.{Ctx}
 use Rattle.pef_model.specs.declared.state.Ctx.TheVariants as ctx
 use Rattle.pef_model.specs.declared.command.Cmd.{Cmd}
-use Rattle.pef_model.specs.declared.command.Cmd.TheVariants.{HEnter, UPate, UReturn, GLd, GSt}
+use Rattle.pef_model.specs.declared.command.Cmd.TheVariants.{HEnter, UPate, URegslot, UUnregslot, UReturn, GLd, GSt}
 use Rattle.pef_model.specs.declared.command.Code.TheVariants.{USuccess}
 use Rattle.pef_model.specs.declared.entry.Exit.TheVariants as exit
 use Rattle.pef_model.specs.declared.entry.Answer.{Answer}
@@ -22,7 +23,8 @@ use Rattle.pef_model.specs.declared.entry.PoolSaw.{PoolSaw}
 use Rattle.pef_model.specs.Plan.{Plan}
 use Rattle.pef_model.specs.Event.{Event}
 use Rattle.pef_model.specs.Target.{vcpu_in}
-use Rattle.pef_model.specs.GuestPart.{GuestPart, PartitionEntry, page_of, ends_guest}
+use Rattle.pef_model.specs.Slots.{without}
+use Rattle.pef_model.specs.GuestPart.{GuestPart, PartitionEntry, page_of, ends_guest, slot_asked}
 use Rattle.pef_model.specs.History.{guest_after, Extends, page_after}
 
 -- a kind for one page of a guest, and none for another
@@ -117,3 +119,14 @@ abbrev pub EachEntryLeavesLives : Type 0
 EachEntryLeavesLives =
     (plan : Plan) (past : List Event) (e : Event) (lpid : ℕ) → Extends plan past e →
     life_of (guest_after plan lpid (e ∷ past)).part ≡ life_given (guest_after plan lpid past).part lpid e.saw.before e.trace.cmd e.trace.answer
+
+-- a guest's slots after a step, by the guest that it finds: UV_REGISTER_MEM_SLOT that is accepted puts one behind them, UV_UNREGISTER_MEM_SLOT takes one out, and every other step leaves them
+abbrev pub slots_given : Plan → GuestPart → ℕ → Ctx → Cmd → Answer → List Slot
+slots_given plan g lpid ctx.Hv (URegslot named start size flags id) (answer.Ret USuccess) = if named == lpid then g.slots ++ slot_asked plan start size id ∷ [] else g.slots
+slots_given plan g lpid ctx.Hv (UUnregslot named id) (answer.Ret USuccess) = if named == lpid then without g.slots id else g.slots
+slots_given plan g lpid before cmd a = g.slots
+
+abbrev pub EachEntryLeavesSlots : Type 0
+EachEntryLeavesSlots =
+    (plan : Plan) (past : List Event) (e : Event) (lpid : ℕ) → Extends plan past e →
+    (guest_after plan lpid (e ∷ past)).part.slots ≡ slots_given plan (guest_after plan lpid past).part lpid e.saw.before e.trace.cmd e.trace.answer

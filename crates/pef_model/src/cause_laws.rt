@@ -1,6 +1,6 @@
 //! The laws of answers and their causes, and of what guests keep: each is the contract of a function that does nothing.
 
-ghost use Rattle.pef_model.specs.CauseLaw.{BusyExactlyWhere, BeginsExactlyWhere, EntersExactlyWhere, EntersNormalExactlyWhere, WritesExactlyWhere, SelectsExactlyWhere, AgainExactlyWhere, HoleExactlyWhere, ExitsExactlyWhere, ContextExactlyWhere, GoneExactlyWhere};
+ghost use Rattle.pef_model.specs.CauseLaw.{BusyExactlyWhere, BeginsExactlyWhere, EntersExactlyWhere, EntersNormalExactlyWhere, WritesExactlyWhere, RegistersExactlyWhere, UnregistersExactlyWhere, SelectsExactlyWhere, AgainExactlyWhere, HoleExactlyWhere, ExitsExactlyWhere, ContextExactlyWhere, GoneExactlyWhere};
 ghost use Rattle.pef_model.specs.AnswerLaw.{EachAnswerIsOfItsRow};
 ghost use Rattle.pef_model.specs.OldMoveLaw.{OldMovesChangeNothing};
 ghost use Rattle.pef_model.specs.ToldLaw.{AccessTellsItsFrame, PrivateAccessTellsNoFrame, EntryAtGuestIsTold};
@@ -45,20 +45,33 @@ pub fn writes_exactly_where()
     ensures { WritesExactlyWhere }
 {}
 
+/// UV_REGISTER_MEM_SLOT of the hypervisor registers a slot exactly where it names a guest that is Starting or Secure, pages of
+/// it of which none lies in a slot, flags of 0 and an id of 16 bits that no slot has, and there are fewer than 32 slots.
+pub fn registers_exactly_where()
+    ensures { RegistersExactlyWhere }
+{}
+
+/// UV_UNREGISTER_MEM_SLOT of the hypervisor takes a slot out exactly where it names a guest that is Starting or Secure, and the
+/// id of a slot of it.
+pub fn unregisters_exactly_where()
+    ensures { UnregistersExactlyWhere }
+{}
+
 /// h.select selects exactly where it names a vCPU of a guest of the machine.
 pub fn selects_exactly_where()
     ensures { SelectsExactlyWhere }
 {}
 
-/// Again comes exactly at a vCPU's load or store in a page with a mover, of a guest that isn't Normal, under its generation.
+/// Again comes exactly at a vCPU's load or store in a page with a mover, in a slot of a guest that isn't Normal, under its
+/// generation.
 pub fn again_exactly_where()
     ensures { AgainExactlyWhere }
 {}
 
 /// Hole comes at loads and stores alone: of the hypervisor exactly at no doubleword of normal memory; of a guest that isn't
-/// Normal, under its generation, exactly at no doubleword of a page, or in a page at rest that is Out, or Shared without a
-/// frame, or Invalid while no secure frame is free; of one that is Normal exactly at no doubleword of a page in its partition
-/// entry.
+/// Normal, under its generation, exactly at no doubleword of a page, or in a page that lies in no slot, or in one at rest that
+/// is Out, or Shared without a frame, or Invalid while no secure frame is free; of one that is Normal exactly at no doubleword
+/// of a page in its partition entry.
 pub fn hole_exactly_where()
     ensures { HoleExactlyWhere }
 {}

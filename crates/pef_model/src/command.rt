@@ -9,6 +9,12 @@ use std::marker::Model;
 /// The number of the ultracall UV_WRITE_PATE, which its caller puts into R3. This project's own.
 pub const UV_WRITE_PATE: u64 = 1;
 
+/// The number of the ultracall UV_REGISTER_MEM_SLOT, which its caller puts into R3. This project's own.
+pub const UV_REGISTER_MEM_SLOT: u64 = 2;
+
+/// The number of the ultracall UV_UNREGISTER_MEM_SLOT, which its caller puts into R3. This project's own.
+pub const UV_UNREGISTER_MEM_SLOT: u64 = 3;
+
 /// The number of the ultracall UV_PAGE_IN, which its caller puts into R3. This project's own.
 pub const UV_PAGE_IN: u64 = 4;
 
@@ -145,6 +151,20 @@ pub enum Cmd {
         dw0: u64,
         dw1: u64,
     },
+    /// The ultracall UV_REGISTER_MEM_SLOT: the guest of a number, from 1, has a memory slot from a guest address on, of a size,
+    /// both in bytes, under an id.
+    URegslot {
+        lpid: u64,
+        start: u64,
+        size: u64,
+        flags: u64,
+        id: u64,
+    },
+    /// The ultracall UV_UNREGISTER_MEM_SLOT: the guest of a number, from 1, loses the memory slot of an id.
+    UUnregslot {
+        lpid: u64,
+        id: u64,
+    },
     /// The ultracall UV_PAGE_IN: the page at a guest address, in bytes, of the guest of a number, from 1, comes in from the
     /// normal frame at a real address, in bytes; the order is a page's size as a power of two.
     UPagein {
@@ -202,6 +222,8 @@ impl Cmd {
             Cmd::HSelect { .. } => {}
             Cmd::HEnter { .. } => {}
             Cmd::UPate { .. } => {}
+            Cmd::URegslot { .. } => {}
+            Cmd::UUnregslot { .. } => {}
             Cmd::UPagein { .. } => {}
             Cmd::UPageout { .. } => {}
             Cmd::UReturn { outs, .. } => {

@@ -4,6 +4,7 @@ ghost use Rattle.pef_model.specs.RefusalLaw.{PageOutRefusals, PageInRefusals, No
 ghost use Rattle.pef_model.specs.PhaseLaw.{TablesByPhase};
 ghost use Rattle.pef_model.specs.NameLaw.{EachNameIsWritten, FrameHasItsLine, AreNumbers};
 ghost use Rattle.pef_model.specs.EntryLaw.{ANormalGuest, AGuestEndsAsItRuns, AllRegistersAreLeft, PateRefusals, SelectRefusals, EnterRefusals};
+ghost use Rattle.pef_model.specs.SlotLaw.{APageComesBack, RegisterRefusals, UnregisterRefusals};
 
 /// The codes of UV_PAGE_OUT, each where what would be refused later is wrong too.
 pub fn page_out_refusals()
@@ -96,4 +97,19 @@ pub fn select_refusals()
 /// The codes of h.enter, each where what would be refused later is wrong too.
 pub fn enter_refusals()
     ensures { EnterRefusals }
+{}
+
+/// A guest's page that lies in no slot for a while is met as it was, once a slot has it again, and a hole meanwhile.
+pub fn a_page_comes_back()
+    ensures { APageComesBack }
+{}
+
+/// Each code of UV_REGISTER_MEM_SLOT in its order, where what would be refused later is wrong too; and what is accepted then.
+pub fn register_refusals()
+    ensures { RegisterRefusals }
+{}
+
+/// Each code of UV_UNREGISTER_MEM_SLOT in its order.
+pub fn unregister_refusals()
+    ensures { UnregisterRefusals }
 {}

@@ -89,6 +89,17 @@ pub enum VState {
     Parked(Pending),
 }
 
+/// A memory slot: a run of pages that a guest may have.
+#[derive(Clone, Copy, Debug, PartialEq, Eq)]
+pub struct Slot {
+    /// Its number among the guest's slots, which whoever registers it chooses.
+    pub id: u16,
+    /// The number of its first page, from 0.
+    pub first: u32,
+    /// How many pages it has.
+    pub count: u32,
+}
+
 /// Which vCPU runs, and in which life of its guest.
 #[derive(Clone, Copy, Debug, PartialEq, Eq)]
 pub struct Run {

@@ -1,8 +1,8 @@
 //! The laws of one step and of counts: each is the contract of a function that does nothing.
 
 ghost use Rattle.pef_model.specs.StepLaw.{EachEntryLeavesCpu, EachEntryLeavesRegisters, EachEntryTells};
-ghost use Rattle.pef_model.specs.TransitionLaw.{EachEntryLeavesKinds, EachEntryLeavesStates, EachEntryLeavesLives};
-ghost use Rattle.pef_model.specs.CountLaw.{EachCpuRunsItsVcpu, EachRunIsOfAGeneration, NoVcpuRunsTwice, FramesAreCounted, OrderHasSecurePages, OrderGrows, EachNormalGuestIsPlain};
+ghost use Rattle.pef_model.specs.TransitionLaw.{EachEntryLeavesKinds, EachEntryLeavesStates, EachEntryLeavesLives, EachEntryLeavesSlots};
+ghost use Rattle.pef_model.specs.CountLaw.{EachCpuRunsItsVcpu, EachRunIsOfAGeneration, NoVcpuRunsTwice, FramesAreCounted, OrderHasSecurePages, OrderGrows, EachNormalGuestIsPlain, EachGuestHasItsSlots};
 
 /// An entry leaves its CPU in the context that it tells, with these registers, last answer, selection and hand, and shows
 /// what its step lets out.
@@ -10,9 +10,9 @@ pub fn each_entry_leaves_cpu()
     ensures { EachEntryLeavesCpu }
 {}
 
-/// While its guest has one generation and is neither Normal nor Starting, a vCPU's next instruction changes at its own steps
-/// and where UV_RETURN takes it up, SRR0 at the latter alone, and R0 to R31 at its own steps and where UV_RETURN gives it
-/// something: nothing to one that hasn't run yet or was interrupted.
+/// While its guest has one generation and isn't Starting, a vCPU's next instruction changes at its own steps and where UV_RETURN
+/// takes it up, SRR0 at the latter alone, and R0 to R31 at its own steps and where UV_RETURN gives it something: nothing to one
+/// that hasn't run yet or was interrupted.
 pub fn each_entry_leaves_registers()
     ensures { EachEntryLeavesRegisters }
 {}
@@ -64,6 +64,18 @@ pub fn each_entry_leaves_states()
 /// Absent, in another generation. No other entry changes a guest's phase, generation or partition entry.
 pub fn each_entry_leaves_lives()
     ensures { EachEntryLeavesLives }
+{}
+
+/// UV_REGISTER_MEM_SLOT that is accepted puts a slot behind a guest's others, and UV_UNREGISTER_MEM_SLOT takes one out; no other
+/// entry changes a guest's slots.
+pub fn each_entry_leaves_slots()
+    ensures { EachEntryLeavesSlots }
+{}
+
+/// The slots of a guest are at most 32, each two of them have different ids of 16 bits and no page in common, and each has pages
+/// of the guest alone.
+pub fn each_guest_has_its_slots()
+    ensures { EachGuestHasItsSlots }
 {}
 
 /// Each page of a guest that is Absent or in normal memory is Invalid and at rest.

@@ -12,6 +12,8 @@ returns c = record {
   selected = refl;
   written = refl;
   loaded = refl;
+  registered = refl;
+  unregistered = refl;
   numbers = refl;
   calls = refl;
 }
