@@ -6,7 +6,7 @@ use Rattle.std.proofs.lemmas.List.{get_or-set_same, get_or-set_other}
 use Rattle.std.proofs.lemmas.Option.{slice_get_past}
 use Rattle.pef_model.specs.declared.command.Code.{Code}
 use Rattle.pef_model.specs.declared.command.Cmd.{Cmd}
-use Rattle.pef_model.specs.declared.command.Cmd.TheVariants.{HLd, UPate, UPagein, UPageout, UReturn}
+use Rattle.pef_model.specs.declared.command.Cmd.TheVariants.{HLd, UPate, URegslot, UUnregslot, UPagein, UPageout, UReturn}
 use Rattle.pef_model.specs.declared.entry.Answer.TheVariants.{Ret}
 use Rattle.pef_model.specs.Commands.{IsCommand}
 use Rattle.pef_model.specs.Registers.{number_of, loaded, with_code, value_loaded}
@@ -18,6 +18,8 @@ use Rattle.pef_guest.specs.Loads.{LoadsCall}
 -- R1 is none of the registers that a call loads
 first_stays : (cmd : Cmd) → value_loaded cmd 1 ≡ None
 first_stays (UPate lpid dw0 dw1) = refl
+first_stays (URegslot lpid start size flags id) = refl
+first_stays (UUnregslot lpid id) = refl
 first_stays (UPagein lpid src gpa flags order) = refl
 first_stays (UPageout lpid dest gpa flags order) = refl
 first_stays (UReturn r0 r2 outs) = refl
@@ -27,6 +29,8 @@ first_stays cmd = refl
 -- and none past R12 is
 others_stay : (cmd : Cmd) (r : ℕ) → IsCommand cmd → 12 < r → value_loaded cmd r ≡ None
 others_stay (UPate lpid dw0 dw1) r k above = grind (arith, nat_tests, slice_get_past (lpid ∷ dw0 ∷ dw1 ∷ []) (r - 4))
+others_stay (URegslot lpid start size flags id) r k above = grind (arith, nat_tests, slice_get_past (lpid ∷ start ∷ size ∷ flags ∷ id ∷ []) (r - 4))
+others_stay (UUnregslot lpid id) r k above = grind (arith, nat_tests, slice_get_past (lpid ∷ id ∷ []) (r - 4))
 others_stay (UPagein lpid src gpa flags order) r k above = grind (arith, nat_tests, slice_get_past (lpid ∷ src ∷ gpa ∷ flags ∷ order ∷ []) (r - 4))
 others_stay (UPageout lpid dest gpa flags order) r k above = grind (arith, nat_tests, slice_get_past (lpid ∷ dest ∷ gpa ∷ flags ∷ order ∷ []) (r - 4))
 others_stay (UReturn r0 r2 outs) r k above = grind (arith, nat_tests, slice_get_past outs (r - 4))

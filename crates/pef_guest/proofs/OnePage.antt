@@ -123,6 +123,7 @@ module _ {S : Type 0} (stands : S → Tag → List ℕ → List ℕ → Type 0) 
       phase = shows.phase;
       generation = shows.generation;
       entry = shows.entry;
+      slots = shows.slots;
       pages = record {
         count = length-set old.pages.pages gfn page ∙ shows.pages.count;
         kinds = λ n. (each n).kind_is;
@@ -152,6 +153,7 @@ shows_counted stands image plan old g steps shows = record {
   phase = shows.phase;
   generation = shows.generation;
   entry = shows.entry;
+  slots = shows.slots;
   pages = record { count = shows.pages.count; kinds = shows.pages.kinds; movers = shows.pages.movers; order = shows.pages.order; holds = shows.pages.holds; zeros = shows.pages.zeros };
   sealed = record { images = shows.sealed.images; versions = shows.sealed.versions; digests = shows.sealed.digests; stands_for = shows.sealed.stands_for; words = shows.sealed.words; pendings = shows.sealed.pendings };
   count = shows.count;

@@ -36,6 +36,7 @@ with_step old pages vid vcpu = record {
   phase = old.phase;
   generation = old.generation;
   entry = old.entry;
+  slots = old.slots;
   pages = pages;
   vcpus = with_item old.vcpus vid vcpu;
   sealer = old.sealer;
@@ -95,7 +96,7 @@ is_at old vid vcpu below there = there ∙ get_or_default old.vcpus.items vid vc
 -- a guest of which a vCPU was read, and put back as it was
 pub same_guest : {S : Type 0} (old : Guest S) (vid : ℕ) (vcpu : Vcpu) → vcpu ≡ get_or old.vcpus.items vid vcpu → SameGuest old (with_step old old.pages vid vcpu)
 same_guest old vid vcpu there = record {
-  rest = record { lpid = refl; shift = refl; normal = refl; secure = refl; phase = refl; generation = refl; entry = refl; pages = refl; sealer = refl };
+  rest = record { lpid = refl; shift = refl; normal = refl; secure = refl; phase = refl; generation = refl; entry = refl; slots = refl; pages = refl; sealer = refl };
   vcpus = ap (slice_set old.vcpus.items vid) there ∙ set-get_or old.vcpus.items vid vcpu;
 }
 
@@ -114,16 +115,17 @@ module _ {S : Type 0} (stands : S → Tag → List ℕ → List ℕ → Type 0) 
   shows_own = shows.vcpus vid (subst (λ (n : ℕ). vid < n) shows.count below)
 
   -- the guest a step later, once its pages and its vCPU are those of the model's guest
-  pub shows_step : {clean : Bool} (part : GuestPart) (content : ℕ → ℕ) (pages : PagesState FrameState) (vcpu : Vcpu) (regs : Regs) → part.phase ≡ g.part.phase → part.generation ≡ g.part.generation → part.entry ≡ g.part.entry →
+  pub shows_step : {clean : Bool} (part : GuestPart) (content : ℕ → ℕ) (pages : PagesState FrameState) (vcpu : Vcpu) (regs : Regs) → part.phase ≡ g.part.phase → part.generation ≡ g.part.generation → part.entry ≡ g.part.entry → part.slots ≡ g.part.slots →
       ((n : ℕ) → n ≢ vid → part.vcpus n ≡ g.part.vcpus n) → ShowsVcpu vcpu (part.vcpus vid) regs → ShowsPages plan pages (record g { part = part; content = content }) →
       ShowsSealed stands image plan (with_step old pages vid vcpu) (stepped g vid part content regs clean) →
       Shows stands image plan (with_step old pages vid vcpu) (stepped g vid part content regs clean)
-  shows_step part content pages vcpu regs phase generation entry others own shows_pages shows_sealed = record {
+  shows_step part content pages vcpu regs phase generation entry slots others own shows_pages shows_sealed = record {
     shift = shows.shift;
     normal = shows.normal;
     phase = shows.phase ∙ sym phase;
     generation = shows.generation ∙ sym generation;
     entry = subst (ShowsEntry old.entry) (sym entry) shows.entry;
+    slots = shows.slots ∙ sym slots;
     pages = record { count = shows_pages.count; kinds = shows_pages.kinds; movers = shows_pages.movers; order = shows_pages.order; holds = shows_pages.holds; zeros = shows_pages.zeros };
     sealed = shows_sealed;
     count = length-set old.vcpus.items vid vcpu ∙ shows.count;
@@ -153,7 +155,7 @@ module _ {S : Type 0} (stands : S → Tag → List ℕ → List ℕ → Type 0) 
   shows_vcpu : {clean : Bool} (vcpus : ℕ → VcpuPart) (vcpu : Vcpu) (regs : Regs) → ((n : ℕ) → n ≢ vid → vcpus n ≡ g.part.vcpus n) → ShowsVcpu vcpu (vcpus vid) regs →
       Shows stands image plan (with_step old old.pages vid vcpu) (stepped g vid (record g.part { vcpus = vcpus }) g.content regs clean)
   shows_vcpu vcpus vcpu regs others own =
-      shows_step (record g.part { vcpus = vcpus }) g.content old.pages vcpu regs refl refl refl others own
+      shows_step (record g.part { vcpus = vcpus }) g.content old.pages vcpu regs refl refl refl refl others own
       (record { count = shows.pages.count; kinds = shows.pages.kinds; movers = shows.pages.movers; order = shows.pages.order; holds = shows.pages.holds; zeros = shows.pages.zeros })
       (record { images = shows.sealed.images; versions = shows.sealed.versions; digests = shows.sealed.digests; stands_for = shows.sealed.stands_for; words = shows.sealed.words; pendings = shows.sealed.pendings })
 

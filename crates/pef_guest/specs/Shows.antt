@@ -114,6 +114,7 @@ module _ {S : Type 0} (stands : S → Tag → List ℕ → List ℕ → Type 0) 
     pub phase : guest.phase ≡ g.part.phase
     pub generation : guest.generation ≡ g.part.generation
     pub entry : ShowsEntry guest.entry g.part.entry
+    pub slots : guest.slots ≡ g.part.slots
     pub pages : ShowsPages plan guest.pages g
     pub sealed : ShowsSealed plan guest g
     pub count : length guest.vcpus.items ≡ plan.vcpus

@@ -6,6 +6,7 @@ use Rattle.pef_model.specs.declared.state.Ctx.TheVariants as ctx
 use Rattle.pef_model.specs.declared.entry.Answer.TheVariants as answer
 use Rattle.pef_model.specs.Plan.{plan_of}
 use Rattle.pef_model.specs.Registers.{zero_registers, fresh_registers}
+use Rattle.pef_model.specs.Slots.{start_slots}
 use Rattle.pef_model.specs.GuestPart.{start_phase, start_state}
 use Rattle.pef_pate.specs.declared.pate.Pate.{Pate}
 use Rattle.pef_pages.specs.Pages.{invalid_pages}
@@ -40,6 +41,7 @@ pub record IsStartGuest {S : Type 0} (config : Config) (lpid : ℕ) (sealer : S)
   pub phase : guest.phase ≡ start_phase ((plan_of config).is_born lpid)
   pub generation : guest.generation ≡ 1
   pub entry : guest.entry ≡ no_pate
+  pub slots : guest.slots ≡ start_slots (plan_of config) ((plan_of config).is_born lpid)
   pub pages : guest.pages ≡ invalid_pages config.pages
   pub vcpus : guest.vcpus.items ≡ replicate config.vcpus (start_vcpu (start_state ((plan_of config).is_born lpid)))
   pub sealer_is : guest.sealer ≡ sealer

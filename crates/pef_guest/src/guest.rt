@@ -4,9 +4,11 @@ ghost use Rattle.std.specs.Prelude.{◌≡◌, ◌-◌, ◌^◌, ◌<◌, ◌≤
 ghost use Rattle.pef_model.specs.Plan.{IsInRange, IsWithin, plan_of};
 ghost use Rattle.pef_model.specs.Deed.{may_return_in};
 ghost use Rattle.pef_model.specs.Entry.{may_write_in, may_enter_in};
+ghost use Rattle.pef_model.specs.SlotCalls.{may_change_slots_in};
 ghost use Rattle.pef_guest.specs.Ready.{may_run_in};
 ghost use Rattle.pef_guest.specs.Life.{IsSet};
 ghost use Rattle.pef_model.specs.GuestPart.{start_state};
+ghost use Rattle.pef_model.specs.Slots.{start_slots};
 ghost use Rattle.pef_guest.specs.Start.{start_vcpu, IsStartGuest};
 ghost use Rattle.pef_guest.specs.Whole.{IsWhole};
 
@@ -16,6 +18,7 @@ use pef_model::{Config, Phase, VState};
 use pef_pages::Pages;
 use pef_pate::Pate;
 use pef_seal::Seal;
+use pef_slots::Slots;
 use std::alloc::{AllocError, Global};
 
 /// A guest. Its fields are public, so that a step can borrow two of them at once.
@@ -35,6 +38,8 @@ pub struct Guest<S: Seal> {
     pub generation: u64,
     /// Which normal frames its pages have, where it is in normal memory.
     pub entry: Pate,
+    /// Its memory slots: a secure guest has the pages that lie in one.
+    pub slots: Slots,
     /// Its private memory.
     pub pages: Pages<SecFrame>,
     pub vcpus: Vec<Vcpu>,
@@ -51,9 +56,22 @@ fn is_born(config: &Config, lpid: u16) -> bool
     config.born.as_slice().iter().any(|born| *born == lpid)
 }
 
+/// The memory slots with which a guest begins: slot 0 over all its pages where it is born secure, and else none.
+fn first_slots(alloc: Global, config: &Config, born: bool) -> Result<Slots, AllocError>
+    requires { 0 < config.now.pages }
+    ensures { IfOk result (λ slots. slots ≡ start_slots (plan_of config.now) born) }
+{
+    if born {
+        Slots::with_all(alloc, config.pages)
+    } else {
+        Slots::build(alloc)
+    }
+}
+
 impl<S: Seal> Guest<S> {
     /// A guest of a configuration, by its number from 1, with its sealer, as it begins. One that is born secure is Secure,
-    /// with Fresh vCPUs; every other is Absent, with Idle ones. Refused where the memory is not to be had.
+    /// with Fresh vCPUs and slot 0 over all its pages; every other is Absent, with Idle vCPUs and no slot. Refused where the
+    /// memory is not to be had.
     pub fn build(
         alloc: Global,
         config: &Config,
@@ -66,7 +84,9 @@ impl<S: Seal> Guest<S> {
         ensures whole { IfOk result (IsWhole S.takes) }
     {
         let pages = Pages::build(alloc, config.pages)?;
-        let (phase, state) = if is_born(config, lpid) {
+        let born = is_born(config, lpid);
+        let slots = first_slots(alloc, config, born)?;
+        let (phase, state) = if born {
             (Phase::Secure, VState::Fresh)
         } else {
             (Phase::Absent, VState::Idle)
@@ -80,6 +100,7 @@ impl<S: Seal> Guest<S> {
             phase,
             generation: 1,
             entry: Pate { dw0: 0, dw1: 0 },
+            slots,
             pages,
             vcpus,
             sealer,
@@ -128,6 +149,16 @@ impl<S: Seal> Guest<S> {
         self.phase = Phase::Absent;
         self.generation += 1;
         self.vcpus.fill(Vcpu::new(VState::Idle));
+    }
+
+    /// Whether its memory slots may be changed: it is secure, or on the way to it.
+    pub fn may_change_slots(&self) -> bool
+        ensures { result ≡ may_change_slots_in self.now.phase }
+    {
+        match self.phase {
+            Phase::Starting | Phase::Secure => true,
+            Phase::Absent | Phase::Normal | Phase::Aborting => false,
+        }
     }
 
     /// Whether UV_RETURN may take up one of its vCPUs.

@@ -5,7 +5,10 @@ ghost use Rattle.pef_model.specs.Registers.{with_call, loaded, with_code, number
 ghost use Rattle.pef_model.specs.Guest.{at_next_instruction, entered_at};
 ghost use Rattle.pef_guest.specs.Loads.{LoadsCall};
 
-use pef_model::{Cmd, Code, Reg, Regs, UV_PAGE_IN, UV_PAGE_OUT, UV_RETURN, UV_WRITE_PATE};
+use pef_model::{
+    Cmd, Code, Reg, Regs, UV_PAGE_IN, UV_PAGE_OUT, UV_REGISTER_MEM_SLOT, UV_RETURN,
+    UV_UNREGISTER_MEM_SLOT, UV_WRITE_PATE,
+};
 
 /// Loads what the caller of an ultracall loads: the call's number into R3, and its operands into R4 and the registers after it;
 /// UV_RETURN alone has two values more, in R0 and R2. A command that is no ultracall loads nothing.
@@ -17,6 +20,18 @@ pub fn load(gpr: &mut [u64; 32], cmd: &Cmd)
     cmd.numbers_fit();
     match cmd {
         Cmd::UPate { lpid, dw0, dw1 } => put(gpr, UV_WRITE_PATE, &[*lpid, *dw0, *dw1]),
+        Cmd::URegslot {
+            lpid,
+            start,
+            size,
+            flags,
+            id,
+        } => put(
+            gpr,
+            UV_REGISTER_MEM_SLOT,
+            &[*lpid, *start, *size, *flags, *id],
+        ),
+        Cmd::UUnregslot { lpid, id } => put(gpr, UV_UNREGISTER_MEM_SLOT, &[*lpid, *id]),
         Cmd::UPagein {
             lpid,
             src,

@@ -5,8 +5,9 @@ use Rattle.std.proofs.lemmas.List.Elements.{All-append, All-filter}
 use Rattle.std.proofs.lemmas.List.Kept.{AllPairs-filter}
 use Rattle.std.proofs.lemmas.List.Quantifiers.{all_pairs_push}
 use Rattle.std.proofs.lemmas.List.Sums.{length-filter, count_by-le-length}
-use Rattle.pef_slots.specs.declared.slot.Slot.{Slot}
-use Rattle.pef_slots.specs.Slots.{has, has_any, AreApart, AreSlots, is_size, checked, without}
+use Rattle.pef_model.specs.declared.state.Slot.{Slot}
+use Rattle.pef_model.specs.Slots.{has, has_any, without, AreApart, AreSlots}
+use Rattle.pef_slots.specs.Slots.{is_size, checked}
 use Rattle.pef_slots.proofs.Runs.{any_meets, whole}
 use Rattle.pef_slots.proofs.Checked.{accepted}
 use Rattle.pef_slots.proofs.Found.{none_at}
@@ -32,9 +33,18 @@ filled shift pages first size is = by (size / 2 ^ shift) refl
     by (suc n) more = rw more (omega arith)
 
 -- what holds of a slot holds of each in a list of it alone
-alone : (P : Slot → Type 0) (slot : Slot) → P slot → All P (slot ∷ [])
-alone P slot holds zero d below = holds
-alone P slot holds (suc k) d below = absurd (omega (arith, below))
+holds_alone : (P : Slot → Type 0) (slot : Slot) → P slot → All P (slot ∷ [])
+holds_alone P slot holds zero d below = holds
+holds_alone P slot holds (suc k) d below = absurd (omega (arith, below))
+
+-- one alone
+pub alone : (slot : Slot) → 0 < slot.count → slot.id < 2 ^ 16 → AreSlots (slot ∷ [])
+alone slot some fits = record {
+  few = omega arith;
+  filled = holds_alone (λ s. 0 < s.count) slot some;
+  ids = holds_alone (λ s. s.id < 2 ^ 16) slot fits;
+  apart = λ i j d before below. absurd (omega (arith, before, below));
+}
 
 -- one that is accepted joins
 pub joined : (shift pages : ℕ) (slots : List Slot) (start size flags id : ℕ) (slot : Slot) → AreSlots slots → checked shift pages slots start size flags id ≡ Ok slot → AreSlots (slots ++ slot ∷ [])
@@ -45,8 +55,8 @@ joined shift pages slots start size flags id slot are h =
     let count_is : slot.count ≡ size / 2 ^ shift = ap (λ s. s.count) ok.slot_is in
     record {
       few = omega (arith, length-append slots (slot ∷ []), ok.room);
-      filled = All-append (λ s. 0 < s.count) slots (slot ∷ []) are.filled (alone (λ s. 0 < s.count) slot (rw count_is (filled shift pages (start / 2 ^ shift) size ok.size_is)));
-      ids = All-append (λ s. s.id < 2 ^ 16) slots (slot ∷ []) are.ids (alone (λ s. s.id < 2 ^ 16) slot (rw id_is ok.fits));
+      filled = All-append (λ s. 0 < s.count) slots (slot ∷ []) are.filled (holds_alone (λ s. 0 < s.count) slot (rw count_is (filled shift pages (start / 2 ^ shift) size ok.size_is)));
+      ids = All-append (λ s. s.id < 2 ^ 16) slots (slot ∷ []) are.ids (holds_alone (λ s. s.id < 2 ^ 16) slot (rw id_is ok.fits));
       apart = all_pairs_push AreApart slots slot are.apart (λ k d below. record {
         ids =
             let new = none_at (λ other. id == other.id) slots k d ok.new below in

@@ -1,18 +1,18 @@
 -- What is known of a slot that is accepted.
-use Rattle.std.proofs.Common.{◌≡◌, ℕ, ◌/◌, ◌^◌, ◌<◌, ◌==◌, nat_le, Bool, true, false, not, if◌then◌else◌, List, length, Ok, Err, refl, sym, arith}
+use Rattle.std.proofs.Common.{◌≡◌, ℕ, ◌/◌, ◌^◌, ◌<◌, nat_le, Bool, true, false, not, if◌then◌else◌, List, length, Ok, Err, refl, sym, arith}
 use Rattle.std.specs.Prelude.{Result}
-use Rattle.std.specs.List.{list_any}
 use Rattle.std.proofs.lemmas.Bool.Decides.{nat_tests}
-use Rattle.pef_slots.specs.declared.slot.Slot.{Slot}
-use Rattle.pef_slots.specs.Slots.{has_any, is_start, is_size, checked}
+use Rattle.pef_model.specs.declared.state.Slot.{Slot}
+use Rattle.pef_model.specs.Slots.{has_id, meets_slots}
+use Rattle.pef_slots.specs.Slots.{is_start, is_size, checked}
 
 -- nothing is wrong with it
 pub record IsAccepted (shift pages : ℕ) (slots : List Slot) (start size flags id : ℕ) (slot : Slot) : Type 0 where
   pub start_is : is_start shift pages start ≡ true
   pub size_is : is_size shift pages (start / 2 ^ shift) size ≡ true
-  pub free : list_any (λ other. has_any other (start / 2 ^ shift) (size / 2 ^ shift)) slots ≡ false
+  pub free : meets_slots slots (start / 2 ^ shift) (size / 2 ^ shift) ≡ false
   pub fits : id < 2 ^ 16
-  pub new : list_any (λ other. id == other.id) slots ≡ false
+  pub new : has_id slots id ≡ false
   pub room : length slots < 32
   pub slot_is : slot ≡ record { id = id; first = start / 2 ^ shift; count = size / 2 ^ shift }
 

@@ -1,9 +1,12 @@
 -- What a search for an id finds.
 use Rattle.std.proofs.Common.{◌≡◌, ℕ, ◌<◌, ◌≤◌, ◌^◌, ◌==◌, Bool, true, false, cond, List, [], ◌∷◌, All, Option, Some, None, is_some, refl, sym, ap, ◌∙◌, arith, get_or, length, ◌||◌, true≢false}
 use Rattle.std.specs.List.{find, list_any}
+use Rattle.std.specs.Option.{option_map}
 use Rattle.std.proofs.lemmas.List.Folds.{list_any_at, list_any_none}
 use Rattle.std.proofs.lemmas.Bool.Decides.{nat_tests}
-use Rattle.pef_slots.specs.declared.slot.Slot.{Slot}
+use Rattle.pef_model.specs.declared.state.Slot.{Slot}
+use Rattle.pef_model.specs.Slots.{has, has_slot}
+use Rattle.pef_slots.specs.Slots.{slot_at}
 
 -- one of two, and it is the one that passes or comes from the rest
 pick : {X : Type 0} (test : X → Bool) (b : Bool) (x y : X) (rest : Option X) → test x ≡ b → (rest ≡ Some y → test y ≡ true) → cond b (Some x) rest ≡ Some y → test y ≡ true
@@ -27,6 +30,15 @@ first false rest x o same = same
 pub is_some-found : {X : Type 0} (test : X → Bool) (xs : List X) → is_some (find test xs) ≡ list_any test xs
 is_some-found test [] = refl
 is_some-found test (x ∷ xs) = first (test x) (list_any test xs) x (find test xs) (is_some-found test xs)
+
+-- what is found may be made into something else
+mapped : {X Y : Type 0} (f : X → Y) (o : Option X) → is_some (option_map f o) ≡ is_some o
+mapped f None = refl
+mapped f (Some x) = refl
+
+-- a slot's id is found exactly where one of the slots has the page
+pub is_some_slot_at : (slots : List Slot) (gfn : ℕ) → is_some (slot_at slots gfn) ≡ has_slot slots gfn
+is_some_slot_at slots gfn = mapped (λ slot. slot.id) (find (λ slot. has slot gfn) slots) ∙ is_some-found (λ slot. has slot gfn) slots
 
 nothing : {X : Type 0} (o : Option X) → is_some o ≡ false → o ≡ None
 nothing None nobody = refl
@@ -56,7 +68,7 @@ pub above : (slots : List Slot) (id : ℕ) → All (λ slot. slot.id < 2 ^ 16) s
 above slots id ids large = all_fail (λ slot. id == slot.id) slots (λ k d below. grind (arith, nat_tests, ids k d below, large))
 
 -- the slot with an id has it
-pub has_id : (slots : List Slot) (id : ℕ) (slot : Slot) → find (λ slot. id == slot.id) slots ≡ Some slot → slot.id ≡ id
-has_id slots id slot found =
+pub its_id : (slots : List Slot) (id : ℕ) (slot : Slot) → find (λ slot. id == slot.id) slots ≡ Some slot → slot.id ≡ id
+its_id slots id slot found =
     let is : (id == slot.id) ≡ true = passes (λ slot. id == slot.id) slots slot found in
     grind (arith, nat_tests, is)

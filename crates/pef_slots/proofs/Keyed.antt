@@ -1,12 +1,12 @@
 -- A map's entries are the slots with their ids.
-use Rattle.std.proofs.Common.{◌≡◌, ℕ, ◌==◌, nat_eq, Bool, true, false, cond, not, List, [], ◌∷◌, ◌++◌, map, filter, Some, None, is_some, refl, sym, ap, ◌∙◌}
-use Rattle.std.specs.List.{find, list_any}
+use Rattle.std.proofs.Common.{◌≡◌, ℕ, ◌==◌, nat_eq, Bool, true, false, cond, not, List, [], ◌∷◌, ◌++◌, map, filter, Some, is_some, refl, sym, ap, ◌∙◌}
+use Rattle.std.specs.List.{find}
 use Rattle.std.specs.Map.{lookup, values_of}
 use Rattle.std.proofs.lemmas.List.{map-append}
-use Rattle.pef_slots.specs.declared.slot.Slot.{Slot}
-use Rattle.pef_slots.specs.Slots.{without}
+use Rattle.pef_model.specs.declared.state.Slot.{Slot}
+use Rattle.pef_model.specs.Slots.{has_id, without}
 use Rattle.pef_slots.specs.Keyed.{keyed}
-use Rattle.pef_slots.proofs.Found.{is_some-found, none_found}
+use Rattle.pef_slots.proofs.Found.{is_some-found}
 
 -- their values are the slots
 pub values-keyed : (slots : List Slot) → values_of (keyed slots) ≡ slots
@@ -29,12 +29,8 @@ filter-keyed [] id = refl
 filter-keyed (slot ∷ slots) id = either (λ (s : Slot). (s.id, s)) (not (id == slot.id)) slot (without slots id) _ (filter-keyed slots id)
 
 -- it finds one exactly where a slot has the id
-pub is_some-keyed : (slots : List Slot) (id : ℕ) → is_some (lookup (nat_eq id) (keyed slots)) ≡ list_any (λ slot. id == slot.id) slots
+pub is_some-keyed : (slots : List Slot) (id : ℕ) → is_some (lookup (nat_eq id) (keyed slots)) ≡ has_id slots id
 is_some-keyed slots id = ap is_some (lookup-keyed slots id) ∙ is_some-found (λ slot. id == slot.id) slots
-
--- where none has it a look-up finds none
-pub absent-keyed : (slots : List Slot) (id : ℕ) → list_any (λ slot. id == slot.id) slots ≡ false → lookup (nat_eq id) (keyed slots) ≡ None
-absent-keyed slots id nobody = lookup-keyed slots id ∙ none_found (λ slot. id == slot.id) slots nobody
 
 module _ (es more : List (ℕ × Slot)) (slot : Slot) (put : more ≡ es ++ (slot.id, slot) ∷ []) where
   -- one more entry is one more slot

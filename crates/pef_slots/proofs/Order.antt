@@ -8,9 +8,10 @@ use Rattle.std.proofs.lemmas.List.{append-nil, get_or_append_left, get_or-append
 use Rattle.std.proofs.lemmas.List.Elements.{filter-append}
 use Rattle.std.proofs.lemmas.List.Folds.{find-append}
 use Rattle.std.proofs.lemmas.Option.{get_or_from_slice_get, slice_get_within}
-use Rattle.pef_slots.specs.declared.slot.Slot.{Slot}
+use Rattle.pef_model.specs.declared.state.Slot.{Slot}
+use Rattle.pef_model.specs.Slots.{without, AreApart, AreSlots}
 use Rattle.pef_slots.specs.declared.slot.SlotFault.TheVariants.{NoSlot}
-use Rattle.pef_slots.specs.Slots.{AreApart, AreSlots, found, without}
+use Rattle.pef_slots.specs.Slots.{found}
 use Rattle.pef_slots.specs.SlotsLaw.{PageHasOneSlot, RegisteredComesOut}
 use Rattle.pef_slots.proofs.Apart.{joined}
 use Rattle.pef_slots.proofs.Checked.{accepted}
@@ -46,7 +47,11 @@ module _ (front back : List Slot) (slot : Slot) (are : AreSlots (front ++ slot �
       let there = get_or-append-add front (slot ∷ back) 0 d in
       apart.ids (ap (λ s. s.id) here ∙ sym same ∙ ap (λ s. s.id) (sym there))
 
-  -- and each behind it
+  -- so none of them is found by its id
+  pub none_before : find (λ other. slot.id == other.id) front ≡ None
+  none_before = all_fail (λ other. slot.id == other.id) front (λ k d below. grind (arith, nat_tests, before k d below))
+
+  -- and each behind it has another
   behind : All (λ other. slot.id ≢ other.id) back
   behind k d below same =
       let apart = are.apart (length front + 0) (length front + suc k) d (omega arith) (omega (arith, length-append front (slot ∷ back), below)) in
@@ -62,14 +67,13 @@ module _ (front back : List Slot) (slot : Slot) (are : AreSlots (front ++ slot �
       ∙ ap (λ rest. rest ++ without back slot.id) (all_stay front slot.id before)
       ∙ ap (λ rest. front ++ rest) (all_stay back slot.id behind)
 
--- the last is found where no other has its id
-found_last : (slots : List Slot) (slot : Slot) → All (λ other. slot.id ≢ other.id) slots → found (slots ++ slot ∷ []) slot.id ≡ Ok slot
-found_last slots slot others =
-    let first : find (λ other. slot.id == other.id) slots ≡ None = all_fail (λ other. slot.id == other.id) slots (λ k d below. grind (arith, nat_tests, others k d below)) in
+-- the last is found by its id
+found_last : (slots : List Slot) (slot : Slot) → AreSlots (slots ++ slot ∷ []) → found (slots ++ slot ∷ []) slot.id ≡ Ok slot
+found_last slots slot are =
     let has_it : (slot.id == slot.id) ≡ true = grind (arith, nat_tests) in
     ap (λ o. ok_or o NoSlot) (
     find-append (λ other. slot.id == other.id) slots (slot ∷ [])
-    ∙ ap (λ o. option_or o (cond (slot.id == slot.id) (Some slot) None)) first
+    ∙ ap (λ o. option_or o (cond (slot.id == slot.id) (Some slot) None)) (none_before slots [] slot are)
     ∙ ap (λ b. option_or None (cond b (Some slot) None)) has_it
     )
 
@@ -78,6 +82,6 @@ comes_out shift pages slots start size flags id slot are h =
     let ok = accepted shift pages slots start size flags id slot h in
     let id_is : slot.id ≡ id = ap (λ s. s.id) ok.slot_is in
     let all = joined shift pages slots start size flags id slot are h in
-    let last = found_last slots slot (before slots [] slot all) in
+    let last = found_last slots slot all in
     let rest = keep_order slots [] slot all ∙ append-nil slots in
     (ap (found (slots ++ slot ∷ [])) (sym id_is) ∙ last, ap (without (slots ++ slot ∷ [])) (sym id_is) ∙ rest)

@@ -1,13 +1,14 @@
 -- In which slot a page lies.
 use Rattle.std.proofs.Common.{◌≡◌, ℕ, ◌+◌, ◌-◌, ◌<◌, ◌≤◌, Bool, true, false, true≢false, List, get_or, Option, Some, None, is_some, refl, sym, ap, ◌∙◌, arith}
-use Rattle.std.specs.List.{find, list_any, slice_get, position_or_len, IsAmong, range_with_len}
+use Rattle.std.specs.List.{find, slice_get, position_or_len, IsAmong, range_with_len}
 use Rattle.std.specs.Option.{option_map}
 use Rattle.std.proofs.lemmas.List.{get_or_default}
 use Rattle.std.proofs.lemmas.List.Folds.{Any-from_list_any, list_any_at, find_at}
 use Rattle.std.proofs.lemmas.List.FromFn.{length-range_with_len, get_or-range_with_len}
 use Rattle.std.proofs.lemmas.Option.{get_or_from_slice_get, slice_get-get_or, slice_get_within}
-use Rattle.pef_slots.specs.declared.slot.Slot.{Slot}
-use Rattle.pef_slots.specs.Slots.{has, has_any, AreSlots, slot_at}
+use Rattle.pef_model.specs.declared.state.Slot.{Slot}
+use Rattle.pef_model.specs.Slots.{has, has_any, meets_slots, AreSlots}
+use Rattle.pef_slots.specs.Slots.{slot_at}
 use Rattle.pef_slots.specs.SlotsLaw.{PagesHaveTheirSlot, RunsMeetAtAPage}
 use Rattle.pef_slots.proofs.Found.{passes, each_fails, all_fail}
 use Rattle.pef_slots.proofs.Order.{one_slot}
@@ -67,7 +68,7 @@ have_their_slot slots gfn are = record {
 pub meet_at_a_page : RunsMeetAtAPage
 meet_at_a_page slots first count = (meets, met)
   where
-    meets : list_any (λ slot. has_any slot first count) slots ≡ true → (gfn : ℕ) × (slot : Slot) × (first ≤ gfn) × (gfn < first + count) × IsAmong slots slot × (has slot gfn ≡ true)
+    meets : meets_slots slots first count ≡ true → (gfn : ℕ) × (slot : Slot) × (first ≤ gfn) × (gfn < first + count) × IsAmong slots slot × (has slot gfn ≡ true)
     meets any =
         let at = Any-from_list_any (λ slot. has_any slot first count) slots any in
         let page = Any-from_list_any (has at.1) (range_with_len first count) at.4 in
@@ -75,7 +76,7 @@ meet_at_a_page slots first count = (meets, met)
         let is : first + page.0 ≡ page.1 = sym (get_or-range_with_len first count page.0 page.1 below) ∙ page.3 in
         (page.1, at.1, omega (arith, is), omega (arith, is, below), (at.0, (at.2, sym at.3)), page.4)
 
-    met : ((gfn : ℕ) × (slot : Slot) × (first ≤ gfn) × (gfn < first + count) × IsAmong slots slot × (has slot gfn ≡ true)) → list_any (λ slot. has_any slot first count) slots ≡ true
+    met : ((gfn : ℕ) × (slot : Slot) × (first ≤ gfn) × (gfn < first + count) × IsAmong slots slot × (has slot gfn ≡ true)) → meets_slots slots first count ≡ true
     met at =
         let gfn = at.0 in
         let slot = at.1 in

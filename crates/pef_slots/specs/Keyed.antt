@@ -1,6 +1,6 @@
 -- How a map has the slots.
 use Rattle.std.specs.Prelude.{ℕ, List, map}
-use Rattle.pef_slots.specs.declared.slot.Slot.{Slot}
+use Rattle.pef_model.specs.declared.state.Slot.{Slot}
 
 -- each slot with its id
 abbrev pub keyed : List Slot → List (ℕ × Slot)

@@ -1,30 +1,11 @@
--- A guest's memory slots, in the order in which they were registered.
-use Rattle.std.specs.Prelude.{◌≡◌, ◌≢◌, ℕ, ◌+◌, ◌/◌, ◌%◌, ◌^◌, ◌<◌, ◌≤◌, ◌==◌, nat_lt, nat_le, Bool, true, not, ◌&&◌, if◌then◌else◌, List, [], ◌∷◌, ◌++◌, length, filter, All, AllPairs, Option, Result, Ok, Err}
-use Rattle.std.specs.List.{find, list_any, range_with_len}
+-- What the calls about a guest's memory slots do.
+use Rattle.std.specs.Prelude.{ℕ, ◌+◌, ◌/◌, ◌%◌, ◌^◌, ◌==◌, nat_lt, nat_le, Bool, not, ◌&&◌, if◌then◌else◌, List, [], ◌∷◌, ◌++◌, length, Option, Result, Ok, Err}
+use Rattle.std.specs.List.{find}
 use Rattle.std.specs.Option.{option_map, ok_or}
-use Rattle.pef_slots.specs.declared.slot.Slot.{Slot}
+use Rattle.pef_model.specs.declared.state.Slot.{Slot}
+use Rattle.pef_model.specs.Slots.{has, has_id, meets_slots}
 use Rattle.pef_slots.specs.declared.slot.SlotFault.{SlotFault}
 use Rattle.pef_slots.specs.declared.slot.SlotFault.TheVariants.{BadStart, BadSize, Overlap, BadFlags, IdOutOfRange, IdTaken, Full, NoSlot}
-
--- whether a page lies in a slot
-abbrev pub has : Slot → ℕ → Bool
-has slot gfn = nat_le slot.first gfn && nat_lt gfn (slot.first + slot.count)
-
--- whether one of so many pages, from a first one on, lies in a slot
-abbrev pub has_any : Slot → ℕ → ℕ → Bool
-has_any slot first count = list_any (has slot) (range_with_len first count)
-
--- two slots have two ids, and no page lies in both
-pub record AreApart (slot other : Slot) : Type 0 where
-  pub ids : slot.id ≢ other.id
-  pub pages : (gfn : ℕ) → has slot gfn ≡ true → has other gfn ≡ true → ⊥
-
--- at most 32 slots, none of them empty, each two apart, and the ids have 16 bits
-pub record AreSlots (slots : List Slot) : Type 0 where
-  pub few : length slots ≤ 32
-  pub filled : All (λ slot. 0 < slot.count) slots
-  pub ids : All (λ slot. slot.id < 2 ^ 16) slots
-  pub apart : AllPairs AreApart slots
 
 -- a start is the address of one of the guest's pages
 abbrev pub is_start : ℕ → ℕ → ℕ → Bool
@@ -39,10 +20,10 @@ abbrev pub checked : ℕ → ℕ → List Slot → ℕ → ℕ → ℕ → ℕ �
 checked shift pages slots start size flags id =
     if not (is_start shift pages start) then Err BadStart
     else if not (is_size shift pages (start / 2 ^ shift) size) then Err BadSize
-    else if list_any (λ slot. has_any slot (start / 2 ^ shift) (size / 2 ^ shift)) slots then Err Overlap
+    else if meets_slots slots (start / 2 ^ shift) (size / 2 ^ shift) then Err Overlap
     else if not (flags == 0) then Err BadFlags
     else if nat_le (2 ^ 16) id then Err IdOutOfRange
-    else if list_any (λ slot. id == slot.id) slots then Err IdTaken
+    else if has_id slots id then Err IdTaken
     else if nat_le 32 (length slots) then Err Full
     else Ok (record { id = id; first = start / 2 ^ shift; count = size / 2 ^ shift })
 
@@ -59,10 +40,6 @@ registered slots (Err fault) = slots
 -- the slot with an id, or that there is none
 abbrev pub found : List Slot → ℕ → Result Slot SlotFault
 found slots id = ok_or (find (λ slot. id == slot.id) slots) NoSlot
-
--- the slots without the one with an id, in their order
-abbrev pub without : List Slot → ℕ → List Slot
-without slots id = filter (λ slot. not (id == slot.id)) slots
 
 -- the id of the slot that has a page
 abbrev pub slot_at : List Slot → ℕ → Option ℕ

@@ -1,8 +1,9 @@
 -- Laws of slots that come and go.
 use Rattle.std.specs.Prelude.{◌≡◌, ℕ, ◌+◌, ◌/◌, ◌^◌, ◌<◌, ◌≤◌, ◌↔◌, true, false, List, [], ◌∷◌, ◌++◌, slice_get, Some, None, Ok}
-use Rattle.std.specs.List.{IsAmong, list_any}
-use Rattle.pef_slots.specs.declared.slot.Slot.{Slot}
-use Rattle.pef_slots.specs.Slots.{has, has_any, AreSlots, checked, found, without, slot_at}
+use Rattle.std.specs.List.{IsAmong}
+use Rattle.pef_model.specs.declared.state.Slot.{Slot}
+use Rattle.pef_model.specs.Slots.{has, meets_slots, without, AreSlots}
+use Rattle.pef_slots.specs.Slots.{checked, found, slot_at}
 
 -- where an accepted slot joins, each two are apart as before
 abbrev pub AcceptedStayApart : Type 0
@@ -41,7 +42,7 @@ PagesHaveTheirSlot = (slots : List Slot) (gfn : ℕ) → AreSlots slots → HasI
 -- a run of pages meets the slots exactly where one of its pages lies in one of them
 abbrev pub RunsMeetAtAPage : Type 0
 RunsMeetAtAPage =
-    (slots : List Slot) (first count : ℕ) → (list_any (λ slot. has_any slot first count) slots ≡ true)
+    (slots : List Slot) (first count : ℕ) → (meets_slots slots first count ≡ true)
     ↔ ((gfn : ℕ) × (slot : Slot) × (first ≤ gfn) × (gfn < first + count) × IsAmong slots slot × (has slot gfn ≡ true))
 
 -- an accepted slot has the page of each byte from the start on, as many bytes as the size, and no other page

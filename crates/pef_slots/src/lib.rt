@@ -9,5 +9,6 @@ mod slots;
 #[cfg(test)]
 mod tests;
 
-pub use slot::{Slot, SlotFault};
+pub use pef_model::Slot;
+pub use slot::SlotFault;
 pub use slots::Slots;

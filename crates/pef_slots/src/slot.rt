@@ -1,18 +1,9 @@
-//! A memory slot, and why a call about one is refused.
+//! Which pages lie in a memory slot, and why a call about one is refused.
 
-ghost use Rattle.std.specs.Prelude.{◌≡◌, ◌<◌, ◌+◌, ◌^◌, ◌≤◌};
-ghost use Rattle.pef_slots.specs.Slots.{has, has_any};
+ghost use Rattle.std.specs.Prelude.{◌≡◌, ◌<◌, ◌+◌, ◌≤◌};
+ghost use Rattle.pef_model.specs.Slots.{has, has_any};
 
-/// A run of pages that a guest may have.
-#[derive(Clone, Copy, Debug, PartialEq, Eq)]
-pub struct Slot {
-    /// Its number among the guest's slots, which whoever registers it chooses.
-    pub id: u16,
-    /// The number of its first page.
-    pub first: u32,
-    /// How many pages it has.
-    pub count: u32,
-}
+use pef_model::Slot;
 
 /// Why a call is refused. That an overlap is refused, the order of the causes, ids of 16 bits and the limit of 32 slots are this
 /// project's own.
@@ -36,21 +27,19 @@ pub enum SlotFault {
     NoSlot,
 }
 
-impl Slot {
-    /// Whether a page lies in the slot.
-    pub(crate) fn has(&self, gfn: u32) -> bool
-        ensures { result ≡ has self.now gfn }
-    {
-        gfn >= self.first && gfn - self.first < self.count
-    }
+/// Whether a page lies in a slot.
+pub(crate) fn has_page(slot: &Slot, gfn: u32) -> bool
+    ensures { result ≡ has slot.now gfn }
+{
+    gfn >= slot.first && gfn - slot.first < slot.count
+}
 
-    /// Whether one of so many pages, from a first one on, lies in the slot.
-    #[tactic(auto, using(crate::proofs::Runs::any_meets))]
-    pub(crate) fn has_any(&self, first: u32, count: u32) -> bool
-        requires filled { 0 < self.now.count }
-        requires some { 0 < count }
-        ensures { result ≡ has_any self.now first count }
-    {
-        self.has(first) || (self.first >= first && self.first - first < count)
-    }
+/// Whether one of so many pages, from a first one on, lies in a slot.
+#[tactic(auto, using(crate::proofs::Runs::any_meets))]
+pub(crate) fn has_any_page(slot: &Slot, first: u32, count: u32) -> bool
+    requires filled { 0 < slot.now.count }
+    requires some { 0 < count }
+    ensures { result ≡ has_any slot.now first count }
+{
+    has_page(slot, first) || (slot.first >= first && slot.first - first < count)
 }

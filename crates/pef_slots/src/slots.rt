@@ -1,13 +1,15 @@
 //! Slots are registered, found by a page, and unregistered.
 
-ghost use Rattle.std.specs.Prelude.{◌≡◌, ◌<◌, ◌==◌, [], length, IfOk, OnOk, OnErr};
-ghost use Rattle.std.specs.List.{find, list_any};
+ghost use Rattle.std.specs.Prelude.{◌≡◌, ◌<◌, ◌==◌, [], ◌∷◌, ◌++◌, length, is_some, IfOk, OnOk, OnErr};
+ghost use Rattle.std.specs.List.{find};
 ghost use Rattle.pef_model.specs.Plan.{IsWithin};
-ghost use Rattle.pef_slots.specs.Slots.{AreSlots, has_any, checked, answered, registered, found, without, slot_at};
+ghost use Rattle.pef_model.specs.Slots.{AreSlots, has_id, has_slot, meets_slots, without};
+ghost use Rattle.pef_slots.specs.Slots.{checked, answered, registered, found, slot_at};
 
-use crate::slot::{Slot, SlotFault};
+use crate::slot::{SlotFault, has_any_page};
 use crate::{room, run};
 use indexmap::IndexMap;
+use pef_model::Slot;
 use std::alloc::{AllocError, Global};
 use std::marker::Model;
 use std::mem;
@@ -27,8 +29,8 @@ pub struct Slots {
 impl Model for Slots {
     ghost use Rattle.std.specs.Prelude.{◌≡◌, List, ◌≤◌, ◌+◌};
     ghost use Rattle.indexmap.specs.IndexMap.{values, spare, index_map_len, IsEmpty};
-    ghost use Rattle.pef_slots.specs.declared.slot.Slot.{Slot};
-    ghost use Rattle.pef_slots.specs.Slots.{AreSlots};
+    ghost use Rattle.pef_model.specs.declared.state.Slot.{Slot};
+    ghost use Rattle.pef_model.specs.Slots.{AreSlots};
     ghost use Rattle.pef_slots.specs.Keyed.{keyed};
 
     ghost Value = { List Slot };
@@ -54,6 +56,21 @@ impl Slots {
         Ok(Slots { map, other })
     }
 
+    /// Slot 0 over all of so many pages. The memory is that of `build`.
+    #[tactic(auto, using(crate::proofs::Apart::alone))]
+    pub fn with_all(alloc: Global, pages: u32) -> Result<Slots, AllocError>
+        requires { 0 < pages }
+        ensures { IfOk result (λ slots. slots ≡ record { id = 0; first = 0; count = pages } ∷ []) }
+    {
+        let mut slots = Slots::build(alloc)?;
+        slots.put(Slot {
+            id: 0,
+            first: 0,
+            count: pages,
+        });
+        Ok(slots)
+    }
+
     /// How many slots there are, 32 at most.
     pub fn len(&self) -> u8
         ensures len { result ≡ length self.now }
@@ -65,14 +82,13 @@ impl Slots {
     /// The id of the slot that has a page, by the page's number from 0.
     ///
     /// None exactly where no slot has it.
+    #[tactic(auto, using(crate::proofs::Found::is_some_slot_at))]
     pub fn slot_of(&self, gfn: u32) -> Option<u16>
         ensures slot { result ≡ slot_at self.now gfn }
+        ensures there { is_some result ≡ has_slot self.now gfn }
         ensures slots { AreSlots self.now }
     {
-        self.map
-            .values()
-            .find(|slot| slot.has(gfn))
-            .map(|slot| slot.id)
+        room::id_at(&self.map, gfn)
     }
 
     /// Takes all slots out.
@@ -104,11 +120,19 @@ impl Slots {
         ensures slots { self.new ≡ registered self.old (checked shift pages self.old start size flags id) }
     {
         let slot = self.check(start, size, flags, id, shift, pages)?;
-        self.map.insert(slot.id, slot).unwrap();
+        self.put(slot);
         Ok(())
     }
 
-    /// The slot that is asked for, or why it is refused.
+    /// Puts a slot last that is apart from each of the others. There is room for it.
+    fn put(&mut self, slot: Slot)
+        requires { AreSlots (self.old ++ slot ∷ []) }
+        ensures { self.new ≡ self.old ++ slot ∷ [] }
+    {
+        self.map.insert(slot.id, slot).unwrap();
+    }
+
+    /// The slot that is asked for, which may join the others, or why it is refused.
     fn check(
         &self,
         start: u64,
@@ -119,7 +143,8 @@ impl Slots {
         pages: u32,
     ) -> Result<Slot, SlotFault>
         requires { IsWithin 8 16 shift }
-        ensures { result ≡ checked shift pages self.now start size flags id }
+        ensures slot { result ≡ checked shift pages self.now start size flags id }
+        ensures joins { IfOk result (λ slot. AreSlots (self.now ++ slot ∷ [])) }
     {
         let first = run::first_of(start, shift, pages).ok_or(SlotFault::BadStart)?;
         let count = run::count_of(size, shift, first, pages).ok_or(SlotFault::BadSize)?;
@@ -142,14 +167,16 @@ impl Slots {
     /// Whether one of so many pages, from a first one on, lies in a slot.
     fn has_any(&self, first: u32, count: u32) -> bool
         requires { 0 < count }
-        ensures { result ≡ list_any (λ slot. has_any slot first count) self.now }
+        ensures { result ≡ meets_slots self.now first count }
     {
-        self.map.values().any(|slot| slot.has_any(first, count))
+        self.map
+            .values()
+            .any(|slot| has_any_page(slot, first, count))
     }
 
     /// Whether a slot has an id.
     fn has_id(&self, id: u16) -> bool
-        ensures { result ≡ list_any (λ slot. id == slot.id) self.now }
+        ensures { result ≡ has_id self.now id }
     {
         self.map.contains_key(&id)
     }

@@ -6,9 +6,9 @@ use std::test::Fail;
 
 #[test]
 fn two_pages_have_slots(rt: HostRuntime) -> Result<(), Fail> {
-    let mut slots = Slots::build(rt.alloc())?;
-    assert_eq!(rt; slots.register(0, 0x200, 0, 0, 8, 2), Ok(()));
+    let mut slots = Slots::with_all(rt.alloc(), 2)?;
     assert_eq!(rt; slots.slot_of(1), Some(0));
+    assert_eq!(rt; slots.slot_of(2), None);
     let whole = Slot {
         id: 0,
         first: 0,

@@ -1,6 +1,6 @@
-use Rattle.std.proofs.Common.{◌==◌, nat_eq, is_some, ap, ◌∙◌}
-use Rattle.std.specs.List.{list_any}
+use Rattle.std.proofs.Common.{nat_eq, is_some, ap, ◌∙◌}
 use Rattle.std.specs.Map.{lookup}
+use Rattle.pef_model.specs.Slots.{has_id}
 use Rattle.pef_slots.proofs.Keyed.{is_some-keyed}
 use Rattle.pef_slots.proofs.slots.Slots.has_id.Goals as goal
 
@@ -8,4 +8,4 @@ use Rattle.pef_slots.proofs.slots.Slots.has_id.Goals as goal
 pub returns : goal.returns
 returns c =
     c.contains_key.ensures ∙ ap (λ es. is_some (lookup (nat_eq c.args.id) es)) c.self.invariant.keyed
-    ∙ is_some-keyed _ c.args.id ∙ ap (list_any (λ slot. c.args.id == slot.id)) c.self.view_is
+    ∙ is_some-keyed _ c.args.id ∙ ap (λ slots. has_id slots c.args.id) c.self.view_is

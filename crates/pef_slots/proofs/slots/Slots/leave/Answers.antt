@@ -1,7 +1,7 @@
 use Rattle.std.proofs.Common.{arith, ◌≡◌, ◌==◌, not, filter, sym, ap, subst, ◌∙◌}
 use Rattle.std.specs.Map.{values_of}
+use Rattle.pef_model.specs.Slots.{without, AreSlots}
 use Rattle.pef_slots.specs.Keyed.{keyed}
-use Rattle.pef_slots.specs.Slots.{AreSlots, without}
 use Rattle.pef_slots.proofs.Apart.{left}
 use Rattle.pef_slots.proofs.Keyed.{values-keyed, filter-keyed}
 use Rattle.pef_slots.proofs.slots.Slots.leave.Goals as goal
