@@ -92,7 +92,7 @@ module _ {S : Type 0} {takes : S → ℕ → ℕ → Type 0} {old : Guest S} {cp
       counted = record old { steps = old.steps + 1 }
 
       same : SameGuest old counted
-      same = record { rest = record { lpid = refl; shift = refl; normal = refl; secure = refl; phase = refl; generation = refl; entry = refl; pages = refl; sealer = refl }; vcpus = refl }
+      same = record { rest = record { lpid = refl; shift = refl; normal = refl; secure = refl; phase = refl; generation = refl; entry = refl; slots = refl; pages = refl; sealer = refl }; vcpus = refl }
 
       refused : (cmd : Cmd) → Refuses (ctx.Guest run) cmd old counted cpu cpu pool pool (answer_undone r)
       refused cmd = by_meeting r where
@@ -138,7 +138,7 @@ module _ {S : Type 0} {takes : S → ℕ → ℕ → Type 0} {old : Guest S} {cp
         met = is;
         inside = own.0;
         taken = refl;
-        held = known old.shift old.pages gpa Private (λ gfn frame e. (whole.frames gfn frame e).length_is) own.1;
+        held = known old.shift old.slots old.pages gpa Private (λ gfn frame e. (whole.frames gfn frame e).length_is) own.1;
         leaves = leaves_same old gpa whole pool;
         shows = λ plan g shows. shows;
       }
@@ -148,7 +148,7 @@ module _ {S : Type 0} {takes : S → ℕ → ℕ → Type 0} {old : Guest S} {cp
       IsReady (pool_of old.secure old.shift (number ∷ more)) (pool_of old.secure old.shift more) (with_backed old.shift old.pages (place_at old.shift gpa).page number) true
   ready_backed number more small is =
       let own = own_inside old gpa Unbacked runs.phase is tt in
-      let at : IsAt old.shift old.pages gpa cell.Invalid = known old.shift old.pages gpa Unbacked (λ gfn frame e. (whole.frames gfn frame e).length_is) own.1 in
+      let at : IsAt old.shift old.pages gpa cell.Invalid = known old.shift old.slots old.pages gpa Unbacked (λ gfn frame e. (whole.frames gfn frame e).length_is) own.1 in
       record {
         met = is;
         inside = own.0;

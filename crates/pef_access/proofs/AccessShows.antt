@@ -8,11 +8,12 @@ use Rattle.pef_model.specs.declared.state.Kind.TheVariants as kind
 use Rattle.pef_model.specs.declared.state.Mover.{Mover}
 use Rattle.pef_model.specs.declared.state.Phase.{Phase}
 use Rattle.pef_model.specs.declared.state.Phase.TheVariants as phase
+use Rattle.pef_model.specs.declared.state.Slot.{Slot}
 use Rattle.pef_model.specs.declared.state.Tag.{Tag}
 use Rattle.pef_model.specs.Plan.{Plan}
 use Rattle.pef_model.specs.Target.{frame_of}
 use Rattle.pef_model.specs.Doubleword.{doubleword, with_doubleword}
-use Rattle.pef_model.specs.GuestPart.{Page as PagePart, PartitionEntry, GuestPart, Meeting, NoPlace, Moves, Normal, page_of, has_place as in_model, meets_kind, meets_page, meets_entry, meets_in, meets, put, secured, with_secure_page}
+use Rattle.pef_model.specs.GuestPart.{Page as PagePart, PartitionEntry, GuestPart, Meeting, NoPlace, Moves, Normal, page_of, is_in_slot as in_model, meets_kind, meets_page, meets_entry, meets_in, meets, put, secured, with_secure_page}
 use Rattle.pef_model.specs.Guest.{Guest}
 use Rattle.pef_model.specs.Memory.{offset_of}
 use Rattle.pef_model.proofs.Puts.{put-here, put-other}
@@ -28,7 +29,7 @@ use Rattle.pef_pate.specs.declared.pate.Pate.{Pate}
 use Rattle.pef_guest.specs.declared.guest.Guest.{Guest as Machine}
 use Rattle.pef_guest.specs.Shows.{HoldsPage, IsZeroPage, ShowsEntry, ShowsPages, Shows}
 use Rattle.pef_guest.proofs.OnePage.{each_with_page}
-use Rattle.pef_access.specs.Access.{has_place, meets_page_at, meets_at, meets_frame, meets_through, meets_in_phase, meets_guest, doubleword_in}
+use Rattle.pef_access.specs.Access.{is_in_slot, meets_page_at, meets_at, meets_frame, meets_through, meets_in_phase, meets_guest, doubleword_in}
 use Rattle.pef_access.proofs.Meets.{IsAt, IsHeld, placed, room_in}
 use Rattle.pef_access.proofs.AccessPages.{page_with, with_secure, with_backed, frame_with, held_where_backed}
 
@@ -38,11 +39,11 @@ if_when true x y z e = e refl
 if_when false x y z e = refl
 
 -- an access to an address meets in the pages what it meets in those of the model
-meets_pages : (plan : Plan) (pages : PagesState FrameState) (g : Guest) (gpa : ℕ) → ShowsPages plan pages g → meets_at plan.shift pages gpa ≡ (if in_model plan gpa then meets_page (g.part.pages (page_of plan gpa)) else NoPlace)
-meets_pages plan pages g gpa shows =
-    ap (λ (count : ℕ). if has_place plan.shift count gpa then meets_page_at pages (page_of plan gpa) else NoPlace) shows.count
-    ∙ if_when (has_place plan.shift plan.pages gpa) _ _ NoPlace (λ e.
-    let below : page_of plan gpa < plan.pages = (placed plan.shift plan.pages gpa e).1 in
+meets_pages : (plan : Plan) (slots : List Slot) (pages : PagesState FrameState) (g : Guest) (gpa : ℕ) → slots ≡ g.part.slots → ShowsPages plan pages g → meets_at plan.shift slots pages gpa ≡ (if in_model plan g.part gpa then meets_page (g.part.pages (page_of plan gpa)) else NoPlace)
+meets_pages plan slots pages g gpa same shows =
+    (λ i. if is_in_slot plan.shift (shows.count i) (same i) gpa then meets_page_at pages (page_of plan gpa) else NoPlace)
+    ∙ if_when (is_in_slot plan.shift plan.pages g.part.slots gpa) _ _ NoPlace (λ e.
+    let below : page_of plan gpa < plan.pages = (placed plan.shift plan.pages g.part.slots gpa e).1 in
     ap (λ (mover : Option Mover). if is_some mover then Moves else meets_kind (kind_at pages (page_of plan gpa))) (shows.movers (page_of plan gpa) below)
     ∙ ap (λ (k : Kind). if is_some (g.part.pages (page_of plan gpa)).mover then Moves else meets_kind k) (shows.kinds (page_of plan gpa) below))
 
@@ -58,10 +59,10 @@ meets_entry_is plan entry part gpa shows =
 
 -- so an access of a guest meets in the machine what it meets in the model, in each phase
 pub meets_is : {S : Type 0} (stands : S → Tag → List ℕ → List ℕ → Type 0) (image : S → Tag → List ℕ → List ℕ) (plan : Plan) (guest : Machine S) (g : Guest) (gpa : ℕ) → Shows stands image plan guest g → meets_guest guest gpa ≡ meets plan g.part gpa
-meets_is stands image plan guest g gpa shows = ap (λ (p : Phase). meets_in_phase p guest.shift guest.entry guest.pages gpa) shows.phase ∙ by_phase g.part.phase where
-  by_phase : (p : Phase) → meets_in_phase p guest.shift guest.entry guest.pages gpa ≡ meets_in p plan g.part gpa
+meets_is stands image plan guest g gpa shows = ap (λ (p : Phase). meets_in_phase p guest.shift guest.entry guest.slots guest.pages gpa) shows.phase ∙ by_phase g.part.phase where
+  by_phase : (p : Phase) → meets_in_phase p guest.shift guest.entry guest.slots guest.pages gpa ≡ meets_in p plan g.part gpa
   by_phase phase.Normal = ap (λ (shift : ℕ). meets_through shift guest.entry gpa) shows.shift ∙ meets_entry_is plan guest.entry g.part.entry gpa shows.entry
-  by_phase other = ap (λ (shift : ℕ). meets_at shift guest.pages gpa) shows.shift ∙ meets_pages plan guest.pages g gpa shows.pages
+  by_phase other = ap (λ (shift : ℕ). meets_at shift guest.slots guest.pages gpa) shows.shift ∙ meets_pages plan guest.slots guest.pages g gpa shows.slots shows.pages
 
 -- the model's public part after an access that was done, by whether it backs its page
 abbrev pub part_after : Plan → GuestPart → ℕ → Bool → GuestPart

@@ -1,8 +1,9 @@
 -- What is known of a guest's pages by what an access met.
-use Rattle.std.proofs.Common.{◌≡◌, ℕ, ◌+◌, ◌/◌, ◌%◌, ◌^◌, ◌<◌, ◌≤◌, ◌==◌, Bool, true, false, if◌then◌else◌, Option, Some, None, length, is_some, arith, refl, ap, sym, subst}
+use Rattle.std.proofs.Common.{◌≡◌, ℕ, ◌+◌, ◌/◌, ◌%◌, ◌^◌, ◌<◌, ◌≤◌, ◌==◌, Bool, true, false, if◌then◌else◌, List, Option, Some, None, length, is_some, arith, refl, ap, sym, subst}
 use Rattle.std.proofs.lemmas.Bool.Decides.{nat_tests}
 use Rattle.pef_model.specs.declared.state.Phase.{Phase}
 use Rattle.pef_model.specs.declared.state.Phase.TheVariants as phase
+use Rattle.pef_model.specs.declared.state.Slot.{Slot}
 use Rattle.pef_model.specs.GuestPart.{Meeting, NoPlace, Moves, Private, Unbacked, meets_kind}
 use Rattle.pef_model.proofs.Places.{room_at}
 use Rattle.pef_frames.specs.Frame.{FrameState}
@@ -13,7 +14,7 @@ use Rattle.pef_pages.specs.Pages.{PagesState, cell_at}
 use Rattle.pef_guest.specs.declared.guest.Guest.{Guest}
 use Rattle.pef_guest.specs.Whole.{IsOutside}
 use Rattle.pef_guest.specs.Ready.{may_run_in}
-use Rattle.pef_access.specs.Access.{has_place, meets_page_at, meets_at, meets_frame, meets_in_phase, meets_guest, HaveFrames}
+use Rattle.pef_access.specs.Access.{is_in_slot, meets_page_at, meets_at, meets_frame, meets_in_phase, meets_guest, HaveFrames}
 
 -- an address is that of a doubleword in one of the pages, and its page has this cell
 pub record IsAt (shift : ℕ) (pages : PagesState FrameState) (gpa : ℕ) (c : Cell FrameState) : Type 0 where
@@ -32,10 +33,10 @@ pub room_in : (shift : ℕ) (pages : PagesState FrameState) (gpa : ℕ) → 8 �
 room_in shift pages gpa least h = let fits : gpa % 2 ^ shift + 8 ≤ 2 ^ shift = room_at shift gpa least h.at.aligned in omega (arith, fits, h.size)
 
 -- a test of an address that holds
-pub placed : (shift count gpa : ℕ) → has_place shift count gpa ≡ true → (gpa % 8 ≡ 0) × (gpa / 2 ^ shift < count)
-placed shift count gpa e = (grind (arith, nat_tests), grind (arith, nat_tests))
+pub placed : (shift count : ℕ) (slots : List Slot) (gpa : ℕ) → is_in_slot shift count slots gpa ≡ true → (gpa % 8 ≡ 0) × (gpa / 2 ^ shift < count)
+placed shift count slots gpa e = (grind (arith, nat_tests), grind (arith, nat_tests))
 
-module _ (shift : ℕ) (pages : PagesState FrameState) (gpa : ℕ) where
+module _ (shift : ℕ) (slots : List Slot) (pages : PagesState FrameState) (gpa : ℕ) where
   -- what is known where an access met this
   abbrev Known : Meeting → Type 0
   Known Private = IsHeld shift pages gpa
@@ -55,12 +56,12 @@ module _ (shift : ℕ) (pages : PagesState FrameState) (gpa : ℕ) where
   by_cell sizes place (cell.MovesOut frame cpu digest) is = tt
   by_cell sizes place (cell.MovesIn frame cpu digest) is = tt
 
-  by_place : HaveFrames (2 ^ shift) pages → (b : Bool) → has_place shift (length pages.pages) gpa ≡ b → Known (if b then meets_page_at pages (gpa / 2 ^ shift) else NoPlace)
-  by_place sizes true test = by_cell sizes (placed shift (length pages.pages) gpa test) (cell_at pages (gpa / 2 ^ shift)) refl
+  by_place : HaveFrames (2 ^ shift) pages → (b : Bool) → is_in_slot shift (length pages.pages) slots gpa ≡ b → Known (if b then meets_page_at pages (gpa / 2 ^ shift) else NoPlace)
+  by_place sizes true test = by_cell sizes (placed shift (length pages.pages) slots gpa test) (cell_at pages (gpa / 2 ^ shift)) refl
   by_place sizes false test = tt
 
-  pub known : (r : Meeting) → HaveFrames (2 ^ shift) pages → meets_at shift pages gpa ≡ r → Known r
-  known r sizes is = subst Known is (by_place sizes (has_place shift (length pages.pages) gpa) refl)
+  pub known : (r : Meeting) → HaveFrames (2 ^ shift) pages → meets_at shift slots pages gpa ≡ r → Known r
+  known r sizes is = subst Known is (by_place sizes (is_in_slot shift (length pages.pages) slots gpa) refl)
 
 -- an access that meets a page of the guest's own: its secure frame, or an Invalid one
 abbrev pub IsOwn : Meeting → Type 0
@@ -75,9 +76,9 @@ not_through true None r is own = subst IsOwn (sym is) own
 not_through false o r is own = subst IsOwn (sym is) own
 
 -- so such an access is of a guest that is inside, and meets it in the pages
-pub own_inside : {S : Type 0} (guest : Guest S) (gpa : ℕ) (r : Meeting) → may_run_in guest.phase ≡ true → meets_guest guest gpa ≡ r → IsOwn r → (IsOutside guest.phase → ⊥) × (meets_at guest.shift guest.pages gpa ≡ r)
+pub own_inside : {S : Type 0} (guest : Guest S) (gpa : ℕ) (r : Meeting) → may_run_in guest.phase ≡ true → meets_guest guest gpa ≡ r → IsOwn r → (IsOutside guest.phase → ⊥) × (meets_at guest.shift guest.slots guest.pages gpa ≡ r)
 own_inside guest gpa r = by_phase guest.phase where
-  by_phase : (p : Phase) → may_run_in p ≡ true → meets_in_phase p guest.shift guest.entry guest.pages gpa ≡ r → IsOwn r → (IsOutside p → ⊥) × (meets_at guest.shift guest.pages gpa ≡ r)
+  by_phase : (p : Phase) → may_run_in p ≡ true → meets_in_phase p guest.shift guest.entry guest.slots guest.pages gpa ≡ r → IsOwn r → (IsOutside p → ⊥) × (meets_at guest.shift guest.slots guest.pages gpa ≡ r)
   by_phase phase.Normal may is own = absurd (not_through (gpa % 8 == 0) _ r is own)
   by_phase phase.Starting may is own = (λ outside. outside, is)
   by_phase phase.Secure may is own = (λ outside. outside, is)

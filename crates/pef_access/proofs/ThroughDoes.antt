@@ -36,7 +36,7 @@ use Rattle.pef_guest.specs.Does.{NormalPart, IsFoundIn, is_any_free, DoesLent}
 use Rattle.pef_guest.proofs.Asked.{frames_stay, lent_does, makes_lent, RowLent}
 use Rattle.pef_guest.specs.Aims.{frame_met}
 use Rattle.pef_guest.proofs.OneVcpu.{with_step, keeps_guest, whole_vcpu, shows_own, shows_registers, shows_stays}
-use Rattle.pef_access.specs.Access.{has_place, meets_frame, meets_in_phase, meets_guest, through_at, after_load, after_store, register_at, with_change}
+use Rattle.pef_access.specs.Access.{is_in_slot, meets_frame, meets_in_phase, meets_guest, through_at, after_load, after_store, register_at, with_change}
 use Rattle.pef_access.proofs.Meets.{placed}
 use Rattle.pef_access.proofs.AccessShows.{meets_is}
 
@@ -52,13 +52,13 @@ through_aligned guest gpa number = by_phase guest.phase where
   by_entry true test o is = test_same (gpa % 8) 0 test
   by_entry false test o is = absurd cc
 
-  by_place : (b : Bool) → has_place guest.shift (length guest.pages.pages) gpa ≡ b → (r : Meeting) → frame_met (if b then r else NoPlace) ≡ Some number → gpa % 8 ≡ 0
-  by_place true test r is = (placed guest.shift (length guest.pages.pages) gpa test).0
+  by_place : (b : Bool) → is_in_slot guest.shift (length guest.pages.pages) guest.slots gpa ≡ b → (r : Meeting) → frame_met (if b then r else NoPlace) ≡ Some number → gpa % 8 ≡ 0
+  by_place true test r is = (placed guest.shift (length guest.pages.pages) guest.slots gpa test).0
   by_place false test r is = absurd cc
 
-  by_phase : (p : Phase) → frame_met (meets_in_phase p guest.shift guest.entry guest.pages gpa) ≡ Some number → gpa % 8 ≡ 0
+  by_phase : (p : Phase) → frame_met (meets_in_phase p guest.shift guest.entry guest.slots guest.pages gpa) ≡ Some number → gpa % 8 ≡ 0
   by_phase phase.Normal is = by_entry (gpa % 8 == 0) refl _ is
-  by_phase p is = by_place (has_place guest.shift (length guest.pages.pages) gpa) refl _ is
+  by_phase p is = by_place (is_in_slot guest.shift (length guest.pages.pages) guest.slots gpa) refl _ is
 
 module _ {S : Type 0} {takes : S → ℕ → ℕ → Type 0} {old : Guest S} {cpu : Cpu} {run : Run} (runs : IsRunning cpu old run) (whole : IsWhole takes old) (gpa number : ℕ) (through : through_at old gpa ≡ Some number) (frame : List ℕ) (size : length frame ≡ 2 ^ old.shift) where
   -- the doubleword lies in the frame

@@ -1,5 +1,5 @@
 -- What an access of a guest meets in the machine, and what it leaves.
-use Rattle.std.specs.Prelude.{◌≡◌, ℕ, ◌+◌, ◌/◌, ◌%◌, ◌^◌, ◌==◌, ◌<◌, ◌≤◌, nat_lt, Bool, true, false, ◌&&◌, if◌then◌else◌, length, slice_index, slice_set, Option, Some, None, is_some, Result, Ok, Err}
+use Rattle.std.specs.Prelude.{◌≡◌, ℕ, ◌+◌, ◌/◌, ◌%◌, ◌^◌, ◌==◌, ◌<◌, ◌≤◌, nat_lt, Bool, true, false, ◌&&◌, if◌then◌else◌, List, length, slice_index, slice_set, Option, Some, None, is_some, Result, Ok, Err}
 use Rattle.std.specs.Vec.{with_item}
 use Rattle.pef_model.specs.declared.entry.Answer.{Answer}
 use Rattle.pef_model.specs.declared.entry.Answer.TheVariants.{Hole, Again}
@@ -7,9 +7,11 @@ use Rattle.pef_model.specs.declared.state.Kind.TheVariants as kind
 use Rattle.pef_model.specs.declared.state.Phase.{Phase}
 use Rattle.pef_model.specs.declared.state.Phase.TheVariants as phase
 use Rattle.pef_model.specs.declared.state.Regs.{Regs}
+use Rattle.pef_model.specs.declared.state.Slot.{Slot}
 use Rattle.pef_model.specs.Doubleword.{doubleword, with_doubleword}
 use Rattle.pef_model.specs.Guest.{at_next_instruction}
 use Rattle.pef_model.specs.GuestPart.{Meeting, NoPlace, Moves, Private, Normal, Unbacked, meets_kind}
+use Rattle.pef_model.specs.Slots.{has_slot}
 use Rattle.pef_num.specs.declared.place.Place.{Place}
 use Rattle.pef_pate.specs.declared.pate.Pate.{Pate}
 use Rattle.pef_pate.specs.Entry.{frame_at as frame_mapped}
@@ -33,9 +35,13 @@ place_at shift gpa = record { page = gpa / 2 ^ shift; off = gpa % 2 ^ shift }
 abbrev pub has_place : ℕ → ℕ → ℕ → Bool
 has_place shift count gpa = (gpa % 8 == 0) && nat_lt (gpa / 2 ^ shift) count
 
--- what an access to an address of these pages meets
-abbrev pub meets_at : ℕ → PagesState FrameState → ℕ → Meeting
-meets_at shift pages gpa = if has_place shift (length pages.pages) gpa then meets_page_at pages (gpa / 2 ^ shift) else NoPlace
+-- whether it is that of a doubleword in one of those pages that lie in a slot
+abbrev pub is_in_slot : ℕ → ℕ → List Slot → ℕ → Bool
+is_in_slot shift count slots gpa = has_place shift count gpa && has_slot slots (gpa / 2 ^ shift)
+
+-- what an access to an address of these pages meets, where they lie in these slots
+abbrev pub meets_at : ℕ → List Slot → PagesState FrameState → ℕ → Meeting
+meets_at shift slots pages gpa = if is_in_slot shift (length pages.pages) slots gpa then meets_page_at pages (gpa / 2 ^ shift) else NoPlace
 
 -- what an access meets in a normal frame, where it has one
 abbrev pub meets_frame : Option ℕ → Meeting
@@ -46,14 +52,14 @@ meets_frame (Some number) = Normal number
 abbrev pub meets_through : ℕ → Pate → ℕ → Meeting
 meets_through shift entry gpa = if gpa % 8 == 0 then meets_frame (frame_mapped shift entry (gpa / 2 ^ shift)) else NoPlace
 
--- by a guest's phase: one in normal memory goes through its partition entry
-abbrev pub meets_in_phase : Phase → ℕ → Pate → PagesState FrameState → ℕ → Meeting
-meets_in_phase phase.Normal shift entry pages gpa = meets_through shift entry gpa
-meets_in_phase other shift entry pages gpa = meets_at shift pages gpa
+-- by a guest's phase: one in normal memory goes through its partition entry, and every other has the pages in its slots
+abbrev pub meets_in_phase : Phase → ℕ → Pate → List Slot → PagesState FrameState → ℕ → Meeting
+meets_in_phase phase.Normal shift entry slots pages gpa = meets_through shift entry gpa
+meets_in_phase other shift entry slots pages gpa = meets_at shift slots pages gpa
 
 -- what an access of a guest meets
 abbrev pub meets_guest : {S : Type 0} → Guest S → ℕ → Meeting
-meets_guest guest gpa = meets_in_phase guest.phase guest.shift guest.entry guest.pages gpa
+meets_guest guest gpa = meets_in_phase guest.phase guest.shift guest.entry guest.slots guest.pages gpa
 
 -- whether an access asks for a free frame
 abbrev pub is_unbacked : Meeting → Bool

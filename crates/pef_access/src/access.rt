@@ -4,9 +4,9 @@ ghost use Rattle.std.specs.Prelude.{true, false, ◌≡◌, ◌+◌, ◌^◌, �
 ghost use Rattle.pef_model.specs.Plan.{IsWithin};
 ghost use Rattle.pef_frames.specs.Pool.{first_free, without_first};
 ghost use Rattle.pef_guest.specs.Does.{is_any_free};
-ghost use Rattle.pef_access.specs.Access.{place_at, meets_at, meets_guest, asks_at, is_unbacked, found_at, backed_by, HaveFrames, IsReached, value_at, stored_at};
+ghost use Rattle.pef_access.specs.Access.{place_at, meets_guest, asks_at, found_at, backed_by, HaveFrames, IsReached, value_at, stored_at};
 
-use crate::place::place_below;
+use crate::place::place_in_slot;
 use pef_frames::{Pool, SecFrame};
 use pef_guest::Guest;
 use pef_model::{Answer, Kind, Phase};
@@ -16,8 +16,8 @@ use pef_seal::Seal;
 
 /// Where the doubleword of a guest address lies, for an access that asks for no free frame.
 ///
-/// Hole where the address is no multiple of 8 or its page is none of the guest's, where the page is Out or Shared, and in a guest
-/// in normal memory; Again where the page is on the move.
+/// Hole where the address is no multiple of 8 or its page lies in no slot of the guest, where the page is Out or Shared, and in a
+/// guest in normal memory; Again where the page is on the move.
 #[tactic(auto, using(crate::proofs::Reaching::room_where_secure))]
 pub fn reach<S: Seal>(guest: &Guest<S>, gpa: u64) -> Result<Place, Answer>
     requires shift { IsWithin 8 16 guest.now.shift }
@@ -29,7 +29,7 @@ pub fn reach<S: Seal>(guest: &Guest<S>, gpa: u64) -> Result<Place, Answer>
     if guest.phase == Phase::Normal {
         return Err(Answer::Hole);
     }
-    let Some(place) = place_below(gpa, guest.shift, guest.pages.count()) else {
+    let Some(place) = place_in_slot(guest, gpa) else {
         return Err(Answer::Hole);
     };
     if guest.pages.mover(place.page).is_some() {
@@ -44,21 +44,21 @@ pub fn reach<S: Seal>(guest: &Guest<S>, gpa: u64) -> Result<Place, Answer>
 
 /// The same for an access that meets an Invalid page, which is backed by a zeroed frame. None where no frame is free.
 #[tactic(auto, using(crate::proofs::Reaching::room_where_backed))]
-pub fn back(pages: &mut Pages<SecFrame>, pool: &mut Pool, shift: u8, gpa: u64) -> Option<Place>
-    requires shift { IsWithin 8 16 shift }
-    requires size { pool.old.size ≡ 2 ^ shift }
-    requires met { is_unbacked (meets_at shift pages.old gpa) ≡ true }
-    ensures place { IfSome result (IsReached pages.new) }
-    ensures result { result ≡ (if is_any_free pool.old then Some (place_at shift gpa) else None) }
-    ensures pages { pages.new ≡ backed_by pages.old (place_at shift gpa).page (first_free pool.old) }
+pub fn back<S: Seal>(guest: &mut Guest<S>, pool: &mut Pool, gpa: u64) -> Option<Place>
+    requires shift { IsWithin 8 16 guest.old.shift }
+    requires size { pool.old.size ≡ 2 ^ guest.old.shift }
+    requires met { asks_at guest.old gpa ≡ true }
+    ensures place { IfSome result (IsReached guest.new.pages) }
+    ensures result { result ≡ (if is_any_free pool.old then Some (place_at guest.old.shift gpa) else None) }
+    ensures guest { guest.new ≡ record guest.old { pages = backed_by guest.old.pages (place_at guest.old.shift gpa).page (first_free pool.old) } }
     ensures pool { pool.new ≡ without_first pool.old }
     ensures number { IfSome (first_free pool.old) (λ frame. frame.number < pool.old.count) }
 {
-    let Some(place) = place_below(gpa, shift, pages.count()) else {
+    let Some(place) = place_in_slot(guest, gpa) else {
         unreachable!()
     };
     let frame = pool.take()?;
-    pages.back(place.page, frame);
+    guest.pages.back(place.page, frame);
     Some(place)
 }
 

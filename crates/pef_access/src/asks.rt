@@ -9,30 +9,28 @@ ghost use Rattle.pef_guest.specs.Whole.{IsWhole};
 ghost use Rattle.pef_guest.specs.Aims.{frame_met};
 ghost use Rattle.pef_access.specs.Access.{meets_at, meets_through, asks_at, through_at, is_unbacked, ShareBelow};
 
-use crate::place::place_below;
-use pef_frames::SecFrame;
+use crate::place::place_in_slot;
 use pef_guest::Guest;
 use pef_model::{Kind, Phase};
 use pef_num::place_of;
-use pef_pages::Pages;
 use pef_pate::Pate;
 use pef_seal::Seal;
 
-/// Whether an access of a guest asks for a free frame: its page is Invalid, and not on the move. None of a guest in normal memory
-/// does.
+/// Whether an access of a guest asks for a free frame: its page lies in a slot, is Invalid, and not on the move. None of a guest
+/// in normal memory does.
 pub fn asks_for_frame<S: Seal>(guest: &Guest<S>, gpa: u64) -> bool
     requires { IsWithin 8 16 guest.now.shift }
     ensures here { asks_at guest.now gpa ≡ result }
     ensures model { (plan : Plan) (g : GuestWhole) → Shows S.stands S.image plan guest.now g → is_unbacked (meets plan g.part gpa) ≡ result }
 {
-    guest.phase != Phase::Normal && is_unbacked_at(&guest.pages, guest.shift, gpa)
+    guest.phase != Phase::Normal && is_unbacked_at(guest, gpa)
 }
 
 /// The normal frame into which an access of a guest goes, by its number from 0: in normal memory that of the page in the guest's
 /// partition entry, and else that of a Shared page.
 ///
-/// None where the address is no multiple of 8, where its page is none of the entry's or of the guest's, and where no normal frame
-/// backs the page.
+/// None where the address is no multiple of 8, where its page is none of the entry's or lies in no slot, and where no normal
+/// frame backs the page.
 pub fn frame_of_access<S: Seal>(guest: &Guest<S>, gpa: u64) -> Option<u32>
     requires { IsWhole S.takes guest.now }
     ensures here { through_at guest.now gpa ≡ result }
@@ -42,22 +40,22 @@ pub fn frame_of_access<S: Seal>(guest: &Guest<S>, gpa: u64) -> Option<u32>
     if guest.phase == Phase::Normal {
         frame_through(&guest.entry, guest.normal, guest.shift, gpa)
     } else {
-        shared_frame(&guest.pages, guest.shift, gpa)
+        shared_frame(guest, gpa)
     }
 }
 
-/// Whether the page of an address is Invalid, and not on the move.
-fn is_unbacked_at(pages: &Pages<SecFrame>, shift: u8, gpa: u64) -> bool
-    requires { IsWithin 8 16 shift }
-    ensures { is_unbacked (meets_at shift pages.now gpa) ≡ result }
+/// Whether the page of an address lies in a slot, is Invalid, and not on the move.
+fn is_unbacked_at<S: Seal>(guest: &Guest<S>, gpa: u64) -> bool
+    requires { IsWithin 8 16 guest.now.shift }
+    ensures { is_unbacked (meets_at guest.now.shift guest.now.slots guest.now.pages gpa) ≡ result }
 {
-    let Some(place) = place_below(gpa, shift, pages.count()) else {
+    let Some(place) = place_in_slot(guest, gpa) else {
         return false;
     };
-    if pages.mover(place.page).is_some() {
+    if guest.pages.mover(place.page).is_some() {
         return false;
     }
-    match pages.kind(place.page) {
+    match guest.pages.kind(place.page) {
         Kind::Invalid => true,
         Kind::Secure | Kind::Out | Kind::Shared { .. } => false,
     }
@@ -74,14 +72,14 @@ fn frame_through(entry: &Pate, normal: u32, shift: u8, gpa: u64) -> Option<u32>
     entry.frame(place.page, shift)
 }
 
-/// The normal frame that backs the Shared page of an address.
-fn shared_frame(pages: &Pages<SecFrame>, shift: u8, gpa: u64) -> Option<u32>
-    requires { IsWithin 8 16 shift }
-    ensures frame { frame_met (meets_at shift pages.now gpa) ≡ result }
-    ensures below { (normal : ℕ) → ShareBelow normal pages.now → IfSome result (λ number. number < normal) }
+/// The normal frame that backs the Shared page of an address, where the page lies in a slot.
+fn shared_frame<S: Seal>(guest: &Guest<S>, gpa: u64) -> Option<u32>
+    requires { IsWithin 8 16 guest.now.shift }
+    ensures frame { frame_met (meets_at guest.now.shift guest.now.slots guest.now.pages gpa) ≡ result }
+    ensures below { (normal : ℕ) → ShareBelow normal guest.now.pages → IfSome result (λ number. number < normal) }
 {
-    let place = place_below(gpa, shift, pages.count())?;
-    match pages.kind(place.page) {
+    let place = place_in_slot(guest, gpa)?;
+    match guest.pages.kind(place.page) {
         Kind::Shared { frame, .. } => frame,
         Kind::Invalid | Kind::Secure | Kind::Out => None,
     }

@@ -21,8 +21,8 @@ use pef_seal::Seal;
 
 /// The guest loads the doubleword at an address into a register, where that takes no free frame and goes into no normal one.
 ///
-/// Hole where the address is that of no doubleword in its pages, or of its partition entry in normal memory, and where the page is
-/// Out, or Shared without a frame; Again where the page is on the move.
+/// Hole where the address is that of no doubleword in a page of its slots, or of its partition entry in normal memory, and where
+/// the page is Out, or Shared without a frame; Again where the page is on the move.
 pub fn load<S: Seal>(guest: &mut Guest<S>, cpu: &Cpu, run: Run, rd: Reg, gpa: u64) -> Answer
     requires runs { IsRunning cpu.now guest.old run }
     requires whole { IsWhole S.takes guest.old }
@@ -55,7 +55,7 @@ pub fn load_backing<S: Seal>(
     ensures { DoesRow S.takes S.stands S.image (Cmd.GLd rd gpa) guest.old guest.new cpu.now cpu.now pool.old pool.new result }
 {
     guest.steps += 1;
-    match access::back(&mut guest.pages, pool, guest.shift, gpa) {
+    match access::back(guest, pool, gpa) {
         Some(place) => load_at(guest, run, rd, place),
         None => Answer::Hole,
     }
@@ -118,7 +118,7 @@ pub fn store_backing<S: Seal>(
     ensures { DoesRow S.takes S.stands S.image (Cmd.GSt rs gpa) guest.old guest.new cpu.now cpu.now pool.old pool.new result }
 {
     guest.steps += 1;
-    match access::back(&mut guest.pages, pool, guest.shift, gpa) {
+    match access::back(guest, pool, gpa) {
         Some(place) => store_at(guest, run, rs, place),
         None => Answer::Hole,
     }

@@ -75,6 +75,7 @@ module _ {S : Type 0} (stands : S → Tag → List ℕ → List ℕ → Type 0) 
     phase = start.phase;
     generation = start.generation;
     entry = rw start.entry (record { base = refl; length_is = refl });
+    slots = start.slots;
     pages = subst (λ pages. ShowsPages (plan_of config) pages (start_guest (plan_of config) lpid)) (sym start.pages) (shows_pages (plan_of config) lpid);
     sealed = shows_sealed;
     count = ap length start.vcpus ∙ length-replicate config.vcpus (start_vcpu (start_state ((plan_of config).is_born lpid)));

@@ -29,6 +29,8 @@ pub fn aim_of(own: &Cpu, cmd: &Cmd) -> Aim
         (Ctx::Hv, Cmd::HSt { ra, .. }) => Aim::Address(*ra),
         (Ctx::Hv, Cmd::HEnter { lpid, .. }) => Aim::NamedGuest(*lpid),
         (Ctx::Hv, Cmd::UPate { lpid, .. }) => Aim::NamedGuest(*lpid),
+        (Ctx::Hv, Cmd::URegslot { lpid, .. }) => Aim::NamedGuest(*lpid),
+        (Ctx::Hv, Cmd::UUnregslot { lpid, .. }) => Aim::NamedGuest(*lpid),
         (Ctx::Hv, Cmd::UPagein { lpid, .. }) => Aim::NamedGuest(*lpid),
         (Ctx::Hv, Cmd::UPageout { lpid, .. }) => Aim::NamedGuest(*lpid),
         (Ctx::Hv, Cmd::UReturn { .. }) => Aim::Guest(own.lpid),

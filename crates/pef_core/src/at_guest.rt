@@ -150,6 +150,14 @@ fn call<S: Seal>(guest: &mut Guest<S>, cpu: &mut Cpu, cmd: &Cmd) -> Answer
     match cmd {
         Cmd::HEnter { vid, .. } => pef_reflect::enter_normal(guest, cpu, *vid),
         Cmd::UPate { lpid, dw0, dw1 } => pef_reflect::write_entry(guest, cpu, *lpid, *dw0, *dw1),
+        Cmd::URegslot {
+            lpid,
+            start,
+            size,
+            flags,
+            id,
+        } => pef_reflect::register_slot(guest, cpu, *lpid, *start, *size, *flags, *id),
+        Cmd::UUnregslot { lpid, id } => pef_reflect::unregister_slot(guest, cpu, *lpid, *id),
         Cmd::UReturn { r0, r2, outs } => pef_reflect::uv_return(guest, cpu, *r0, *r2, outs),
         _ => page_call(guest, cpu, cmd),
     }
@@ -211,8 +219,12 @@ fn command<S: Seal>(guest: &mut Guest<S>, cpu: &mut Cpu, run: Run, cmd: &Cmd) ->
     ensures { (pool : PoolState) → DoesRow S.takes S.stands S.image cmd.now guest.old guest.new cpu.old cpu.new pool pool result }
 {
     match cmd {
-        Cmd::UPate { .. } | Cmd::UPagein { .. } | Cmd::UPageout { .. } | Cmd::UReturn { .. } =>
-            pef_reflect::refuse_call(guest, cpu, run, cmd),
+        Cmd::UPate { .. }
+        | Cmd::URegslot { .. }
+        | Cmd::UUnregslot { .. }
+        | Cmd::UPagein { .. }
+        | Cmd::UPageout { .. }
+        | Cmd::UReturn { .. } => pef_reflect::refuse_call(guest, cpu, run, cmd),
         Cmd::GLi { rd, value } => pef_reflect::load_immediate(guest, cpu, run, *rd, *value),
         Cmd::GLd { rd, gpa } => pef_access::load(guest, cpu, run, *rd, *gpa),
         Cmd::GSt { rs, gpa } => pef_access::store(guest, cpu, run, *rs, *gpa),

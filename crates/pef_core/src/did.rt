@@ -91,6 +91,14 @@ fn arguments(cmd: &Cmd) -> Exposed
     cmd.numbers_fit();
     match *cmd {
         Cmd::UPate { lpid, dw0, dw1 } => Exposed::of(&[lpid, dw0, dw1]),
+        Cmd::URegslot {
+            lpid,
+            start,
+            size,
+            flags,
+            id,
+        } => Exposed::of(&[lpid, start, size, flags, id]),
+        Cmd::UUnregslot { lpid, id } => Exposed::of(&[lpid, id]),
         Cmd::UPagein {
             lpid,
             src,

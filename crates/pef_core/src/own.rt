@@ -33,7 +33,11 @@ fn hypervisor(cpu: &mut Cpu, cmd: &Cmd, guests: u16, vcpus: u8) -> Answer
         Cmd::HSt { .. } => cpu.answer(Answer::Hole),
         Cmd::HSelect { lpid, vid } => select(cpu, *lpid, *vid, guests, vcpus),
         Cmd::HEnter { .. } => cpu.refuse(Code::UParameter),
-        Cmd::UPate { .. } | Cmd::UPagein { .. } | Cmd::UPageout { .. } => names_no_guest(cpu, cmd),
+        Cmd::UPate { .. }
+        | Cmd::URegslot { .. }
+        | Cmd::UUnregslot { .. }
+        | Cmd::UPagein { .. }
+        | Cmd::UPageout { .. } => names_no_guest(cpu, cmd),
         Cmd::UReturn { .. } => unreachable!(),
         Cmd::GLi { .. } => Answer::Context,
         Cmd::GLd { .. } => Answer::Context,

@@ -2,6 +2,7 @@ mod AtOnce
 mod TakenUp
 mod OwnRow
 mod WriteRow
+mod SlotRow
 mod LeaveRow
 mod GoneRow
 mod ReturnRow

@@ -8,7 +8,7 @@ use Rattle.pef_model.specs.declared.state.Regs.{Regs}
 use Rattle.pef_model.specs.declared.state.Tag.{Tag}
 use Rattle.pef_model.specs.declared.state.Ctx.TheVariants as ctx
 use Rattle.pef_model.specs.declared.command.Cmd.{Cmd}
-use Rattle.pef_model.specs.declared.command.Cmd.TheVariants.{HLd, UPate, UPagein, UPageout, UReturn, GLd, GSt}
+use Rattle.pef_model.specs.declared.command.Cmd.TheVariants.{HLd, UPate, URegslot, UUnregslot, UPagein, UPageout, UReturn, GLd, GSt}
 use Rattle.pef_model.specs.declared.entry.Answer.TheVariants.{Ret}
 use Rattle.pef_model.specs.Plan.{Plan}
 use Rattle.pef_model.specs.Event.{Mark}
@@ -34,7 +34,7 @@ use Rattle.pef_guest.proofs.OneVcpu.{with_step, is_at, shows_registers, shows_st
 pub refused_guest : {S : Type 0} (old : Guest S) (vid : ℕ) (vcpu : Vcpu) (below : vid < length old.vcpus.items) (there : vcpu ≡ get_or old.vcpus.items vid vcpu) (new : Vcpu) (code : Code) →
     RefusesVcpu vcpu new code → RefusesGuest vid old (with_step old old.pages vid new) code
 refused_guest old vid vcpu below there new code refuses = record {
-  rest = record { lpid = refl; shift = refl; normal = refl; secure = refl; phase = refl; generation = refl; entry = refl; pages = refl; sealer = refl };
+  rest = record { lpid = refl; shift = refl; normal = refl; secure = refl; phase = refl; generation = refl; entry = refl; slots = refl; pages = refl; sealer = refl };
   vcpu = subst (λ v. RefusesVcpu v (slice_index_or (slice_set old.vcpus.items vid new) vid (start_vcpu Idle)) code) (is_at old vid vcpu below there)
       (subst (λ v. RefusesVcpu vcpu v code) (sym (get_or-set_same old.vcpus.items vid new (start_vcpu Idle) below)) refuses);
   others = λ k other. get_or-set_other old.vcpus.items vid k new (start_vcpu Idle) other;
@@ -66,6 +66,10 @@ module _ {S : Type 0} (stands : S → Tag → List ℕ → List ℕ → Type 0) 
   pub refused_row : (cmd : Cmd) → is_some (call_of cmd) ≡ true → RefusedRow cmd
   refused_row (UPate lpid dw0 dw1) k =
       record { row = record { answered = refl; guest = shows_registers stands image plan old g run.vid shows runs.vid (refused_registers (UPate lpid dw0 dw1)); cpu_is = stays }; pool = refl }
+  refused_row (URegslot lpid start size flags id) k =
+      record { row = record { answered = refl; guest = shows_registers stands image plan old g run.vid shows runs.vid (refused_registers (URegslot lpid start size flags id)); cpu_is = stays }; pool = refl }
+  refused_row (UUnregslot lpid id) k =
+      record { row = record { answered = refl; guest = shows_registers stands image plan old g run.vid shows runs.vid (refused_registers (UUnregslot lpid id)); cpu_is = stays }; pool = refl }
   refused_row (UPagein lpid src gpa flags order) k =
       record { row = record { answered = refl; guest = shows_registers stands image plan old g run.vid shows runs.vid (refused_registers (UPagein lpid src gpa flags order)); cpu_is = stays }; pool = refl }
   refused_row (UPageout lpid dest gpa flags order) k =

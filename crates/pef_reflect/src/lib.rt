@@ -1,12 +1,15 @@
-//! A vCPU is taken up, does what its own registers alone decide, and leaves, and a partition entry is set, as the model says.
+//! A vCPU is taken up, does what its own registers alone decide, and leaves, and a partition entry and memory slots are set, as the
+//! model says.
 #![tactic(auto)]
 
 mod enter;
 mod leave;
 mod own;
+mod slots;
 mod write;
 
 pub use enter::{enter_normal, uv_return};
 pub use leave::{gone, interrupt};
 pub use own::{load_immediate, refuse_call};
+pub use slots::{register_slot, unregister_slot};
 pub use write::write_entry;

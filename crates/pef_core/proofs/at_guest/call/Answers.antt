@@ -19,3 +19,9 @@ returns-in-HEnter g c pool =
 
 pub returns-in-UPate : goal.returns-in-UPate
 returns-in-UPate g c pool = rw c.in-UPate.is (c.write_entry.ensures pool)
+
+pub returns-in-URegslot : goal.returns-in-URegslot
+returns-in-URegslot g c pool = rw c.in-URegslot.is (c.register_slot.ensures pool)
+
+pub returns-in-UUnregslot : goal.returns-in-UUnregslot
+returns-in-UUnregslot g c pool = rw c.in-UUnregslot.is (c.unregister_slot.ensures pool)
