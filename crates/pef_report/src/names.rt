@@ -16,6 +16,8 @@ pub fn name_of(cmd: &Cmd) -> &'static [u8]
         Cmd::HSelect { .. } => b"h.select",
         Cmd::HEnter { .. } => b"h.enter",
         Cmd::UPate { .. } => b"u.pate",
+        Cmd::URegslot { .. } => b"u.regslot",
+        Cmd::UUnregslot { .. } => b"u.unregslot",
         Cmd::UPagein { .. } => b"u.pagein",
         Cmd::UPageout { .. } => b"u.pageout",
         Cmd::UReturn { .. } => b"u.return",

@@ -3,7 +3,7 @@ use Rattle.std.specs.Prelude.{◌≡◌, ℕ, ◌+◌, List, [], ◌∷◌, ◌+
 use Rattle.std.specs.List.{flat_map}
 use Rattle.pef_model.specs.declared.command.Directive.{Directive}
 use Rattle.pef_model.specs.declared.command.Directive.TheVariants.{Once, GoAll}
-use Rattle.pef_model.specs.declared.command.Cmd.TheVariants.{HLd, HSt, HSelect, HEnter, UPate, UPagein, UPageout, UReturn, GLi, GLd, GSt, GIrq, Go}
+use Rattle.pef_model.specs.declared.command.Cmd.TheVariants.{HLd, HSt, HSelect, HEnter, UPate, URegslot, UUnregslot, UPagein, UPageout, UReturn, GLi, GLd, GSt, GIrq, Go}
 use Rattle.pef_model.specs.Plan.{default_config}
 use Rattle.pef_model.specs.RunLaw.{store_script}
 use Rattle.pef_script.specs.declared.fault.Cause.{Cause}
@@ -38,6 +38,8 @@ pub record EachCommandIsRead : Type 0 where
   pub select : IsRead (codes "0 h.select 1 2\n") (Once (HSelect 1 2))
   pub enter : IsRead (codes "0 h.enter 1 2 0x3\n") (Once (HEnter 1 2 3))
   pub partition : IsRead (codes "0 u.pate 1 0x200 3\n") (Once (UPate 1 0x200 3))
+  pub register : IsRead (codes "0 u.regslot 1 0x200 0x100 3 4\n") (Once (URegslot 1 0x200 0x100 3 4))
+  pub unregister : IsRead (codes "0 u.unregslot 1 2\n") (Once (UUnregslot 1 2))
   pub page_in : IsRead (codes "0 u.pagein 1 2 3 4 5\n") (Once (UPagein 1 2 3 4 5))
   pub page_out : IsRead (codes "0 u.pageout 1 2 3 4 5\n") (Once (UPageout 1 2 3 4 5))
   pub returns : IsRead (codes "0 u.return 1 2\n") (Once (UReturn 1 2 (replicate 9 0)))
@@ -99,6 +101,8 @@ commands =
     ∷ command (codes "h.select") (codes "0" ∷ codes "0" ∷ [])
     ∷ command (codes "h.enter") (codes "0" ∷ codes "0" ∷ codes "0" ∷ [])
     ∷ command (codes "u.pate") (codes "0" ∷ codes "0" ∷ codes "0" ∷ [])
+    ∷ command (codes "u.regslot") (codes "0" ∷ codes "0" ∷ codes "0" ∷ codes "0" ∷ codes "0" ∷ [])
+    ∷ command (codes "u.unregslot") (codes "0" ∷ codes "0" ∷ [])
     ∷ command (codes "u.pagein") (codes "0" ∷ codes "0" ∷ codes "0" ∷ codes "0" ∷ codes "0" ∷ [])
     ∷ command (codes "u.pageout") (codes "0" ∷ codes "0" ∷ codes "0" ∷ codes "0" ∷ codes "0" ∷ [])
     ∷ record { name = codes "u.return"; operands = codes "0" ∷ codes "0" ∷ []; more = 9 }

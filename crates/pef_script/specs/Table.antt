@@ -2,7 +2,7 @@
 use Rattle.std.specs.Prelude.{ℕ, List, [], ◌∷◌, map, replicate, slice_index, codes, Option}
 use Rattle.std.specs.List.{find}
 use Rattle.std.specs.Str.{bytes_eq}
-use Rattle.pef_model.specs.declared.command.Cmd.TheVariants.{HLd, HSt, HSelect, HEnter, UPate, UPagein, UPageout, UReturn, GLi, GLd, GSt, GIrq, Go}
+use Rattle.pef_model.specs.declared.command.Cmd.TheVariants.{HLd, HSt, HSelect, HEnter, UPate, URegslot, UUnregslot, UPagein, UPageout, UReturn, GLi, GLd, GSt, GIrq, Go}
 use Rattle.pef_model.specs.declared.command.Directive.{Directive}
 use Rattle.pef_model.specs.declared.command.Directive.TheVariants.{Once, GoAll}
 use Rattle.pef_script.specs.declared.table.Kind.{Kind}
@@ -46,6 +46,8 @@ shape w.HSt = row (codes "h.st") (Number ∷ Number ∷ []) (λ o. Once (HSt (at
 shape w.HSelect = row (codes "h.select") (Number ∷ Number ∷ []) (λ o. Once (HSelect (at o 0) (at o 1)))
 shape w.HEnter = row (codes "h.enter") (Number ∷ Number ∷ Number ∷ []) (λ o. Once (HEnter (at o 0) (at o 1) (at o 2)))
 shape w.UPate = row (codes "u.pate") (Number ∷ Number ∷ Number ∷ []) (λ o. Once (UPate (at o 0) (at o 1) (at o 2)))
+shape w.URegslot = row (codes "u.regslot") (Number ∷ Number ∷ Number ∷ Number ∷ Number ∷ []) (λ o. Once (URegslot (at o 0) (at o 1) (at o 2) (at o 3) (at o 4)))
+shape w.UUnregslot = row (codes "u.unregslot") (Number ∷ Number ∷ []) (λ o. Once (UUnregslot (at o 0) (at o 1)))
 shape w.UPagein = row (codes "u.pagein") (Number ∷ Number ∷ Number ∷ Number ∷ Number ∷ []) (λ o. Once (UPagein (at o 0) (at o 1) (at o 2) (at o 3) (at o 4)))
 shape w.UPageout = row (codes "u.pageout") (Number ∷ Number ∷ Number ∷ Number ∷ Number ∷ []) (λ o. Once (UPageout (at o 0) (at o 1) (at o 2) (at o 3) (at o 4)))
 shape w.UReturn = record (row (codes "u.return") (Number ∷ Number ∷ []) (λ o. Once (UReturn (at o 0) (at o 1) (outputs o)))) { more = 9 }
@@ -58,7 +60,7 @@ shape w.GoAll = row (codes "go*") [] (λ o. GoAll)
 
 -- the commands that there are
 abbrev pub words : List Word
-words = w.HLd ∷ w.HSt ∷ w.HSelect ∷ w.HEnter ∷ w.UPate ∷ w.UPagein ∷ w.UPageout ∷ w.UReturn ∷ w.GLi ∷ w.GLd ∷ w.GSt ∷ w.GIrq ∷ w.Go ∷ w.GoAll ∷ []
+words = w.HLd ∷ w.HSt ∷ w.HSelect ∷ w.HEnter ∷ w.UPate ∷ w.URegslot ∷ w.UUnregslot ∷ w.UPagein ∷ w.UPageout ∷ w.UReturn ∷ w.GLi ∷ w.GLd ∷ w.GSt ∷ w.GIrq ∷ w.Go ∷ w.GoAll ∷ []
 
 -- the command of a name
 unfoldable pub word_named : List ℕ → Option Word

@@ -8,7 +8,7 @@ use Rattle.pef_model.specs.declared.config.EntropyWord.{EntropyWord}
 use Rattle.pef_model.specs.declared.command.Directive.{Directive}
 use Rattle.pef_model.specs.declared.command.Directive.TheVariants.{Once, GoAll}
 use Rattle.pef_model.specs.declared.command.Cmd.{Cmd}
-use Rattle.pef_model.specs.declared.command.Cmd.TheVariants.{HLd, HSt, HSelect, HEnter, UPate, UPagein, UPageout, UReturn, GLi, GLd, GSt}
+use Rattle.pef_model.specs.declared.command.Cmd.TheVariants.{HLd, HSt, HSelect, HEnter, UPate, URegslot, UUnregslot, UPagein, UPageout, UReturn, GLi, GLd, GSt}
 use Rattle.pef_model.specs.Plan.{IsInRange}
 use Rattle.pef_model.specs.Report.{command_name}
 use Rattle.pef_script.specs.Line.{ReadLine}
@@ -51,6 +51,8 @@ command_operands right (HSt ra value) = Number ra ∷ Number value ∷ []
 command_operands right (HSelect lpid vid) = Number lpid ∷ Number vid ∷ []
 command_operands right (HEnter lpid vid value) = Number lpid ∷ Number vid ∷ Number value ∷ []
 command_operands right (UPate lpid dw0 dw1) = Number lpid ∷ Number dw0 ∷ Number dw1 ∷ []
+command_operands right (URegslot lpid start size flags id) = Number lpid ∷ Number start ∷ Number size ∷ Number flags ∷ Number id ∷ []
+command_operands right (UUnregslot lpid id) = Number lpid ∷ Number id ∷ []
 command_operands right (UPagein lpid src gpa flags order) = Number lpid ∷ Number src ∷ Number gpa ∷ Number flags ∷ Number order ∷ []
 command_operands right (UPageout lpid dest gpa flags order) = Number lpid ∷ Number dest ∷ Number gpa ∷ Number flags ∷ Number order ∷ []
 command_operands right (UReturn r0 r2 outs) = Number r0 ∷ Number r2 ∷ map (λ out. Number out) outs

@@ -26,6 +26,8 @@ pub enum Word {
     HSelect,
     HEnter,
     UPate,
+    URegslot,
+    UUnregslot,
     UPagein,
     UPageout,
     UReturn,
@@ -73,12 +75,14 @@ macro_rules! row {
 }
 
 /// The commands of a script.
-pub static TABLE: [Row; 14] = [
+pub static TABLE: [Row; 16] = [
     row!(b"h.ld", [N], 0, HLd),
     row!(b"h.st", [N, N], 0, HSt),
     row!(b"h.select", [N, N], 0, HSelect),
     row!(b"h.enter", [N, N, N], 0, HEnter),
     row!(b"u.pate", [N, N, N], 0, UPate),
+    row!(b"u.regslot", [N, N, N, N, N], 0, URegslot),
+    row!(b"u.unregslot", [N, N], 0, UUnregslot),
     row!(b"u.pagein", [N, N, N, N, N], 0, UPagein),
     row!(b"u.pageout", [N, N, N, N, N], 0, UPageout),
     row!(b"u.return", [N, N], 9, UReturn),
@@ -129,6 +133,17 @@ pub fn made(word: Word, o: &Operands) -> Directive
             lpid: n[0],
             dw0: n[1],
             dw1: n[2],
+        },
+        Word::URegslot => Cmd::URegslot {
+            lpid: n[0],
+            start: n[1],
+            size: n[2],
+            flags: n[3],
+            id: n[4],
+        },
+        Word::UUnregslot => Cmd::UUnregslot {
+            lpid: n[0],
+            id: n[1],
         },
         Word::UPagein => Cmd::UPagein {
             lpid: n[0],
