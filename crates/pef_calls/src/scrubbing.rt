@@ -1,11 +1,9 @@
 //! What of a guest's registers the hypervisor sees with a hypercall.
 
 ghost use Rattle.std.specs.Prelude.{◌≡◌, ◌<◌};
-ghost use Rattle.pef_calls.specs.Table.{IsRow};
-ghost use Rattle.pef_calls.specs.Scrub.{scrubbed, value_scrubbed};
+ghost use Rattle.pef_model.specs.Hypercalls.{IsRow, scrubbed, value_scrubbed};
 
-use crate::row::Row;
-use pef_model::Regs;
+use pef_model::{Regs, Row};
 
 /// A guest's registers as they leave with the call of a row: R3 is the row's number, the row's inputs are kept, and every other
 /// register is 0, and so are `nip` and `srr0`.

@@ -1,9 +1,9 @@
 //! Tables of hypercalls, in the order of their numbers.
 
 ghost use Rattle.std.specs.Prelude.{◌≡◌, ◌<◌, ◌≤◌, ◌↔◌, IsTrue, IsSome, IfSome, option_map};
-ghost use Rattle.pef_calls.specs.Table.{IsRow, IsTable, row_of};
+ghost use Rattle.pef_model.specs.Hypercalls.{IsRow, IsTable, row_of};
 
-use crate::row::Row;
+use pef_model::Row;
 use std::marker::Model;
 
 /// A table of `N` hypercalls, seen as its rows: their numbers rise strictly, and each names registers from R4 to R12 alone.
@@ -14,8 +14,8 @@ pub struct Table<const N: usize> {
 
 impl<const N: usize> Model for Table<N> {
     ghost use Rattle.std.specs.Prelude.{List};
-    ghost use Rattle.pef_calls.specs.declared.row.Row.{Row};
-    ghost use Rattle.pef_calls.specs.Table.{IsTable};
+    ghost use Rattle.pef_model.specs.declared.hypercall.Row.{Row};
+    ghost use Rattle.pef_model.specs.Hypercalls.{IsTable};
 
     ghost Value = { List Row };
 

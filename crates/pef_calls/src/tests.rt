@@ -1,7 +1,7 @@
 //! Rows of the table, and what leaves with one, against values from the description of the table.
 
 use super::*;
-use pef_model::Regs;
+use pef_model::{H_CONFER, Regs, Row, RowKind};
 
 const CONFER: Row = Row {
     number: 9,

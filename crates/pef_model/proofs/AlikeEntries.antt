@@ -9,17 +9,18 @@ use Rattle.pef_model.specs.Doubleword.{doubleword}
 use Rattle.pef_model.specs.Guest.{Guest}
 use Rattle.pef_model.specs.Plan.{Plan, with_entropy}
 use Rattle.pef_model.specs.Event.{Event, mark_of}
-use Rattle.pef_model.specs.Target.{Ask, Target, Alone, AtGuest, AtFrame, target_in, target_of, is_guest, uses_hand, is_sealing}
+use Rattle.pef_model.specs.Target.{Ask, Target, Alone, AtGuest, AtFrame, target_in, target_of, is_guest, uses_hand, is_sealing, shows_register}
 use Rattle.pef_model.specs.Cpu.{CpuPart}
 use Rattle.pef_model.specs.Deed.{Deed, answer_alone, answer_frame, deed_guest, deed_frame, deed_frame_in, deed_copy}
-use Rattle.pef_model.specs.History.{cpu_after, guest_after, pool_after, frame_after, ask_of, entry_of, deed_after, next_entry, next_entry_by, found_after}
+use Rattle.pef_model.specs.History.{cpu_after, guest_after, pool_after, frame_after, ask_of, entry_of, deed_after, next_entry, next_entry_by, found_after, register_shown}
 use Rattle.pef_model.specs.SecretLaw.{open_cmd, open_answer, open_entry, AgreeButValue}
 use Rattle.pef_model.specs.View.{view}
 use Rattle.pef_model.specs.Alike.{AreAlikeOpen, begins_sealing, TouchesNoAborting}
 use Rattle.pef_model.proofs.Folds.{test_same}
-use Rattle.pef_model.proofs.Opened.{target_open, uses_hand_open, alone_open, frame_answer_open, sealing_agrees}
+use Rattle.pef_model.proofs.Opened.{target_open, uses_hand_open, shows_open, shown_open, alone_open, frame_answer_open, sealing_agrees}
 use Rattle.pef_model.proofs.Unworded.{unworded_frame, unworded}
 use Rattle.pef_model.proofs.Deeds.{no_secret_in_deeds, same_deed, IsShut, bytes_shut}
+use Rattle.pef_model.specs.declared.entry.Answer.TheVariants.{Val}
 
 -- an entry without its stamp
 abbrev pub unstamped : Event → Event
@@ -67,7 +68,8 @@ deeds_agree : (plan : Plan) (words : ℕ → List ℕ) (past history : List Even
 deeds_agree plan words past history ask cmd other Alone same cmds out =
     let answer : answer_alone plan ask.before cmd ≡ answer_alone plan ask.before other =
     alone_open plan ask.before cmd ∙ ap (answer_alone plan ask.before) cmds ∙ sym (alone_open plan ask.before other) in
-    record { answer = ap (open_answer ask.before) answer; after = refl; pool = refl; frame = refl; bytes = λ unsealed. refl }
+    let shows : shows_register ask.before cmd ≡ shows_register ask.before other = shows_open ask.before cmd ∙ ap (shows_register ask.before) cmds ∙ sym (shows_open ask.before other) in
+    record { answer = (λ i. open_answer ask.before (if shows i then Val ask.register else answer i)); after = refl; pool = refl; frame = refl; bytes = λ unsealed. refl }
 deeds_agree plan words past history ask cmd other (AtFrame n) same cmds out =
     subst (λ (d : Deed). AgreeButValue ask.before cmd (deed_frame plan n (frame_after plan n past) ask cmd) d)
     (ap (λ (bytes : List ℕ). deed_frame plan n bytes ask other) (same.frame n) ∙ sym (unworded_frame plan words n (frame_after (with_entropy plan words) n history) ask other ask.before))
@@ -119,7 +121,8 @@ deeds_shut plan words past history ask cmd other (AtGuest lpid) same cmds out sh
 asks_agree : (cpu other : CpuPart) (cmd with_ : Cmd) → cpu ≡ other → open_cmd cmd ≡ open_cmd with_ → ask_of cpu cmd ≡ ask_of other with_
 asks_agree cpu other cmd with_ cpus cmds =
     let uses : uses_hand cpu.ctx cmd ≡ uses_hand cpu.ctx with_ = uses_hand_open cpu.ctx cmd ∙ ap (uses_hand cpu.ctx) cmds ∙ sym (uses_hand_open cpu.ctx with_) in
-    (λ i. record { before = cpu.ctx; lpid = cpu.lpid; vid = cpu.vid; last = cpu.last; hand = if uses i then cpu.hand else [] })
+    let shown : register_shown cpu.ctx cmd cpu.own ≡ register_shown cpu.ctx with_ cpu.own = shown_open cpu.ctx cmd cpu.own ∙ ap (λ (x : Cmd). register_shown cpu.ctx x cpu.own) cmds ∙ sym (shown_open cpu.ctx with_ cpu.own) in
+    (λ i. record { before = cpu.ctx; lpid = cpu.lpid; vid = cpu.vid; last = cpu.last; hand = if uses i then cpu.hand else []; register = shown i })
     ∙ ap (λ (x : CpuPart). ask_of x with_) cpus
 
 module _ (plan : Plan) (words : ℕ → List ℕ) (past history : List Event) (e f : Event) (same : Same plan words past history) (p : IsNext plan past e) (q : IsNext (with_entropy plan words) history f) (alike : AreAlikeOpen e f) where

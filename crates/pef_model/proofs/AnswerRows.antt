@@ -7,6 +7,7 @@ use Rattle.pef_model.specs.declared.state.Work.TheVariants.{Inward, Outward}
 use Rattle.pef_model.specs.declared.state.Ctx.{Ctx}
 use Rattle.pef_model.specs.declared.state.Ctx.TheVariants as ctx
 use Rattle.pef_model.specs.declared.command.Code.{Code}
+use Rattle.pef_model.specs.declared.command.Code.TheVariants.{USuccess, UParameter, UP2, UP3, UP4, UP5, UFunction, UBusy}
 use Rattle.pef_model.specs.declared.command.Cmd.{Cmd}
 use Rattle.pef_model.specs.declared.command.Cmd.TheVariants.{HLd, HSt, HSelect, HEnter, UPate, URegslot, UUnregslot, UPagein, UPageout, UReturn, Go}
 use Rattle.pef_model.specs.Plan.{Plan}
@@ -20,12 +21,24 @@ use Rattle.pef_model.specs.Deed.{Deed, answer_select, returning, deed_return, de
 use Rattle.pef_model.specs.History.{cpu_after, guest_after, pool_after, deed_after, ask_of, next_entry}
 use Rattle.pef_model.specs.AnswerLaw.{is_of_page_in, is_of_page_out, can_answer, EachAnswerIsOfItsRow}
 
+-- what holds of the first code of some tests, and of those of the others, holds of the one that comes back
+one_of : (P : Code → Type 0) (b : Bool) (first : Code) (rest : Option Code) → P first → ((code : Code) → rest ≡ Some code → P code) → (code : Code) → (if b then Some first else rest) ≡ Some code → P code
+one_of P true first rest here more code h = subst P (let same : first ≡ code = cc in same) here
+one_of P false first rest here more code h = more code h
+
+none_here : {code : Code} → ◌≡◌ {A = Option Code} None (Some code) → ⊥
+none_here h = cc
+
 -- the codes of the two page calls
 page_in_codes : (plan : Plan) (g : GuestPart) (src gpa flags order : ℕ) (code : Code) → page_in_operands plan g src gpa flags order ≡ Some code → is_of_page_in code ≡ true
-page_in_codes plan g src gpa flags order code h = grind (arith, common_steps)
+page_in_codes plan g src gpa flags order =
+    let P : Code → Type 0 = (λ code. is_of_page_in code ≡ true) in
+    one_of P _ UParameter _ refl (one_of P _ UP2 _ refl (one_of P _ UP3 _ refl (one_of P _ UP4 _ refl (one_of P _ UP5 _ refl (one_of P _ UBusy _ refl (λ code h. absurd (none_here h)))))))
 
 page_out_codes : (plan : Plan) (g : GuestPart) (dest gpa flags order : ℕ) (code : Code) → page_out_code plan g dest gpa flags order ≡ Some code → is_of_page_out code ≡ true
-page_out_codes plan g dest gpa flags order code h = grind (arith, common_steps)
+page_out_codes plan g dest gpa flags order =
+    let P : Code → Type 0 = (λ code. is_of_page_out code ≡ true) in
+    one_of P _ UParameter _ refl (one_of P _ UP2 _ refl (one_of P _ UP3 _ refl (one_of P _ UFunction _ refl (one_of P _ UP4 _ refl (one_of P _ UP5 _ refl (one_of P _ USuccess _ refl (one_of P _ UBusy _ refl (λ code h. absurd (none_here h)))))))))
 
 -- the deed of a step has such an answer
 abbrev pub Can : Ctx → Cmd → Deed → Type 0

@@ -1,33 +1,41 @@
 -- A vCPU's register holds what was last assigned.
-use Rattle.std.proofs.Common.{◌≡◌, ◌≢◌, ℕ, ◌<◌, List, [], ◌∷◌, length, Bool, true, false, refl, ap, sym, subst, ◌∙◌, ◌==◌, if◌then◌else◌, Option, Some, None, arith, get_or}
+use Rattle.std.proofs.Common.{◌≡◌, ◌≢◌, ℕ, ◌+◌, ◌%◌, ◌^◌, ◌<◌, ◌&&◌, List, [], ◌∷◌, length, Bool, true, false, refl, ap, sym, subst, ◌∙◌, ◌==◌, if◌then◌else◌, Option, Some, None, arith, get_or}
 use Rattle.std.proofs.lemmas.List.{get_or-replicate}
-use Rattle.std.specs.Prelude.{unwrap_or, slice_set}
+use Rattle.std.specs.Prelude.{unwrap_or, slice_index, slice_set, bit_xor}
 use Rattle.std.proofs.Math.ListN.{length-set}
 use Rattle.std.proofs.lemmas.Grind.{common_steps}
 use Rattle.std.proofs.lemmas.Bool.Decides.{nat_tests}
+use Rattle.pef_model.specs.declared.state.Pending.TheVariants as pending
+use Rattle.pef_model.specs.declared.state.VState.{VState}
+use Rattle.pef_model.specs.declared.state.VState.TheVariants.{Parked}
 use Rattle.pef_model.specs.declared.state.Regs.{Regs}
 use Rattle.pef_model.specs.declared.state.Work.TheVariants.{Inward, Outward}
 use Rattle.pef_model.specs.declared.state.Ctx.{Ctx}
 use Rattle.pef_model.specs.declared.state.Ctx.TheVariants as ctx
 use Rattle.pef_model.specs.declared.command.Cmd.{Cmd}
-use Rattle.pef_model.specs.declared.command.Cmd.TheVariants.{UPate, UReturn, GLi, GLd, GSt}
+use Rattle.pef_model.specs.declared.command.Cmd.TheVariants.{HEnter, UPate, UReturn, GLi, GAdd, GXor, GLd, GSt, GHcall}
+use Rattle.pef_model.specs.declared.entry.Exit.TheVariants as exit
 use Rattle.pef_model.specs.declared.entry.Answer.{Answer}
-use Rattle.pef_model.specs.declared.entry.Answer.TheVariants.{Done, Val, Ret, Enter}
+use Rattle.pef_model.specs.declared.entry.Answer.TheVariants.{Done, Val, Ret, Enter, Exit}
 use Rattle.pef_model.specs.Commands.{IsCommand}
 use Rattle.pef_model.specs.Plan.{Plan}
 use Rattle.pef_model.specs.Event.{Event, newest}
 use Rattle.pef_model.specs.Registers.{Call, fresh_registers, number_of, call_of, loaded}
 use Rattle.pef_model.specs.Target.{touches_guest}
 use Rattle.pef_model.specs.GuestPart.{ends_guest}
-use Rattle.pef_model.specs.Guest.{Guest, start_guest, entered_at, registers_after_call, registers_after_command, registers_of_hypervisor, registers_in, next_guest}
+use Rattle.pef_model.specs.Guest.{Guest, start_guest, entered_at, registers_after_call, registers_after_command, answered_with, registers_of_hypervisor, registers_in, next_guest}
 use Rattle.pef_model.specs.History.{guest_after, reg, IsLegal}
-use Rattle.pef_model.specs.SearchLaw.{decides_register, assigned_by_call, assigned_by_command, assigned_in, RegIsNewest}
+use Rattle.pef_model.specs.SearchLaw.{decides_register, assigned_by_call, assigned_by_command, assigned_entering, assigned_in, RegIsNewest}
 use Rattle.pef_model.proofs.Folds.{test_same, counts, skips}
 use Rattle.pef_model.proofs.Called.{length_loaded, returns_value}
 
 -- a command keeps that there are 32 registers
 length_command : (g : Guest) (regs : Regs) (cmd : Cmd) (a : Answer) → IsCommand cmd → length regs.gpr ≡ 32 → length (registers_after_command g regs cmd a).gpr ≡ 32
 length_command g regs (GLi rd value) Done k h = simp length-set h
+length_command g regs (GAdd rd ra rb) Done k h = simp length-set h
+length_command g regs (GXor rd ra rb) Done k h = simp length-set h
+length_command g regs GHcall (Ret code) k h = simp length-set h
+length_command g regs GHcall (Exit exit.Normal) k h = h
 length_command g regs (GLd rd gpa) (Val value) k h = simp length-set h
 length_command g regs (GSt rs gpa) Done k h = h
 length_command g regs cmd a k h = by_call (call_of cmd) a where
@@ -42,12 +50,20 @@ set_value gpr rd value r h k = by_test (r == rd) refl where
   by_test false t = let other : rd ≢ r = grind (arith, nat_tests) in grind (arith, common_steps)
 
 -- each register after a command of its vCPU
-command_value : (g : Guest) (regs : Regs) (cmd : Cmd) (a : Answer) (r : ℕ) → IsCommand cmd → length regs.gpr ≡ 32 → r < 32 →
-    get_or (registers_after_command g regs cmd a).gpr r 0 ≡ unwrap_or (assigned_by_command g cmd a r) (get_or regs.gpr r 0)
-command_value g regs (GLi rd value) Done r k h small = set_value regs.gpr rd value r h k.0
-command_value g regs (GLd rd gpa) (Val value) r k h small = set_value regs.gpr rd value r h k.0
-command_value g regs (GSt rs gpa) Done r k h small = refl
-command_value g regs cmd a r k h small = by_call (call_of cmd) a where
+command_value : (g : Guest) (vid : ℕ) (regs : Regs) → regs ≡ g.registers vid → (cmd : Cmd) (a : Answer) (r : ℕ) → IsCommand cmd → length regs.gpr ≡ 32 → r < 32 →
+    get_or (registers_after_command g regs cmd a).gpr r 0 ≡ unwrap_or (assigned_by_command g vid cmd a r) (get_or regs.gpr r 0)
+command_value g vid regs own (GLi rd value) Done r k h small = set_value regs.gpr rd value r h k.0
+command_value g vid regs own (GAdd rd ra rb) Done r k h small =
+    set_value regs.gpr rd ((slice_index regs.gpr ra + slice_index regs.gpr rb) % 2 ^ 64) r h k.0
+    ∙ ap (λ (x : Regs). unwrap_or (if r == rd then Some ((slice_index x.gpr ra + slice_index x.gpr rb) % 2 ^ 64) else None) (get_or regs.gpr r 0)) own
+command_value g vid regs own (GXor rd ra rb) Done r k h small =
+    set_value regs.gpr rd (bit_xor (slice_index regs.gpr ra) (slice_index regs.gpr rb)) r h k.0
+    ∙ ap (λ (x : Regs). unwrap_or (if r == rd then Some (bit_xor (slice_index x.gpr ra) (slice_index x.gpr rb)) else None) (get_or regs.gpr r 0)) own
+command_value g vid regs own GHcall (Ret code) r k h small = set_value regs.gpr 3 (number_of code) r h (omega arith)
+command_value g vid regs own GHcall (Exit exit.Normal) r k h small = refl
+command_value g vid regs own (GLd rd gpa) (Val value) r k h small = set_value regs.gpr rd value r h k.0
+command_value g vid regs own (GSt rs gpa) Done r k h small = refl
+command_value g vid regs own cmd a r k h small = by_call (call_of cmd) a where
   by_call : (call : Option Call) (a : Answer) → get_or (registers_after_call call regs cmd a).gpr r 0 ≡ unwrap_or (assigned_by_call call cmd a r) (get_or regs.gpr r 0)
   by_call (Some call) (Ret code) = returns_value regs.gpr cmd code r k h
   by_call call a = refl
@@ -68,15 +84,50 @@ abbrev pub ends_by : Cmd → Answer → Bool
 ends_by (UPate lpid dw0 dw1) (Ret code) = ends_guest code dw1
 ends_by cmd a = false
 
+-- whether a step of the hypervisor gives a vCPU that waits for it the answer of its hypercall
+abbrev pub waits_for_answer : VState → Bool
+waits_for_answer (Parked pending.Exit) = true
+waits_for_answer other = false
+
+abbrev pub answers_by : Guest → ℕ → Cmd → Answer → Bool
+answers_by g vid (HEnter lpid named value) Enter = (vid == named) && waits_for_answer (g.part.vcpus vid).state
+answers_by g vid cmd a = false
+
+-- in every other state its registers stay
+pub same_answered : (state : VState) (regs : Regs) (value : ℕ) → waits_for_answer state ≡ false → answered_with state regs value ≡ regs
+same_answered (Parked pending.Exit) regs value other = cc
+same_answered (Parked (pending.Hcall n)) regs value other = refl
+same_answered (Parked pending.Irq) regs value other = refl
+same_answered state regs value other = refl
+
+-- R3 alone changes where it is given, as a search finds it
+answered_value : (state : VState) (regs : Regs) (value r : ℕ) → length regs.gpr ≡ 32 → get_or (answered_with state regs value).gpr r 0 ≡ unwrap_or (assigned_entering state value r) (get_or regs.gpr r 0)
+answered_value (Parked pending.Exit) regs value r h = set_value regs.gpr 3 value r h (omega arith)
+answered_value (Parked (pending.Hcall n)) regs value r h = refl
+answered_value (Parked pending.Irq) regs value r h = refl
+answered_value state regs value r h = refl
+
+length_answered : (state : VState) (regs : Regs) (value : ℕ) → length regs.gpr ≡ 32 → length (answered_with state regs value).gpr ≡ 32
+length_answered (Parked pending.Exit) regs value h = simp length-set h
+length_answered (Parked (pending.Hcall n)) regs value h = h
+length_answered (Parked pending.Irq) regs value h = h
+length_answered state regs value h = h
+
 -- no other step of the hypervisor does
-pub gpr_in_hypervisor : (g : Guest) (selected : ℕ) (a : Answer) (cmd : Cmd) (vid : ℕ) → ends_by cmd a ≡ false → (registers_of_hypervisor g selected a cmd vid).gpr ≡ (g.registers vid).gpr
-gpr_in_hypervisor g selected Enter (UReturn r0 r2 outs) vid goes_on = by_test (vid == selected) refl where
+pub gpr_in_hypervisor : (g : Guest) (selected : ℕ) (a : Answer) (cmd : Cmd) (vid : ℕ) → ends_by cmd a ≡ false → answers_by g vid cmd a ≡ false → (registers_of_hypervisor g selected a cmd vid).gpr ≡ (g.registers vid).gpr
+gpr_in_hypervisor g selected Enter (UReturn r0 r2 outs) vid goes_on none = by_test (vid == selected) refl where
   by_test : (b : Bool) → (vid == selected) ≡ b → (if b then entered_at (g.registers selected) r2 else g.registers vid).gpr ≡ (g.registers vid).gpr
   by_test true t = entered_gpr (g.registers selected) r2 ∙ ap (λ (v : ℕ). (g.registers v).gpr) (sym (test_same vid selected t))
   by_test false t = refl
-gpr_in_hypervisor g selected Enter cmd vid goes_on = refl
-gpr_in_hypervisor g selected (Ret code) (UPate lpid dw0 dw1) vid goes_on = ap (λ (b : Bool). ((if b then (λ n. fresh_registers) else g.registers) vid).gpr) goes_on
-gpr_in_hypervisor g selected a cmd vid goes_on = refl
+gpr_in_hypervisor g selected Enter (HEnter lpid named value) vid goes_on none = by_test (vid == named) refl none where
+  by_test : (b : Bool) → (vid == named) ≡ b → (b && waits_for_answer (g.part.vcpus vid).state) ≡ false → (if b then answered_with (g.part.vcpus named).state (g.registers named) value else g.registers vid).gpr ≡ (g.registers vid).gpr
+  by_test true t other =
+      ap (λ (v : ℕ). (answered_with (g.part.vcpus v).state (g.registers v) value).gpr) (sym (test_same vid named t))
+      ∙ ap (λ (x : Regs). x.gpr) (same_answered (g.part.vcpus vid).state (g.registers vid) value other)
+  by_test false t other = refl
+gpr_in_hypervisor g selected Enter cmd vid goes_on none = refl
+gpr_in_hypervisor g selected (Ret code) (UPate lpid dw0 dw1) vid goes_on none = ap (λ (b : Bool). ((if b then (λ n. fresh_registers) else g.registers) vid).gpr) goes_on
+gpr_in_hypervisor g selected a cmd vid goes_on none = refl
 
 -- what holds of a guest's registers, and of registers that are zero, holds after a partition entry was written
 by_end : (P : Regs → Type 0) (g : Guest) (vid : ℕ) (ends : Bool) → P fresh_registers → P (g.registers vid) → P ((if ends then (λ n. fresh_registers) else g.registers) vid)
@@ -85,7 +136,11 @@ by_end P g vid false zero old = old
 
 full_after : (c : Ctx) (g : Guest) (selected : ℕ) (cmd : Cmd) (a : Answer) → IsCommand cmd → AreFull g.registers → AreFull (registers_in c g selected cmd a)
 full_after ctx.Hv g selected (UPate lpid dw0 dw1) (Ret code) k full vid = by_end (λ (regs : Regs). length regs.gpr ≡ 32) g vid (ends_guest code dw1) refl (full vid)
-full_after ctx.Hv g selected cmd a k full vid = ap length (gpr_in_hypervisor g selected a cmd vid refl) ∙ full vid
+full_after ctx.Hv g selected (HEnter lpid named value) Enter k full vid = by_test (vid == named) where
+  by_test : (b : Bool) → length (if b then answered_with (g.part.vcpus named).state (g.registers named) value else g.registers vid).gpr ≡ 32
+  by_test true = length_answered (g.part.vcpus named).state (g.registers named) value (full named)
+  by_test false = full vid
+full_after ctx.Hv g selected cmd a k full vid = ap length (gpr_in_hypervisor g selected a cmd vid refl refl) ∙ full vid
 full_after (ctx.Uv (Inward move)) g selected cmd a k full vid = full vid
 full_after (ctx.Uv (Outward move)) g selected cmd a k full vid = full vid
 full_after (ctx.Guest run) g selected cmd a k full vid = by_test (vid == run.vid) where
@@ -99,16 +154,23 @@ value_after_step ctx.Hv g selected (UPate lpid dw0 dw1) (Ret code) vid r k full 
   by_test : (b : Bool) → get_or ((if b then (λ n. fresh_registers) else g.registers) vid).gpr r 0 ≡ unwrap_or (if b then Some 0 else None) (get_or (g.registers vid).gpr r 0)
   by_test true = get_or-replicate 32 r 0 0 small
   by_test false = refl
-value_after_step ctx.Hv g selected cmd a vid r k full small = ap (λ (gpr : List ℕ). get_or gpr r 0) (gpr_in_hypervisor g selected a cmd vid refl)
+value_after_step ctx.Hv g selected (HEnter lpid named value) Enter vid r k full small = by_test (vid == named) refl where
+  by_test : (b : Bool) → (vid == named) ≡ b →
+      get_or (if b then answered_with (g.part.vcpus named).state (g.registers named) value else g.registers vid).gpr r 0 ≡ unwrap_or (if b then assigned_entering (g.part.vcpus vid).state value r else None) (get_or (g.registers vid).gpr r 0)
+  by_test true t =
+      ap (λ (v : ℕ). get_or (answered_with (g.part.vcpus v).state (g.registers v) value).gpr r 0) (sym (test_same vid named t))
+      ∙ answered_value (g.part.vcpus vid).state (g.registers vid) value r (full vid)
+  by_test false t = refl
+value_after_step ctx.Hv g selected cmd a vid r k full small = ap (λ (gpr : List ℕ). get_or gpr r 0) (gpr_in_hypervisor g selected a cmd vid refl refl)
 value_after_step (ctx.Uv (Inward move)) g selected cmd a vid r k full small = refl
 value_after_step (ctx.Uv (Outward move)) g selected cmd a vid r k full small = refl
 value_after_step (ctx.Guest run) g selected cmd a vid r k full small = by_test (vid == run.vid) refl where
   by_test : (b : Bool) → (vid == run.vid) ≡ b →
       get_or (if b then registers_after_command g (g.registers run.vid) cmd a else g.registers vid).gpr r 0
-      ≡ unwrap_or (if b then assigned_by_command g cmd a r else None) (get_or (g.registers vid).gpr r 0)
+      ≡ unwrap_or (if b then assigned_by_command g vid cmd a r else None) (get_or (g.registers vid).gpr r 0)
   by_test true t =
-      command_value g (g.registers run.vid) cmd a r k (full run.vid) small
-      ∙ ap (λ (v : ℕ). unwrap_or (assigned_by_command g cmd a r) (get_or (g.registers v).gpr r 0)) (sym (test_same vid run.vid t))
+      command_value g vid (g.registers run.vid) (sym (ap g.registers (test_same vid run.vid t))) cmd a r k (full run.vid) small
+      ∙ ap (λ (v : ℕ). unwrap_or (assigned_by_command g vid cmd a r) (get_or (g.registers v).gpr r 0)) (sym (test_same vid run.vid t))
   by_test false t = refl
 
 -- so each vCPU has

@@ -16,7 +16,7 @@ use Rattle.pef_model.specs.Guest.{Guest}
 use Rattle.pef_model.specs.PageOut.{page_out_code}
 use Rattle.pef_model.specs.PageIn.{page_in_operands}
 use Rattle.pef_model.specs.Deed.{Deed, returning, deed_page_out_begin, deed_page_in_begin, deed_page_in_with}
-use Rattle.pef_model.specs.History.{cpu_after, guest_after, pool_after, deed_after, ask_of, Extends}
+use Rattle.pef_model.specs.History.{cpu_after, guest_after, pool_after, deed_after, ask_of, Extends, register_shown}
 use Rattle.pef_model.specs.MoveLaw.{move_named, EachCallBeginsWhatIsNamed}
 
 -- a call that answers Step did not come back at once
@@ -41,7 +41,7 @@ module _ (plan : Plan) (past : List Event) (e : Event) (lpid ra gpa flags order 
   any = nat_lt 0 (pool_after plan past)
 
   abbrev ask_in : Ctx → Cmd → Ask
-  ask_in c cmd = record { before = c; lpid = cpu.lpid; vid = cpu.vid; last = cpu.last; hand = if uses_hand c cmd then cpu.hand else [] }
+  ask_in c cmd = record { before = c; lpid = cpu.lpid; vid = cpu.vid; last = cpu.last; hand = if uses_hand c cmd then cpu.hand else []; register = register_shown c cmd cpu.own }
 
   abbrev named : Bool
   named = nat_le 1 lpid && nat_le lpid plan.guests

@@ -4,7 +4,7 @@ use Rattle.pef_model.specs.declared.state.Work.TheVariants.{Inward, Outward}
 use Rattle.pef_model.specs.declared.state.Ctx.{Ctx}
 use Rattle.pef_model.specs.declared.state.Ctx.TheVariants as ctx
 use Rattle.pef_model.specs.declared.command.Cmd.{Cmd}
-use Rattle.pef_model.specs.declared.command.Cmd.TheVariants.{HLd, HSt, HSelect, HEnter, UPate, URegslot, UUnregslot, UPagein, UPageout, UReturn, GLi, GLd, GSt, GIrq, Go}
+use Rattle.pef_model.specs.declared.command.Cmd.TheVariants.{HLd, HSt, HSelect, HEnter, UPate, URegslot, UUnregslot, UPagein, UPageout, UReturn, GLi, GAdd, GXor, GLd, GSt, GHcall, GIrq, Go, Dump}
 use Rattle.pef_model.specs.Plan.{Plan}
 use Rattle.pef_model.specs.Event.{Event, Mark, mark_of}
 use Rattle.pef_model.specs.Target.{has_real_place}
@@ -36,8 +36,12 @@ change_in plan past cpu mark ctx.Hv h (UPageout lpid dest gpa flags order) = nam
     (record { ctx_is = refl; hand_is = refl; lpid_is = refl }) (page_out plan past cpu mark h lpid dest gpa flags order)
 change_in plan past cpu mark ctx.Hv h (UReturn r0 r2 outs) = return plan past cpu mark h r0 r2 outs
 change_in plan past cpu mark ctx.Hv h (GLi rd value) = refused plan past cpu mark ctx.Hv h (GLi rd value) (record { ctx_is = refl; hand_is = refl; lpid_is = refl }) refl
+change_in plan past cpu mark ctx.Hv h (GAdd rd ra rb) = refused plan past cpu mark ctx.Hv h (GAdd rd ra rb) (record { ctx_is = refl; hand_is = refl; lpid_is = refl }) refl
+change_in plan past cpu mark ctx.Hv h (GXor rd ra rb) = refused plan past cpu mark ctx.Hv h (GXor rd ra rb) (record { ctx_is = refl; hand_is = refl; lpid_is = refl }) refl
 change_in plan past cpu mark ctx.Hv h (GLd rd gpa) = refused plan past cpu mark ctx.Hv h (GLd rd gpa) (record { ctx_is = refl; hand_is = refl; lpid_is = refl }) refl
 change_in plan past cpu mark ctx.Hv h (GSt rs gpa) = refused plan past cpu mark ctx.Hv h (GSt rs gpa) (record { ctx_is = refl; hand_is = refl; lpid_is = refl }) refl
+change_in plan past cpu mark ctx.Hv h GHcall = refused plan past cpu mark ctx.Hv h GHcall (record { ctx_is = refl; hand_is = refl; lpid_is = refl }) refl
+change_in plan past cpu mark ctx.Hv h (Dump reg) = refused plan past cpu mark ctx.Hv h (Dump reg) (record { ctx_is = refl; hand_is = refl; lpid_is = refl }) refl
 change_in plan past cpu mark ctx.Hv h GIrq = refused plan past cpu mark ctx.Hv h GIrq (record { ctx_is = refl; hand_is = refl; lpid_is = refl }) refl
 change_in plan past cpu mark ctx.Hv h Go = refused plan past cpu mark ctx.Hv h Go (record { ctx_is = refl; hand_is = refl; lpid_is = refl }) refl
 change_in plan past cpu mark (ctx.Uv (Outward move)) h Go = go plan past cpu mark move h move.copied refl
@@ -55,6 +59,10 @@ change_in plan past cpu mark (ctx.Guest run) h (UPagein lpid src gpa flags order
 change_in plan past cpu mark (ctx.Guest run) h (UPageout lpid dest gpa flags order) = at_own plan past cpu mark run h (UPageout lpid dest gpa flags order) refl
 change_in plan past cpu mark (ctx.Guest run) h (UReturn r0 r2 outs) = at_own plan past cpu mark run h (UReturn r0 r2 outs) refl
 change_in plan past cpu mark (ctx.Guest run) h (GLi rd value) = at_own plan past cpu mark run h (GLi rd value) refl
+change_in plan past cpu mark (ctx.Guest run) h (GAdd rd ra rb) = at_own plan past cpu mark run h (GAdd rd ra rb) refl
+change_in plan past cpu mark (ctx.Guest run) h (GXor rd ra rb) = at_own plan past cpu mark run h (GXor rd ra rb) refl
+change_in plan past cpu mark (ctx.Guest run) h GHcall = at_own plan past cpu mark run h GHcall refl
+change_in plan past cpu mark (ctx.Guest run) h (Dump reg) = at_own plan past cpu mark run h (Dump reg) refl
 change_in plan past cpu mark (ctx.Guest run) h (GLd rd gpa) = at_own plan past cpu mark run h (GLd rd gpa) refl
 change_in plan past cpu mark (ctx.Guest run) h (GSt rs gpa) = at_own plan past cpu mark run h (GSt rs gpa) refl
 change_in plan past cpu mark (ctx.Guest run) h GIrq = at_own plan past cpu mark run h GIrq refl

@@ -1,7 +1,7 @@
 -- What a step can change: its CPU, the public part of one guest, the pool.
 use Rattle.std.proofs.Common.{◌≡◌, ◌≢◌, ℕ, ◌+◌, ◌<◌, List, ◌∷◌, Bool, true, false, not, refl, ap, sym, ◌∙◌, ◌==◌, ◌&&◌, ◌||◌, ◌⊎◌, if◌then◌else◌, None}
 use Rattle.pef_model.specs.declared.state.Kind.TheVariants.{Secure, Out}
-use Rattle.pef_model.specs.declared.state.Pending.TheVariants as pending
+use Rattle.pef_model.specs.declared.state.Pending.{Pending}
 use Rattle.pef_model.specs.declared.state.Phase.{Phase}
 use Rattle.pef_model.specs.declared.state.Phase.TheVariants as phase
 use Rattle.pef_model.specs.declared.state.VState.TheVariants as vstate
@@ -171,13 +171,14 @@ pub record Selects (plan : Plan) (past : List Event) (cpu : CpuPart) (e : Event)
   pub parts : KeepsParts plan past e
   pub pool : pool_after plan (e ∷ past) ≡ pool_after plan past
 
--- an interrupt takes a vCPU from its CPU
+-- a vCPU leaves its CPU, and waits
 pub record Parks (plan : Plan) (past : List Event) (cpu : CpuPart) (e : Event) : Type 0 where
   pub run : Run
+  pub waits : Pending
   pub before : cpu.ctx ≡ ctx.Guest run
   pub generation : run.generation ≡ (part_after plan past run.lpid).generation
   pub cpu_is : LeavesCpu cpu e ctx.Hv cpu.hand run.lpid
-  pub parts : PutsPart plan past e run.lpid (with_parked_vcpu (part_after plan past run.lpid) run.vid pending.Irq)
+  pub parts : PutsPart plan past e run.lpid (with_parked_vcpu (part_after plan past run.lpid) run.vid waits)
   pub pool : pool_after plan (e ∷ past) ≡ pool_after plan past
 
 -- a CPU finds that the guest which it runs has ended

@@ -16,7 +16,7 @@ use Rattle.pef_model.specs.Memory.{offset_of}
 use Rattle.pef_model.specs.GuestPart.{meets}
 use Rattle.pef_model.specs.Guest.{Guest}
 use Rattle.pef_model.specs.Deed.{Deed, deed_access, deed_gone}
-use Rattle.pef_model.specs.History.{cpu_after, guest_after, pool_after, found_after, deed_after, Extends}
+use Rattle.pef_model.specs.History.{cpu_after, guest_after, pool_after, found_after, deed_after, Extends, register_shown}
 
 -- what an entry tells of its deed
 abbrev pub deed_of : Event → Deed
@@ -24,7 +24,7 @@ deed_of e = record { answer = e.trace.answer; after = e.saw.after; shown = e.saw
 
 -- what a step learns of its CPU in this context
 abbrev pub ask_in : CpuPart → Ctx → Cmd → Ask
-ask_in cpu c cmd = record { before = c; lpid = cpu.lpid; vid = cpu.vid; last = cpu.last; hand = if uses_hand c cmd then cpu.hand else [] }
+ask_in cpu c cmd = record { before = c; lpid = cpu.lpid; vid = cpu.vid; last = cpu.last; hand = if uses_hand c cmd then cpu.hand else []; register = register_shown c cmd cpu.own }
 
 -- what it does
 abbrev pub deed_in : Plan → List Event → CpuPart → Ctx → Cmd → Deed

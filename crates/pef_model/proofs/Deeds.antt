@@ -6,7 +6,7 @@ use Rattle.pef_model.specs.declared.state.Ctx.{Ctx}
 use Rattle.pef_model.specs.declared.state.Ctx.TheVariants as ctx
 use Rattle.pef_model.specs.declared.command.Code.{Code}
 use Rattle.pef_model.specs.declared.command.Cmd.{Cmd}
-use Rattle.pef_model.specs.declared.command.Cmd.TheVariants.{UPageout, GLi, GLd, GSt, GIrq}
+use Rattle.pef_model.specs.declared.command.Cmd.TheVariants.{UPageout, GLi, GLd, GSt, GIrq, GHcall, Dump}
 use Rattle.pef_model.specs.declared.entry.Answer.{Answer}
 use Rattle.pef_model.specs.declared.entry.Answer.TheVariants.{Done, Val}
 use Rattle.pef_model.specs.declared.state.Phase.{Phase}
@@ -20,9 +20,14 @@ use Rattle.pef_model.specs.GuestPart.{GuestPart, Meeting, Private, Normal, Unbac
 use Rattle.pef_model.specs.Seal.{doublewords}
 use Rattle.pef_model.specs.Guest.{Guest}
 use Rattle.pef_model.specs.PageOut.{page_out_code, tag_of, private_page, bytes_out}
-use Rattle.pef_model.specs.Deed.{Deed, deed_access, deed_interrupt, deed_running, deed_gone, returning, deed_page_out_begin, deed_hypervisor, deed_guest_in, deed_guest}
+use Rattle.pef_model.specs.Deed.{Deed, deed_access, deed_interrupt, deed_running, deed_gone, returning, deed_page_out_begin, deed_hypervisor, deed_guest_in, deed_guest, deed_hypercall, deed_by_row, deed_by_kind}
 use Rattle.pef_model.specs.SecretLaw.{AgreeButValue, NoSecretInDeeds, open_cmd, open_answer_of_guest}
 use Rattle.pef_model.proofs.Opened.{sealing_agrees}
+use Rattle.pef_model.specs.declared.hypercall.Row.{Row}
+use Rattle.pef_model.specs.declared.hypercall.RowKind.{RowKind}
+use Rattle.pef_model.specs.declared.hypercall.RowKind.TheVariants.{Reflected, Local, Svm}
+use Rattle.pef_model.specs.declared.hypercall.TheConstants.{HCALLS}
+use Rattle.pef_model.specs.Hypercalls.{row_of}
 
 -- another guest with the public part of this one
 abbrev like : Guest → Guest → Guest
@@ -66,6 +71,34 @@ interrupt_agrees : (run : Run) (ask : Ask) (gpr gpr_too : List ℕ) (p : Phase) 
 interrupt_agrees run ask gpr gpr_too phase.Normal = record { answer = refl; after = refl; pool = refl; frame = refl; bytes = λ unsealed. refl }
 interrupt_agrees run ask gpr gpr_too p = same_deed (ctx.Guest run) GIrq (deed_interrupt p gpr ask)
 
+-- a hypercall with other registers, where it lets out the same: the number is the same then
+first_same : {x y : ℕ} {xs ys : List ℕ} → ◌≡◌ {A = List ℕ} (x ∷ xs) (y ∷ ys) → x ≡ y
+first_same h = cc
+
+number_of_call : (ask : Ask) (gpr : List ℕ) (row : Option Row) → (tail : List ℕ) × ((deed_by_row ask gpr row).shown ≡ slice_index gpr 3 ∷ tail)
+number_of_call ask gpr None = ([], refl)
+number_of_call ask gpr (Some row) = by_kind row.kind where
+  by_kind : (kind : RowKind) → (tail : List ℕ) × ((deed_by_kind kind ask gpr row).shown ≡ slice_index gpr 3 ∷ tail)
+  by_kind Reflected = (_, refl)
+  by_kind Local = ([], refl)
+  by_kind Svm = ([], refl)
+
+row_agrees : (run : Run) (ask : Ask) (gpr gpr_too : List ℕ) (row : Option Row) → AgreeButValue (ctx.Guest run) GHcall (deed_by_row ask gpr row) (deed_by_row ask gpr_too row)
+row_agrees run ask gpr gpr_too None = record { answer = refl; after = refl; pool = refl; frame = refl; bytes = λ unsealed. refl }
+row_agrees run ask gpr gpr_too (Some row) = by_kind row.kind where
+  by_kind : (kind : RowKind) → AgreeButValue (ctx.Guest run) GHcall (deed_by_kind kind ask gpr row) (deed_by_kind kind ask gpr_too row)
+  by_kind Reflected = record { answer = refl; after = refl; pool = refl; frame = refl; bytes = λ unsealed. refl }
+  by_kind Local = record { answer = refl; after = refl; pool = refl; frame = refl; bytes = λ unsealed. refl }
+  by_kind Svm = record { answer = refl; after = refl; pool = refl; frame = refl; bytes = λ unsealed. refl }
+
+call_agrees : (run : Run) (ask : Ask) (gpr gpr_too : List ℕ) (p : Phase) → (deed_hypercall p gpr ask).shown ≡ (deed_hypercall p gpr_too ask).shown → AgreeButValue (ctx.Guest run) GHcall (deed_hypercall p gpr ask) (deed_hypercall p gpr_too ask)
+call_agrees run ask gpr gpr_too phase.Normal shown = record { answer = refl; after = refl; pool = refl; frame = refl; bytes = λ unsealed. refl }
+call_agrees run ask gpr gpr_too p shown =
+    let one = number_of_call ask gpr (row_of HCALLS (slice_index gpr 3)) in
+    let two = number_of_call ask gpr_too (row_of HCALLS (slice_index gpr_too 3)) in
+    subst (λ (n : ℕ). AgreeButValue (ctx.Guest run) GHcall (deed_by_row ask gpr (row_of HCALLS (slice_index gpr 3))) (deed_by_row ask gpr_too (row_of HCALLS n)))
+    (first_same (sym one.1 ∙ shown ∙ two.1)) (row_agrees run ask gpr gpr_too (row_of HCALLS (slice_index gpr 3)))
+
 running_agrees : (plan : Plan) (run : Run) (g h : Guest) (found : ℕ → ℕ → ℕ) (any : Bool) (ask : Ask) (cmd : Cmd) →
     (deed_running plan run g found any ask cmd).shown ≡ (deed_running plan run (like g h) found any ask (open_cmd cmd)).shown →
     AgreeButValue (ctx.Guest run) cmd (deed_running plan run g found any ask cmd) (deed_running plan run (like g h) found any ask (open_cmd cmd))
@@ -74,6 +107,8 @@ running_agrees plan run g h found any ask (GLd rd gpa) shown =
 running_agrees plan run g h found any ask (GSt rs gpa) shown =
     access_agrees run ask (GSt rs gpa) Done Done (λ n. Done) (λ n. Done) (slice_index (g.registers run.vid).gpr rs ∷ []) (slice_index (h.registers run.vid).gpr rs ∷ []) any (meets plan g.part gpa) refl (λ n. refl) shown
 running_agrees plan run g h found any ask GIrq shown = interrupt_agrees run ask (g.registers run.vid).gpr (h.registers run.vid).gpr g.part.phase
+running_agrees plan run g h found any ask GHcall shown = call_agrees run ask (g.registers run.vid).gpr (h.registers run.vid).gpr g.part.phase shown
+running_agrees plan run g h found any ask (Dump reg) shown = record { answer = refl; after = refl; pool = refl; frame = refl; bytes = λ unsealed. refl }
 running_agrees plan run g h found any ask cmd shown = same_deed (ctx.Guest run) cmd (deed_running plan run g found any ask cmd)
 
 -- a page-out that begins seals another page, and does the same else

@@ -18,7 +18,7 @@ use Rattle.pef_model.specs.GuestPart.{Page, GuestPart, secured, refused_in, part
 use Rattle.pef_model.specs.Guest.{Guest, start_guest, next_guest}
 use Rattle.pef_model.specs.PageIn.{is_last_sealed}
 use Rattle.pef_model.specs.Deed.{Deed, coming_back, deed_page_in_test}
-use Rattle.pef_model.specs.History.{cpu_after, guest_after, deed_after, ask_of, Extends, last_begun}
+use Rattle.pef_model.specs.History.{cpu_after, guest_after, deed_after, ask_of, Extends, last_begun, register_shown}
 use Rattle.pef_model.specs.FreshLaw.{EndsPageIn, Freshness}
 use Rattle.pef_model.proofs.Folds.{same_test, counts}
 use Rattle.pef_model.proofs.Puts.{put-here}
@@ -55,7 +55,7 @@ module _ (plan : Plan) (past : List Event) (move : Move) (e : Event) (extends : 
   cpu = cpu_after plan e.trace.cpu past
 
   abbrev ask : Ctx → Ask
-  ask c = record { before = c; lpid = cpu.lpid; vid = cpu.vid; last = cpu.last; hand = if uses_hand c Go then cpu.hand else [] }
+  ask c = record { before = c; lpid = cpu.lpid; vid = cpu.vid; last = cpu.last; hand = if uses_hand c Go then cpu.hand else []; register = register_shown c Go cpu.own }
 
   abbrev here : Ask
   here = ask (ctx.Uv (Inward move))

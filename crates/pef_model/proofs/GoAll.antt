@@ -72,18 +72,18 @@ work_goes work deed ends step goes_on none true h = inr (record { ends = ends; n
 work_goes work deed ends step goes_on none false h = inl (record { work = work; is = refl; step = step; goes_on = goes_on; fewer = rw (h, none) refl })
 
 -- `go` ends go* but where the page of the call in progress isn't copied yet
-deed_goes : (plan : Plan) (past : List Event) (c : Ctx) (lpid vid : ℕ) (last : Answer) (hand : List ℕ) →
-    let ask : Ask = record { before = c; lpid = lpid; vid = vid; last = last; hand = hand } in
+deed_goes : (plan : Plan) (past : List Event) (c : Ctx) (lpid vid : ℕ) (last : Answer) (hand : List ℕ) (register : ℕ) →
+    let ask : Ask = record { before = c; lpid = lpid; vid = vid; last = last; hand = hand; register = register } in
     let deed : Deed = deed_after plan past ask Go (target_in plan c lpid Go) in
     GoesFurther c deed ⊎ GoesNoFurther c deed
-deed_goes plan past ctx.Hv lpid vid last hand = inr (record { ends = refl; none = refl })
-deed_goes plan past (ctx.Guest run) lpid vid last hand = inr (record { ends = refl; none = refl })
-deed_goes plan past (ctx.Uv (Inward move)) lpid vid last hand =
-    let ask : Ask = record { before = ctx.Uv (Inward move); lpid = lpid; vid = vid; last = last; hand = hand } in
+deed_goes plan past ctx.Hv lpid vid last hand register = inr (record { ends = refl; none = refl })
+deed_goes plan past (ctx.Guest run) lpid vid last hand register = inr (record { ends = refl; none = refl })
+deed_goes plan past (ctx.Uv (Inward move)) lpid vid last hand register =
+    let ask : Ask = record { before = ctx.Uv (Inward move); lpid = lpid; vid = vid; last = last; hand = hand; register = register } in
     work_goes (Inward move) (λ b. deed_after plan past ask Go (cond b (AtGuest move.lpid) (AtFrame move.frame)))
     (end_in_ends (guest_after plan move.lpid past).part ask move) refl refl refl move.copied refl
-deed_goes plan past (ctx.Uv (Outward move)) lpid vid last hand =
-    let ask : Ask = record { before = ctx.Uv (Outward move); lpid = lpid; vid = vid; last = last; hand = hand } in
+deed_goes plan past (ctx.Uv (Outward move)) lpid vid last hand register =
+    let ask : Ask = record { before = ctx.Uv (Outward move); lpid = lpid; vid = vid; last = last; hand = hand; register = register } in
     work_goes (Outward move) (λ b. deed_after plan past ask Go (cond b (AtGuest move.lpid) (AtFrame move.frame)))
     (end_out_ends (guest_after plan move.lpid past).part ask move) refl refl refl move.copied refl
 
@@ -100,7 +100,7 @@ go_deed plan past line =
 pub line_goes : (plan : Plan) (past : List Event) (line : Line) → GoesFurther (ctx_at plan past line) (go_deed plan past line) ⊎ GoesNoFurther (ctx_at plan past line) (go_deed plan past line)
 line_goes plan past line =
     let ask : Ask = ask_of (cpu_after plan line.cpu past) Go in
-    deed_goes plan past ask.before ask.lpid ask.vid ask.last ask.hand
+    deed_goes plan past ask.before ask.lpid ask.vid ask.last ask.hand ask.register
 
 -- `go` leaves its CPU in the context that it says
 pub go_leaves : (plan : Plan) (past : List Event) (line : Line) → ctx_at plan (entry_after plan past line Go ∷ past) line ≡ (entry_after plan past line Go).saw.after

@@ -11,7 +11,7 @@ use Rattle.pef_model.specs.declared.state.Mover.{Mover}
 use Rattle.pef_model.specs.declared.state.Run.{Run}
 use Rattle.pef_model.specs.declared.state.Ctx.TheVariants as ctx
 use Rattle.pef_model.specs.declared.command.Cmd.{Cmd}
-use Rattle.pef_model.specs.declared.command.Cmd.TheVariants.{HLd, HSt, HSelect, HEnter, UPate, URegslot, UUnregslot, UPagein, UPageout, UReturn, GLi, GLd, GSt, GIrq, Go}
+use Rattle.pef_model.specs.declared.command.Cmd.TheVariants.{HLd, HSt, HSelect, HEnter, UPate, URegslot, UUnregslot, UPagein, UPageout, UReturn, GLi, GAdd, GXor, GLd, GSt, GHcall, GIrq, Go, Dump}
 use Rattle.pef_model.specs.declared.entry.Exit.{Exit}
 use Rattle.pef_model.specs.declared.entry.Exit.TheVariants as exit
 use Rattle.pef_model.specs.declared.entry.Answer.{Answer}
@@ -21,14 +21,22 @@ use Rattle.pef_model.specs.Plan.{Plan}
 use Rattle.pef_model.specs.Event.{Event, Mark}
 use Rattle.pef_model.specs.Target.{Ask, AtGuest, target_in, frame_of}
 use Rattle.pef_model.specs.Cpu.{CpuPart, cpu_of_guest}
-use Rattle.pef_model.specs.GuestPart.{Page, GuestPart, Meeting, NoPlace, Moves, Private, Unbacked, meets, meets_in, meets_page, meets_kind, part_in, part_of_access, page_of, has_place, is_invalid, with_secure_page, Normal, is_in_slot}
+use Rattle.pef_model.specs.GuestPart.{Page, GuestPart, Meeting, NoPlace, Moves, Private, Unbacked, meets, meets_in, meets_page, meets_kind, part_in, part_of_access, page_of, has_place, is_invalid, with_secure_page, Normal, is_in_slot, waits_for}
 use Rattle.pef_model.specs.Guest.{Guest}
 use Rattle.pef_model.specs.Seal.{doublewords}
 use Rattle.pef_model.proofs.Folds.{test_same}
-use Rattle.pef_model.specs.Deed.{Deed, answering, deed_access, deed_interrupt, deed_running, deed_gone}
+use Rattle.pef_model.specs.Deed.{Deed, answering, deed_access, deed_interrupt, deed_running, deed_gone, deed_hypercall, deed_by_row, deed_by_kind}
 use Rattle.pef_model.specs.History.{guest_after, pool_after, deed_after, found_after}
 use Rattle.pef_model.proofs.Changes as change
 use Rattle.pef_model.proofs.Changes.{Change, is_backed_in, asked, entry, at_guest, at_guest_same, at_one}
+use Rattle.pef_model.specs.declared.hypercall.Row.{Row}
+use Rattle.pef_model.specs.declared.hypercall.RowKind.{RowKind}
+use Rattle.pef_model.specs.declared.hypercall.RowKind.TheVariants.{Reflected, Local, Svm}
+use Rattle.pef_model.specs.declared.hypercall.TheConstants.{HCALLS}
+use Rattle.pef_model.specs.Hypercalls.{row_of, let_out_by}
+use Rattle.pef_model.specs.declared.command.Code.TheVariants.{HUnsupported, HFunction, HHardware}
+use Rattle.pef_model.specs.declared.command.Code.{Code}
+use Rattle.pef_model.specs.declared.state.Pending.TheVariants as pending
 
 -- a page of a place that is Invalid at rest
 record IsUnbacked (plan : Plan) (g : GuestPart) (gpa : ℕ) : Type 0 where
@@ -120,6 +128,7 @@ module _ (plan : Plan) (past : List Event) (cpu : CpuPart) (mark : Mark) (run : 
       Change plan past cpu (entry_of GIrq (record (answering (ask_of GIrq) (answer.Exit why)) { after = ctx.Hv; shown = shown }))
   parked same why shown = change.Parked (record {
     run = run;
+    waits = pending.Irq;
     before = h;
     generation = same;
     cpu_is = record { ctx_is = refl; hand_is = refl; lpid_is = refl };
@@ -131,6 +140,34 @@ module _ (plan : Plan) (past : List Event) (cpu : CpuPart) (mark : Mark) (run : 
   interrupted : run.generation ≡ g.part.generation → (p : Phase) → Change plan past cpu (entry_of GIrq (deed_interrupt p (g.registers run.vid).gpr (ask_of GIrq)))
   interrupted same phase.Normal = parked same exit.Normal (g.registers run.vid).gpr
   interrupted same p = parked same exit.Irq []
+
+  -- a hypercall that leaves parks it too, and one that is answered changes nothing
+  called : run.generation ≡ g.part.generation → (why : Exit) (shown : List ℕ) →
+      Change plan past cpu (entry_of GHcall (record (answering (ask_of GHcall) (answer.Exit why)) { after = ctx.Hv; shown = shown }))
+  called same why shown = change.Parked (record {
+    run = run;
+    waits = waits_for why;
+    before = h;
+    generation = same;
+    cpu_is = record { ctx_is = refl; hand_is = refl; lpid_is = refl };
+    parts = at_guest plan past (entry_of GHcall (record (answering (ask_of GHcall) (answer.Exit why)) { after = ctx.Hv; shown = shown })) run.lpid _ refl refl;
+    pool = refl;
+  })
+
+  answered : (code : Code) (shown : List ℕ) → Change plan past cpu (entry_of GHcall (record (answering (ask_of GHcall) (answer.Ret code)) { shown = shown }))
+  answered code shown = at_one plan past cpu _ run.lpid (record { ctx_is = sym h; hand_is = refl; lpid_is = refl }) refl refl refl
+
+  calls : run.generation ≡ g.part.generation → (p : Phase) → Change plan past cpu (entry_of GHcall (deed_hypercall p (g.registers run.vid).gpr (ask_of GHcall)))
+  calls same phase.Normal = called same exit.Normal (g.registers run.vid).gpr
+  calls same p = by_row (row_of HCALLS (slice_index (g.registers run.vid).gpr 3)) where
+    by_kind : (kind : RowKind) (row : Row) → Change plan past cpu (entry_of GHcall (deed_by_kind kind (ask_of GHcall) (g.registers run.vid).gpr row))
+    by_kind Reflected row = called same (exit.Hcall row.number) (let_out_by row (g.registers run.vid).gpr)
+    by_kind Local row = answered HHardware _
+    by_kind Svm row = answered HUnsupported _
+
+    by_row : (row : Option Row) → Change plan past cpu (entry_of GHcall (deed_by_row (ask_of GHcall) (g.registers run.vid).gpr row))
+    by_row (Some row) = by_kind row.kind row
+    by_row None = answered HFunction _
 
   -- a command of a guest that lives
   running : (cmd : Cmd) → run.generation ≡ g.part.generation → target_in plan (ctx.Guest run) cpu.lpid cmd ≡ AtGuest run.lpid → Change plan past cpu (entry_of cmd (deed_running plan run g (found_after plan past) any (ask_of cmd) cmd))
@@ -145,6 +182,10 @@ module _ (plan : Plan) (past : List Event) (cpu : CpuPart) (mark : Mark) (run : 
   running (UPageout lpid dest gpa flags order) same target = at_one plan past cpu _ run.lpid (record { ctx_is = sym h; hand_is = refl; lpid_is = refl }) target refl refl
   running (UReturn r0 r2 outs) same target = at_one plan past cpu _ run.lpid (record { ctx_is = sym h; hand_is = refl; lpid_is = refl }) target refl refl
   running (GLi rd value) same target = at_one plan past cpu _ run.lpid (record { ctx_is = sym h; hand_is = refl; lpid_is = refl }) target refl refl
+  running (GAdd rd ra rb) same target = at_one plan past cpu _ run.lpid (record { ctx_is = sym h; hand_is = refl; lpid_is = refl }) target refl refl
+  running (GXor rd ra rb) same target = at_one plan past cpu _ run.lpid (record { ctx_is = sym h; hand_is = refl; lpid_is = refl }) target refl refl
+  running (Dump reg) same target = at_one plan past cpu _ run.lpid (record { ctx_is = sym h; hand_is = refl; lpid_is = refl }) target refl refl
+  running GHcall same target = calls same g.part.phase
   running (GLd rd gpa) same target =
       access (GLd rd gpa) (answer.Val (g.content gpa)) (λ n. answer.Val (found_after plan past n (offset_of plan gpa))) [] gpa target (λ pool. refl) (λ shown. refl) (λ n. refl) (λ n. refl) same any refl (meets plan g.part gpa) refl
   running (GSt rs gpa) same target = access (GSt rs gpa) answer.Done (λ n. answer.Done) (slice_index (g.registers run.vid).gpr rs ∷ []) gpa target (λ pool. refl) (λ shown. refl) (λ n. refl) (λ n. refl) same any refl (meets plan g.part gpa) refl

@@ -1,5 +1,5 @@
 -- What a step lets out.
-use Rattle.std.proofs.Common.{◌≡◌, ℕ, List, [], ◌∷◌, Bool, true, false, refl, sym, subst, ◌==◌, if◌then◌else◌, nat_lt, slice_index, arith}
+use Rattle.std.proofs.Common.{◌≡◌, ℕ, List, [], ◌∷◌, Bool, true, false, refl, sym, subst, ◌==◌, if◌then◌else◌, nat_lt, slice_index, arith, Option, Some, None, ap}
 use Rattle.std.proofs.lemmas.Grind.{common_steps}
 use Rattle.pef_model.specs.declared.state.Phase.{Phase}
 use Rattle.pef_model.specs.declared.state.Phase.TheVariants as phase
@@ -8,19 +8,24 @@ use Rattle.pef_model.specs.declared.state.Work.{Work}
 use Rattle.pef_model.specs.declared.state.Ctx.{Ctx}
 use Rattle.pef_model.specs.declared.state.Ctx.TheVariants as ctx
 use Rattle.pef_model.specs.declared.command.Cmd.{Cmd}
-use Rattle.pef_model.specs.declared.command.Cmd.TheVariants.{HLd, HSt, HSelect, HEnter, GLd, GSt, GIrq, Go}
+use Rattle.pef_model.specs.declared.command.Cmd.TheVariants.{HLd, HSt, HSelect, HEnter, GLd, GSt, GIrq, Go, GHcall}
 use Rattle.pef_model.specs.declared.entry.Answer.{Answer}
 use Rattle.pef_model.specs.declared.entry.Answer.TheVariants.{Done, Val, Ret, Step, Context}
 use Rattle.pef_model.specs.Memory.{offset_of}
 use Rattle.pef_model.specs.Plan.{Plan}
 use Rattle.pef_model.specs.Event.{Event, Mark, mark_of}
-use Rattle.pef_model.specs.StepLaw.{let_out_running, let_out}
+use Rattle.pef_model.specs.StepLaw.{let_out_running, let_out, let_out_calling}
 use Rattle.pef_model.specs.Target.{Ask, target_in}
 use Rattle.pef_model.specs.GuestPart.{Meeting, Unbacked, meets}
 use Rattle.pef_model.specs.Guest.{Guest}
-use Rattle.pef_model.specs.Deed.{Deed, deed_access, deed_interrupt, deed_running, deed_gone}
+use Rattle.pef_model.specs.Deed.{Deed, deed_access, deed_interrupt, deed_running, deed_gone, deed_hypercall, deed_by_row, deed_by_kind}
 use Rattle.pef_model.specs.History.{cpu_after, guest_after, pool_after, deed_after, ask_of, next_entry, Extends, found_after}
 use Rattle.pef_model.proofs.Outcomes.{Outcome, deed_comes, Moving, moving}
+use Rattle.pef_model.specs.declared.hypercall.Row.{Row}
+use Rattle.pef_model.specs.declared.hypercall.RowKind.{RowKind}
+use Rattle.pef_model.specs.declared.hypercall.RowKind.TheVariants.{Reflected, Local, Svm}
+use Rattle.pef_model.specs.declared.hypercall.TheConstants.{HCALLS}
+use Rattle.pef_model.specs.Hypercalls.{row_of}
 
 -- a call in progress lets nothing out
 shown_by_work : (work : Work) (a : Answer) (after : Ctx) (shown : List ℕ) → Moving work a after shown → shown ≡ []
@@ -51,10 +56,23 @@ interrupt_lets_out : (gpr : List ℕ) (ask : Ask) (p : Phase) → LetsOut gpr GI
 interrupt_lets_out gpr ask phase.Normal = refl
 interrupt_lets_out gpr ask p = refl
 
+call_lets_out : (gpr : List ℕ) (ask : Ask) (p : Phase) → LetsOut gpr GHcall (deed_hypercall p gpr ask)
+call_lets_out gpr ask phase.Normal = refl
+call_lets_out gpr ask p = by_row (row_of HCALLS (slice_index gpr 3)) refl where
+  by_kind : (kind : RowKind) (row : Row) → row_of HCALLS (slice_index gpr 3) ≡ Some row → LetsOut gpr GHcall (deed_by_kind kind ask gpr row)
+  by_kind Reflected row is = ap (let_out_calling gpr) (sym is)
+  by_kind Local row is = refl
+  by_kind Svm row is = refl
+
+  by_row : (row : Option Row) → row_of HCALLS (slice_index gpr 3) ≡ row → LetsOut gpr GHcall (deed_by_row ask gpr row)
+  by_row (Some row) is = by_kind row.kind row is
+  by_row None is = refl
+
 running_lets_out : (plan : Plan) (g : Guest) (found : ℕ → ℕ → ℕ) (any : Bool) (run : Run) (ask : Ask) (cmd : Cmd) → LetsOut (g.registers run.vid).gpr cmd (deed_running plan run g found any ask cmd)
 running_lets_out plan g found any run ask (GLd rd gpa) = load_lets_out (g.registers run.vid).gpr rd gpa ask (g.content gpa) (λ n. found n (offset_of plan gpa)) any (meets plan g.part gpa)
 running_lets_out plan g found any run ask (GSt rs gpa) = store_lets_out (g.registers run.vid).gpr rs gpa ask any (meets plan g.part gpa)
 running_lets_out plan g found any run ask GIrq = interrupt_lets_out (g.registers run.vid).gpr ask g.part.phase
+running_lets_out plan g found any run ask GHcall = call_lets_out (g.registers run.vid).gpr ask g.part.phase
 running_lets_out plan g found any run ask cmd = refl
 
 deed_lets_out : (plan : Plan) (past : List Event) (run : Run) (asked : Ask) (cmd : Cmd) →

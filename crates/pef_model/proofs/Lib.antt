@@ -9,6 +9,10 @@ pub mod NextValues
 pub mod Opened
 pub mod Secrets
 pub mod Deeds
+pub mod HypercallTables
+pub mod HypercallRows
+pub mod Scrubs
+pub mod Hypercalls
 pub mod Stores
 pub mod Loads
 pub mod Called

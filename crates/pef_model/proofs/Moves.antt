@@ -9,23 +9,27 @@ use Rattle.pef_model.specs.declared.state.Ctx.TheVariants as ctx
 use Rattle.pef_model.specs.declared.command.Code.{Code}
 use Rattle.pef_model.specs.declared.command.Code.TheVariants.{USuccess}
 use Rattle.pef_model.specs.declared.command.Cmd.{Cmd}
-use Rattle.pef_model.specs.declared.command.Cmd.TheVariants.{HLd, HSt, HSelect, HEnter, UPate, UReturn, Go}
+use Rattle.pef_model.specs.declared.command.Cmd.TheVariants.{HLd, HSt, HSelect, HEnter, UPate, UReturn, Go, Dump}
 use Rattle.pef_model.specs.declared.entry.Answer.{Answer}
 use Rattle.pef_model.specs.declared.entry.Answer.TheVariants.{Ret, Enter}
 use Rattle.pef_model.specs.declared.state.Work.TheVariants.{Inward, Outward}
 use Rattle.pef_model.specs.Plan.{Plan}
 use Rattle.pef_model.specs.Event.{Event}
-use Rattle.pef_model.specs.Target.{target_in, is_guest, touches_guest, vcpu_in}
+use Rattle.pef_model.specs.Target.{target_in, is_guest, touches_guest, vcpu_in, AtGuest, Alone}
 use Rattle.pef_model.specs.GuestPart.{ends_guest, part_of_write, part_of_hypervisor, part_in, ended_normal}
 use Rattle.pef_model.specs.Registers.{fresh_registers}
-use Rattle.pef_model.specs.Guest.{Guest, start_guest, next_guest, registers_after_command, registers_in, entered_at}
+use Rattle.pef_model.specs.Guest.{Guest, start_guest, next_guest, registers_after_command, registers_in, entered_at, answered_with}
 use Rattle.pef_model.specs.History.{guest_after}
 use Rattle.pef_model.specs.StepLaw.{Steps, IsInterrupted, IsStepOf, TakesUp, KeepsRegisters, registers_of, EachEntryLeavesRegisters}
 use Rattle.pef_model.proofs.Folds.{either_same, same_test, test_same, counts}
-use Rattle.pef_model.proofs.Assigned.{ends_by, gpr_in_hypervisor}
+use Rattle.pef_model.proofs.Assigned.{ends_by, waits_for_answer, answers_by, same_answered, gpr_in_hypervisor}
 use Rattle.pef_model.proofs.Aims.{own_guest}
 use Rattle.pef_model.proofs.Outcomes.{Outcome, outcome}
 use Rattle.pef_model.proofs.Taken.{IsThereIn, there_is}
+use Rattle.std.specs.Prelude.{slice_set}
+use Rattle.pef_model.specs.declared.state.Pending.TheVariants as pending
+use Rattle.pef_model.specs.declared.state.VState.TheVariants as vstate
+use Rattle.pef_model.specs.declared.state.VState.{VState}
 
 -- a vCPU's registers after an entry, by the fields of the entry
 abbrev registers_by : Plan → Ctx → ℕ → ℕ → Cmd → Answer → Guest → ℕ → ℕ → Regs
@@ -82,6 +86,11 @@ is_interrupted regs r2 = record { nip = nip (r2 == 0); srr0 = srr0 (r2 == 0) } w
   srr0 true = refl
   srr0 false = refl
 
+-- h.enter of a vCPU that waits for the answer of a hypercall
+answered_registers : (plan : Plan) (l v : ℕ) (value : ℕ) (g : Guest) (lpid vid : ℕ) → (nat_le 1 lpid && nat_le lpid plan.guests) ≡ true → (g.part.vcpus vid).state ≡ vstate.Parked pending.Exit →
+    registers_by plan ctx.Hv l v (HEnter lpid vid value) Enter g lpid vid ≡ record (g.registers vid) { gpr = slice_set (g.registers vid).gpr 3 value }
+answered_registers plan l v value g lpid vid there waits = rw (there, same_test lpid, same_test vid, waits) refl
+
 -- a change at one vCPU leaves another as it is, and one to the same value leaves each
 put_elsewhere : (b : Bool) (registers : ℕ → Regs) (regs : Regs) (lpid vid v : ℕ) → ((vid == v) ≡ true → b ≡ true → regs ≡ registers vid) →
     (if b then (if vid == v then regs else registers vid) else registers vid) ≡ registers vid
@@ -101,34 +110,68 @@ unended : (b ends : Bool) (registers : ℕ → Regs) (vid : ℕ) → (b ≡ true
 unended true ends registers vid goes_on = ap (λ (x : Bool). (if x then (λ n. fresh_registers) else registers) vid) (goes_on refl)
 unended false ends registers vid goes_on = refl
 
--- an entry that neither runs a vCPU nor takes it up, and doesn't end the guest, leaves its registers
+-- an entry isn't h.enter that gives this vCPU the answer of its hypercall
+abbrev IsUnanswered : Guest → ℕ → ℕ → Ctx → Cmd → Answer → Type 0
+IsUnanswered g lpid vid c cmd a = (value : ℕ) → c ≡ ctx.Hv → cmd ≡ HEnter lpid vid value → a ≡ Enter → (g.part.vcpus vid).state ≡ vstate.Parked pending.Exit → ⊥
+
+waits_is : (state : VState) → waits_for_answer state ≡ true → state ≡ vstate.Parked pending.Exit
+waits_is (vstate.Parked pending.Exit) h = refl
+waits_is (vstate.Parked (pending.Hcall n)) h = cc
+waits_is (vstate.Parked pending.Irq) h = cc
+waits_is state h = cc
+
+-- so it answers none where it aims at the guest
+unanswered : (plan : Plan) (l v : ℕ) (cmd : Cmd) (a : Answer) (g : Guest) (lpid vid : ℕ) → IsUnanswered g lpid vid ctx.Hv cmd a → is_guest lpid (target_in plan ctx.Hv l cmd) ≡ true → answers_by g vid cmd a ≡ false
+unanswered plan l v (HEnter named entered value) Enter g lpid vid none aims = by_test (vid == entered) (waits_for_answer (g.part.vcpus vid).state) refl refl where
+  here : (named == lpid) ≡ true
+  here = by_place (nat_le 1 named && nat_le named plan.guests) aims where
+    by_place : (b : Bool) → is_guest lpid (if b then AtGuest named else Alone) ≡ true → (named == lpid) ≡ true
+    by_place true t = t
+    by_place false t = cc
+
+  by_test : (b w : Bool) → (vid == entered) ≡ b → waits_for_answer (g.part.vcpus vid).state ≡ w → (b && w) ≡ false
+  by_test true true t u = absurd (none value refl (λ i. HEnter (test_same named lpid here i) (sym (test_same vid entered t) i) value) refl (waits_is (g.part.vcpus vid).state u))
+  by_test true false t u = refl
+  by_test false w t u = refl
+unanswered plan l v cmd a g lpid vid none aims = refl
+
+-- an entry that neither runs a vCPU nor takes it up, and gives it no answer, and doesn't end the guest, leaves its registers
 others_stay : (plan : Plan) (c : Ctx) (l v : ℕ) (cmd : Cmd) (a : Answer) (g : Guest) (lpid vid : ℕ) → GoesOn plan c l cmd a lpid →
     ((run : Run) → c ≡ ctx.Guest run → run.lpid ≡ lpid → run.vid ≡ vid → ⊥) →
     ((r0 r2 : ℕ) (outs : List ℕ) → c ≡ ctx.Hv → cmd ≡ UReturn r0 r2 outs → a ≡ Enter → l ≡ lpid → v ≡ vid → ⊥) →
+    IsUnanswered g lpid vid c cmd a →
     registers_by plan c l v cmd a g lpid vid ≡ g.registers vid
-others_stay plan ctx.Hv l v (UReturn r0 r2 outs) Enter g lpid vid goes_on own taken =
+others_stay plan ctx.Hv l v (UReturn r0 r2 outs) Enter g lpid vid goes_on own taken none =
     put_elsewhere (l == lpid) g.registers (entered_at (g.registers v) r2) lpid vid v
     (λ t u. absurd (taken r0 r2 outs refl refl refl (test_same l lpid u) (sym (test_same vid v t))))
-others_stay plan ctx.Hv l v cmd Enter g lpid vid goes_on own taken = either_same (is_guest lpid (target_in plan ctx.Hv l cmd)) (g.registers vid)
-others_stay plan ctx.Hv l v (UPate named dw0 dw1) (Ret code) g lpid vid goes_on own taken =
+others_stay plan ctx.Hv l v (HEnter named entered value) Enter g lpid vid goes_on own taken none = by_aim (is_guest lpid (target_in plan ctx.Hv l (HEnter named entered value))) refl where
+  by_vcpu : (b : Bool) → (vid == entered) ≡ b → (b && waits_for_answer (g.part.vcpus vid).state) ≡ false → (if b then answered_with (g.part.vcpus entered).state (g.registers entered) value else g.registers vid) ≡ g.registers vid
+  by_vcpu true t other = ap (λ (x : ℕ). answered_with (g.part.vcpus x).state (g.registers x) value) (sym (test_same vid entered t)) ∙ same_answered (g.part.vcpus vid).state (g.registers vid) value other
+  by_vcpu false t other = refl
+
+  by_aim : (b : Bool) → is_guest lpid (target_in plan ctx.Hv l (HEnter named entered value)) ≡ b → (if b then registers_in ctx.Hv g v (HEnter named entered value) Enter vid else g.registers vid) ≡ g.registers vid
+  by_aim true t = by_vcpu (vid == entered) refl (unanswered plan l v (HEnter named entered value) Enter g lpid vid none t)
+  by_aim false t = refl
+others_stay plan ctx.Hv l v cmd Enter g lpid vid goes_on own taken none = either_same (is_guest lpid (target_in plan ctx.Hv l cmd)) (g.registers vid)
+others_stay plan ctx.Hv l v (UPate named dw0 dw1) (Ret code) g lpid vid goes_on own taken none =
     unended (is_guest lpid (target_in plan ctx.Hv l (UPate named dw0 dw1))) (ends_guest code dw1) g.registers vid goes_on
-others_stay plan ctx.Hv l v cmd a g lpid vid goes_on own taken = either_same (is_guest lpid (target_in plan ctx.Hv l cmd)) (g.registers vid)
-others_stay plan (ctx.Uv (Inward move)) l v cmd a g lpid vid goes_on own taken = either_same (is_guest lpid (target_in plan (ctx.Uv (Inward move)) l cmd)) (g.registers vid)
-others_stay plan (ctx.Uv (Outward move)) l v cmd a g lpid vid goes_on own taken = either_same (is_guest lpid (target_in plan (ctx.Uv (Outward move)) l cmd)) (g.registers vid)
-others_stay plan (ctx.Guest run) l v cmd a g lpid vid goes_on own taken =
+others_stay plan ctx.Hv l v cmd a g lpid vid goes_on own taken none = either_same (is_guest lpid (target_in plan ctx.Hv l cmd)) (g.registers vid)
+others_stay plan (ctx.Uv (Inward move)) l v cmd a g lpid vid goes_on own taken none = either_same (is_guest lpid (target_in plan (ctx.Uv (Inward move)) l cmd)) (g.registers vid)
+others_stay plan (ctx.Uv (Outward move)) l v cmd a g lpid vid goes_on own taken none = either_same (is_guest lpid (target_in plan (ctx.Uv (Outward move)) l cmd)) (g.registers vid)
+others_stay plan (ctx.Guest run) l v cmd a g lpid vid goes_on own taken none =
     put_elsewhere (is_guest lpid (target_in plan (ctx.Guest run) l cmd)) g.registers (registers_after_command g (g.registers run.vid) cmd a) lpid vid run.vid
     (λ t u. absurd (own run refl (own_guest plan run l lpid cmd u) (sym (test_same vid run.vid t))))
 
 gpr_stays : (plan : Plan) (c : Ctx) (l v : ℕ) (cmd : Cmd) (a : Answer) (g : Guest) (lpid vid : ℕ) → GoesOn plan c l cmd a lpid →
-    ((run : Run) → c ≡ ctx.Guest run → run.lpid ≡ lpid → run.vid ≡ vid → ⊥) → (registers_by plan c l v cmd a g lpid vid).gpr ≡ (g.registers vid).gpr
-gpr_stays plan ctx.Hv l v cmd a g lpid vid goes_on own = by_test (is_guest lpid (target_in plan ctx.Hv l cmd)) refl where
+    ((run : Run) → c ≡ ctx.Guest run → run.lpid ≡ lpid → run.vid ≡ vid → ⊥) → IsUnanswered g lpid vid c cmd a → (registers_by plan c l v cmd a g lpid vid).gpr ≡ (g.registers vid).gpr
+gpr_stays plan ctx.Hv l v cmd a g lpid vid goes_on own none = by_test (is_guest lpid (target_in plan ctx.Hv l cmd)) refl where
   by_test : (b : Bool) → is_guest lpid (target_in plan ctx.Hv l cmd) ≡ b → (if b then registers_in ctx.Hv g v cmd a vid else g.registers vid).gpr ≡ (g.registers vid).gpr
-  by_test true t = gpr_in_hypervisor g v a cmd vid (goes_on t)
+  by_test true t = gpr_in_hypervisor g v a cmd vid (goes_on t) (unanswered plan l v cmd a g lpid vid none t)
   by_test false t = refl
-gpr_stays plan (ctx.Uv work) l v cmd a g lpid vid goes_on own =
-    ap (λ (x : Regs). x.gpr) (others_stay plan (ctx.Uv work) l v cmd a g lpid vid tt own (λ r0 r2 outs h cmd_is answer_is here this. let no : ⊥ = cc in no))
-gpr_stays plan (ctx.Guest run) l v cmd a g lpid vid goes_on own =
-    ap (λ (x : Regs). x.gpr) (others_stay plan (ctx.Guest run) l v cmd a g lpid vid tt own (λ r0 r2 outs h cmd_is answer_is here this. let no : ⊥ = cc in no))
+gpr_stays plan (ctx.Uv work) l v cmd a g lpid vid goes_on own none =
+    ap (λ (x : Regs). x.gpr) (others_stay plan (ctx.Uv work) l v cmd a g lpid vid tt own (λ r0 r2 outs h cmd_is answer_is here this. let no : ⊥ = cc in no) none)
+gpr_stays plan (ctx.Guest run) l v cmd a g lpid vid goes_on own none =
+    ap (λ (x : Regs). x.gpr) (others_stay plan (ctx.Guest run) l v cmd a g lpid vid tt own (λ r0 r2 outs h cmd_is answer_is here this. let no : ⊥ = cc in no) none)
 
 -- the hypervisor's calls alone are in progress
 pub runs_alone : (c : Ctx) (run : Run) → vcpu_in c ≡ Some run → c ≡ ctx.Guest run
@@ -192,11 +235,21 @@ each_entry_leaves_registers plan past e lpid vid extends =
           ∙ ap (λ (cmd : Cmd). registers_by plan ctx.Hv e.saw.lpid e.saw.vid cmd e.trace.answer g lpid vid) cmd_is
           ∙ ap (λ (a : Answer). registers_by plan ctx.Hv e.saw.lpid e.saw.vid (UPate lpid dw0 0) a g lpid vid) answer_is
           ∙ ended_registers plan e.saw.lpid e.saw.vid dw0 g lpid vid (there refl);
-      others = λ keeps own taken.
+      answered = λ value answers.
+          let there : IsThereIn ctx.Hv plan (HEnter lpid vid value) Enter =
+          subst (λ (a : Answer). IsThereIn ctx.Hv plan (HEnter lpid vid value) a) answers.0.answer_is
+          (subst (λ (cmd : Cmd). IsThereIn ctx.Hv plan cmd e.trace.answer) answers.0.cmd_is (subst (λ (c : Ctx). IsThereIn c plan e.trace.cmd e.trace.answer) answers.0.before (there_is plan past e extends))) in
+          is ∙ ap (λ (c : Ctx). registers_by plan c e.saw.lpid e.saw.vid e.trace.cmd e.trace.answer g lpid vid) answers.0.before
+          ∙ ap (λ (cmd : Cmd). registers_by plan ctx.Hv e.saw.lpid e.saw.vid cmd e.trace.answer g lpid vid) answers.0.cmd_is
+          ∙ ap (λ (a : Answer). registers_by plan ctx.Hv e.saw.lpid e.saw.vid (HEnter lpid vid value) a g lpid vid) answers.0.answer_is
+          ∙ answered_registers plan e.saw.lpid e.saw.vid value g lpid vid there answers.1;
+      others = λ keeps own taken none.
           is ∙ others_stay plan e.saw.before e.saw.lpid e.saw.vid e.trace.cmd e.trace.answer g lpid vid (goes_on_is plan past e lpid keeps)
           (λ run before here this. own run (record { before = ap vcpu_in before; guest_is = here; vcpu_is = this }))
-          (λ r0 r2 outs before cmd_is answer_is here this. taken r0 r2 outs (record { before = before; cmd_is = cmd_is; answer_is = answer_is; guest_is = here; vcpu_is = this }));
-      gpr = λ keeps own taken.
+          (λ r0 r2 outs before cmd_is answer_is here this. taken r0 r2 outs (record { before = before; cmd_is = cmd_is; answer_is = answer_is; guest_is = here; vcpu_is = this }))
+          (λ value before cmd_is answer_is waits. none value (record { before = before; cmd_is = cmd_is; answer_is = answer_is }, waits));
+      gpr = λ keeps own none taken.
           ap (λ (x : Regs). x.gpr) is ∙ gpr_stays plan e.saw.before e.saw.lpid e.saw.vid e.trace.cmd e.trace.answer g lpid vid (goes_on_is plan past e lpid keeps)
-          (λ run before here this. own run (record { before = ap vcpu_in before; guest_is = here; vcpu_is = this }));
+          (λ run before here this. own run (record { before = ap vcpu_in before; guest_is = here; vcpu_is = this }))
+          (λ value before cmd_is answer_is waits. none value (record { before = before; cmd_is = cmd_is; answer_is = answer_is }, waits));
     }

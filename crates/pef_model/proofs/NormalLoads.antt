@@ -11,9 +11,9 @@ use Rattle.pef_model.specs.Plan.{Plan, IsInRange, plan_of}
 use Rattle.pef_model.specs.Event.{Event}
 use Rattle.pef_model.specs.Target.{Ask, Alone, AtFrame, frame_of, has_real_place, uses_hand, target_in}
 use Rattle.pef_model.specs.Cpu.{CpuPart}
-use Rattle.pef_model.specs.History.{cpu_after, deed_after, ask_of, last_norm, IsLegal}
+use Rattle.pef_model.specs.History.{cpu_after, deed_after, ask_of, last_norm, IsLegal, register_shown}
 use Rattle.pef_model.specs.Doubleword.{doubleword}
-use Rattle.pef_model.specs.ToldLaw.{value_in}
+use Rattle.pef_model.specs.Target.{value_in}
 use Rattle.pef_model.specs.NormalLaw.{LoadGivesLastNorm}
 use Rattle.pef_model.proofs.Normal.{frames_hold_last_norm}
 
@@ -25,7 +25,7 @@ module _ (config : Config) (past : List Event) (e : Event) (ra value : ℕ) (ran
   cpu = cpu_after plan e.trace.cpu past
 
   abbrev ask : Ctx → Ask
-  ask c = record { before = c; lpid = cpu.lpid; vid = cpu.vid; last = cpu.last; hand = if uses_hand c (HLd ra) then cpu.hand else [] }
+  ask c = record { before = c; lpid = cpu.lpid; vid = cpu.vid; last = cpu.last; hand = if uses_hand c (HLd ra) then cpu.hand else []; register = register_shown c (HLd ra) cpu.own }
 
   abbrev deed_answer : Bool → Answer
   deed_answer b = (deed_after plan past (ask ctx.Hv) (HLd ra) (if b then AtFrame (frame_of plan ra) else Alone)).answer

@@ -7,10 +7,11 @@ use Rattle.pef_model.specs.declared.command.Cmd.{Cmd}
 use Rattle.pef_model.specs.declared.command.Cmd.TheVariants.{GLi}
 use Rattle.pef_model.specs.declared.entry.Answer.{Answer}
 use Rattle.pef_model.specs.Plan.{Plan}
-use Rattle.pef_model.specs.Target.{target_in, uses_hand, is_sealing}
+use Rattle.pef_model.specs.Target.{target_in, uses_hand, is_sealing, shows_register}
 use Rattle.pef_model.specs.Deed.{answer_alone, answer_frame}
 use Rattle.pef_model.specs.Report.{command_name}
 use Rattle.pef_model.specs.SecretLaw.{open_cmd, open_answer}
+use Rattle.pef_model.specs.History.{register_shown}
 
 -- a command aims at the same
 pub target_open : (plan : Plan) (c : Ctx) (lpid : ℕ) (cmd : Cmd) → target_in plan c lpid cmd ≡ target_in plan c lpid (open_cmd cmd)
@@ -29,6 +30,20 @@ uses_hand_open ctx.Hv cmd = refl
 uses_hand_open (ctx.Uv work) (GLi rd value) = refl
 uses_hand_open (ctx.Uv work) cmd = refl
 uses_hand_open (ctx.Guest run) cmd = refl
+
+-- it shows a register or doesn't
+pub shows_open : (c : Ctx) (cmd : Cmd) → shows_register c cmd ≡ shows_register c (open_cmd cmd)
+shows_open ctx.Hv (GLi rd value) = refl
+shows_open ctx.Hv cmd = refl
+shows_open (ctx.Uv work) cmd = refl
+shows_open (ctx.Guest run) cmd = refl
+
+-- and the same one
+pub shown_open : (c : Ctx) (cmd : Cmd) (own : List ℕ) → register_shown c cmd own ≡ register_shown c (open_cmd cmd) own
+shown_open ctx.Hv (GLi rd value) own = refl
+shown_open ctx.Hv cmd own = refl
+shown_open (ctx.Uv work) cmd own = refl
+shown_open (ctx.Guest run) cmd own = refl
 
 -- one that aims at nothing is answered alike
 pub alone_open : (plan : Plan) (c : Ctx) (cmd : Cmd) → answer_alone plan c cmd ≡ answer_alone plan c (open_cmd cmd)

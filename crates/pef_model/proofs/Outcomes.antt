@@ -2,6 +2,7 @@
 use Rattle.std.proofs.Common.{◌≡◌, ℕ, List, [], ◌∷◌, Bool, true, false, refl, sym, subst, ◌==◌, ◌&&◌, if◌then◌else◌, nat_le, nat_lt, Option, Some, None, slice_index, arith}
 use Rattle.std.proofs.lemmas.Grind.{common_steps}
 use Rattle.pef_model.specs.declared.state.Phase.{Phase}
+use Rattle.pef_model.specs.declared.state.Phase.TheVariants as phase
 use Rattle.pef_model.specs.declared.state.Run.{Run}
 use Rattle.pef_model.specs.declared.state.Move.{Move}
 use Rattle.pef_model.specs.declared.state.Work.{Work}
@@ -11,7 +12,8 @@ use Rattle.pef_model.specs.declared.state.Ctx.TheVariants as ctx
 use Rattle.pef_model.specs.declared.command.Code.{Code}
 use Rattle.pef_model.specs.declared.command.Code.TheVariants.{USuccess, UParameter, UInvalid}
 use Rattle.pef_model.specs.declared.command.Cmd.{Cmd}
-use Rattle.pef_model.specs.declared.command.Cmd.TheVariants.{HLd, HSt, HSelect, HEnter, UPate, URegslot, UUnregslot, UPagein, UPageout, UReturn, GLi, GLd, GSt, GIrq, Go}
+use Rattle.pef_model.specs.declared.command.Cmd.TheVariants.{HLd, HSt, HSelect, HEnter, UPate, URegslot, UUnregslot, UPagein, UPageout, UReturn, GLi, GAdd, GXor, GLd, GSt, GHcall, GIrq, Go, Dump}
+use Rattle.pef_model.specs.declared.entry.Exit.TheVariants as exit
 use Rattle.pef_model.specs.declared.entry.Answer.{Answer}
 use Rattle.pef_model.specs.declared.entry.Answer.TheVariants.{Done, Val, Ret, Step, Enter, Exit, Again, Gone, Hole, Context}
 use Rattle.pef_model.specs.Memory.{offset_of}
@@ -23,9 +25,14 @@ use Rattle.pef_model.specs.Guest.{Guest}
 use Rattle.pef_model.specs.PageOut.{page_out_code}
 use Rattle.pef_model.specs.PageIn.{page_in_operands, is_last_sealed}
 use Rattle.pef_model.specs.Entry.{enter_code}
-use Rattle.pef_model.specs.Deed.{Deed, answering, deed_alone, giving, coming_back, returning, may_return_in, is_waiting, deed_page_out_begin, deed_page_in_with, deed_page_in_test, deed_return, deed_access, deed_through, deed_interrupt, deed_running, deed_gone}
+use Rattle.pef_model.specs.Deed.{Deed, answering, deed_alone, giving, coming_back, returning, may_return_in, is_waiting, deed_page_out_begin, deed_page_in_with, deed_page_in_test, deed_return, deed_access, deed_through, deed_interrupt, deed_running, deed_gone, deed_hypercall, deed_by_row, deed_by_kind}
 use Rattle.pef_model.specs.History.{cpu_after, guest_after, pool_after, deed_after, ask_of, next_entry, Extends, found_after}
 use Rattle.pef_model.proofs.Works.{with_copy}
+use Rattle.pef_model.specs.declared.hypercall.Row.{Row}
+use Rattle.pef_model.specs.declared.hypercall.RowKind.{RowKind}
+use Rattle.pef_model.specs.declared.hypercall.RowKind.TheVariants.{Reflected}
+use Rattle.pef_model.specs.declared.hypercall.TheConstants.{HCALLS}
+use Rattle.pef_model.specs.Hypercalls.{row_of}
 
 -- a context in which a page of this guest has begun to move outward
 abbrev pub Begins : ℕ → Ctx → Type 0
@@ -66,6 +73,8 @@ Outcome ctx.Hv (UPageout lpid dest gpa flags order) a after shown = ⊥
 Outcome ctx.Hv (UReturn r0 r2 outs) Enter after shown = shown ≡ []
 Outcome ctx.Hv (UReturn r0 r2 outs) (Ret code) after shown = (after ≡ ctx.Hv) × (shown ≡ [])
 Outcome ctx.Hv (UReturn r0 r2 outs) a after shown = ⊥
+Outcome ctx.Hv (Dump reg) (Val value) after shown = (after ≡ ctx.Hv) × (shown ≡ [])
+Outcome ctx.Hv (Dump reg) a after shown = ⊥
 Outcome ctx.Hv cmd Context after shown = (after ≡ ctx.Hv) × (shown ≡ [])
 Outcome ctx.Hv cmd a after shown = ⊥
 Outcome (ctx.Uv work) Go Step after shown = (after ≡ ctx.Uv (with_copy work)) × (shown ≡ [])
@@ -91,13 +100,19 @@ Outcome (ctx.Guest run) (UPagein lpid src gpa flags order) (Ret code) after show
 Outcome (ctx.Guest run) (UPageout lpid dest gpa flags order) (Ret code) after shown = after ≡ ctx.Guest run
 Outcome (ctx.Guest run) (UReturn r0 r2 outs) (Ret code) after shown = after ≡ ctx.Guest run
 Outcome (ctx.Guest run) (GLi rd value) Done after shown = after ≡ ctx.Guest run
+Outcome (ctx.Guest run) (GAdd rd ra rb) Done after shown = after ≡ ctx.Guest run
+Outcome (ctx.Guest run) (GXor rd ra rb) Done after shown = after ≡ ctx.Guest run
 Outcome (ctx.Guest run) (GLd rd gpa) (Val value) after shown = after ≡ ctx.Guest run
 Outcome (ctx.Guest run) (GLd rd gpa) Hole after shown = after ≡ ctx.Guest run
 Outcome (ctx.Guest run) (GLd rd gpa) Again after shown = after ≡ ctx.Guest run
 Outcome (ctx.Guest run) (GSt rs gpa) Done after shown = after ≡ ctx.Guest run
 Outcome (ctx.Guest run) (GSt rs gpa) Hole after shown = after ≡ ctx.Guest run
 Outcome (ctx.Guest run) (GSt rs gpa) Again after shown = after ≡ ctx.Guest run
-Outcome (ctx.Guest run) GIrq (Exit exit) after shown = after ≡ ctx.Hv
+Outcome (ctx.Guest run) GHcall (Ret code) after shown = after ≡ ctx.Guest run
+Outcome (ctx.Guest run) GHcall (Exit why) after shown = after ≡ ctx.Hv
+Outcome (ctx.Guest run) GIrq (Exit exit.Normal) after shown = after ≡ ctx.Hv
+Outcome (ctx.Guest run) GIrq (Exit exit.Irq) after shown = after ≡ ctx.Hv
+Outcome (ctx.Guest run) (Dump reg) (Val value) after shown = after ≡ ctx.Guest run
 Outcome (ctx.Guest run) cmd a after shown = ⊥
 
 -- the deed of a step has such an outcome
@@ -117,11 +132,24 @@ access_comes run ask cmd success through out any m done written hole again = hol
 interrupt_comes : (run : Run) (ask : Ask) (p : Phase) (gpr : List ℕ) → Comes (ctx.Guest run) GIrq (deed_interrupt p gpr ask)
 interrupt_comes run ask p gpr = grind (arith, common_steps)
 
+-- a hypercall leaves, or is answered
+call_comes : (run : Run) (ask : Ask) (p : Phase) (gpr : List ℕ) → ask.before ≡ ctx.Guest run → Comes (ctx.Guest run) GHcall (deed_hypercall p gpr ask)
+call_comes run ask phase.Normal gpr h = refl
+call_comes run ask p gpr h = by_row (row_of HCALLS (slice_index gpr 3)) where
+  by_kind : (kind : RowKind) (row : Row) → Comes (ctx.Guest run) GHcall (deed_by_kind kind ask gpr row)
+  by_kind Reflected row = refl
+  by_kind kind row = h
+
+  by_row : (row : Option Row) → Comes (ctx.Guest run) GHcall (deed_by_row ask gpr row)
+  by_row (Some row) = by_kind row.kind row
+  by_row None = h
+
 running_comes : (plan : Plan) (g : Guest) (found : ℕ → ℕ → ℕ) (any : Bool) (run : Run) (ask : Ask) (cmd : Cmd) → ask.before ≡ ctx.Guest run →
     Comes (ctx.Guest run) cmd (deed_running plan run g found any ask cmd)
 running_comes plan g found any run ask (GLd rd gpa) h = access_comes run ask (GLd rd gpa) (Val (g.content gpa)) (λ n. Val (found n (offset_of plan gpa))) [] any (meets plan g.part gpa) h (λ n. h) h h
 running_comes plan g found any run ask (GSt rs gpa) h = access_comes run ask (GSt rs gpa) Done (λ n. Done) (slice_index (g.registers run.vid).gpr rs ∷ []) any (meets plan g.part gpa) h (λ n. h) h h
 running_comes plan g found any run ask GIrq h = interrupt_comes run ask g.part.phase (g.registers run.vid).gpr
+running_comes plan g found any run ask GHcall h = call_comes run ask g.part.phase (g.registers run.vid).gpr h
 running_comes plan g found any run ask cmd h = h
 
 return_comes : (g : GuestPart) (asked : Ask) (r0 r2 : ℕ) (outs : List ℕ) → Comes ctx.Hv (UReturn r0 r2 outs) (deed_return g (record asked { before = ctx.Hv }))

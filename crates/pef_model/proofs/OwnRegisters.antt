@@ -1,17 +1,17 @@
 -- The hypervisor has 32 registers on each CPU.
-use Rattle.std.proofs.Common.{◌≡◌, ℕ, List, [], ◌∷◌, length, Bool, true, false, refl, ap, sym, subst, ◌∙◌, Option, Some, None}
+use Rattle.std.proofs.Common.{◌≡◌, ℕ, List, [], ◌∷◌, length, Bool, true, false, refl, ap, sym, subst, ◌∙◌, Option, Some, None, arith, length-append, length-take}
 use Rattle.std.proofs.Math.ListN.{length-set}
 use Rattle.pef_model.specs.declared.state.Ctx.{Ctx}
 use Rattle.pef_model.specs.declared.state.Ctx.TheVariants as ctx
 use Rattle.pef_model.specs.declared.state.Run.{Run}
 use Rattle.pef_model.specs.declared.command.Cmd.{Cmd}
-use Rattle.pef_model.specs.declared.command.Cmd.TheVariants.{HLd, HSelect, HEnter, GIrq}
+use Rattle.pef_model.specs.declared.command.Cmd.TheVariants.{HLd, HSelect, HEnter, GHcall, GIrq}
 use Rattle.pef_model.specs.declared.entry.Exit.TheVariants as exit
 use Rattle.pef_model.specs.declared.entry.Answer.{Answer}
 use Rattle.pef_model.specs.declared.entry.Answer.TheVariants.{Val, Ret, Exit, Gone}
 use Rattle.pef_model.specs.Plan.{Plan}
 use Rattle.pef_model.specs.Event.{Event}
-use Rattle.pef_model.specs.Registers.{Call, call_of, loaded}
+use Rattle.pef_model.specs.Registers.{Call, call_registers, call_of, loaded}
 use Rattle.pef_model.specs.Target.{touches_cpu, caller}
 use Rattle.pef_model.specs.Cpu.{CpuPart, start_cpu, next_cpu, own_after, own_after_call, own_after_ultracall, own_after_load, cpu_in, cpu_of_guest, cpu_of_call}
 use Rattle.pef_model.specs.Guest.{Guest}
@@ -49,10 +49,15 @@ abbrev pub IsFullExit : Answer → List ℕ → Type 0
 IsFullExit (Exit exit.Normal) shown = length shown ≡ 32
 IsFullExit a shown = Unit {0}
 
+-- so does one that leaves with a hypercall
+pub length_called : (shown : List ℕ) → length (call_registers shown) ≡ 32
+length_called shown = simp (length-take, length-append) (omega arith)
+
 -- and so does a step of a vCPU
 after_guest : (cpu : CpuPart) (run : Run) (a : Answer) (shown : List ℕ) → IsFullExit a shown → length cpu.own ≡ 32 → length (cpu_of_guest cpu run a shown).own ≡ 32
 after_guest cpu run (Exit exit.Normal) shown whole h = whole
 after_guest cpu run (Exit exit.Irq) shown whole h = refl
+after_guest cpu run (Exit (exit.Hcall n)) shown whole h = length_called shown
 after_guest cpu run Gone shown whole h = refl
 after_guest cpu run a shown whole h = h
 
@@ -73,6 +78,7 @@ exit_is_full : (plan : Plan) (guests : ℕ → Guest) (frame : Option ℕ) (c : 
     ((lpid : ℕ) → AreFull (guests lpid).registers) → IsFullExit a (let_out plan guests c cmd a frame)
 exit_is_full plan guests frame (ctx.Uv work) cmd (Exit exit.Normal) after shown h full = absurd (moving work cmd (Exit exit.Normal) after shown h)
 exit_is_full plan guests frame (ctx.Guest run) GIrq (Exit exit.Normal) after shown h full = full run.lpid run.vid
+exit_is_full plan guests frame (ctx.Guest run) GHcall (Exit exit.Normal) after shown h full = full run.lpid run.vid
 exit_is_full plan guests frame (ctx.Guest run) cmd (Exit exit.Normal) after shown h full = absurd h
 exit_is_full plan guests frame ctx.Hv (HLd ra) (Exit exit.Normal) after shown h full = absurd h
 exit_is_full plan guests frame ctx.Hv cmd (Exit exit.Normal) after shown h full = absurd h

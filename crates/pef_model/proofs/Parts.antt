@@ -15,12 +15,12 @@ use Rattle.pef_model.specs.declared.state.Ctx.TheVariants as ctx
 use Rattle.pef_model.specs.declared.command.Code.{Code}
 use Rattle.pef_model.specs.declared.command.Code.TheVariants.{USuccess, UP2}
 use Rattle.pef_model.specs.declared.command.Cmd.{Cmd}
-use Rattle.pef_model.specs.declared.command.Cmd.TheVariants.{HEnter, UPate, URegslot, UUnregslot, UPagein, UPageout, UReturn, GLd, GSt, GIrq}
+use Rattle.pef_model.specs.declared.command.Cmd.TheVariants.{HEnter, UPate, URegslot, UUnregslot, UPagein, UPageout, UReturn, GLd, GSt, GHcall, GIrq}
 use Rattle.pef_model.specs.declared.entry.PoolSaw.{PoolSaw}
 use Rattle.pef_model.specs.declared.entry.Answer.{Answer}
 use Rattle.pef_model.specs.declared.entry.Answer.TheVariants.{Done, Val, Ret, Step, Enter, Exit}
 use Rattle.pef_model.specs.Slots.{registered_by, unregistered_by}
-use Rattle.pef_model.specs.GuestPart.{GuestPart, Page, VcpuPart, part_of_write, part_of_hypervisor, part_of_work, part_of_access, part_of_guest, part_in, page_of, slot_asked, start_phase, with_secure_page, with_running_vcpu, with_parked_vcpu, with_page_leaving, with_page_out, with_page_coming, with_page_refused, with_entry}
+use Rattle.pef_model.specs.GuestPart.{GuestPart, Page, VcpuPart, part_of_write, part_of_hypervisor, part_of_work, part_of_access, part_of_guest, part_in, page_of, slot_asked, waits_for, start_phase, with_secure_page, with_running_vcpu, with_parked_vcpu, with_page_leaving, with_page_out, with_page_coming, with_page_refused, with_entry}
 use Rattle.pef_model.specs.Guest.{Guest, next_guest}
 use Rattle.pef_model.specs.History.{guest_after, part_after}
 use Rattle.pef_model.proofs.Changes.{entry_gives, may_run_in}
@@ -67,6 +67,7 @@ module _ (P : GuestPart → Type 0) (plan : Plan) (g : GuestPart) (k : IsKept P 
   by_guest vid (Val value) (GLd rd gpa) pool = by_access (page_of plan gpa) pool
   by_guest vid Done (GSt rs gpa) pool = by_access (page_of plan gpa) pool
   by_guest vid (Exit why) GIrq pool = k.parked vid pending.Irq
+  by_guest vid (Exit why) GHcall pool = k.parked vid (waits_for why)
   by_guest vid a cmd pool = k.same
 
   by_ctx : (c : Ctx) (a : Answer) (cmd : Cmd) (pool : Option PoolSaw) (vid cpu : ℕ) (bytes : List ℕ) → P (part_in plan g c a cmd pool vid cpu bytes)

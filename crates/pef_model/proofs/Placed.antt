@@ -14,7 +14,7 @@ use Rattle.pef_model.specs.Event.{Event}
 use Rattle.pef_model.specs.Target.{Ask, Alone, AtGuest, AtFrame, frame_of, has_real_place, uses_hand, target_in}
 use Rattle.pef_model.specs.Cpu.{CpuPart}
 use Rattle.pef_model.specs.Deed.{Deed, answer_alone, giving, coming_back}
-use Rattle.pef_model.specs.History.{cpu_after, guest_after, deed_after, ask_of, Extends}
+use Rattle.pef_model.specs.History.{cpu_after, guest_after, deed_after, ask_of, Extends, register_shown}
 use Rattle.pef_model.proofs.Folds.{test_same}
 
 -- a store that was done lies in a normal frame, which the entry tells
@@ -69,7 +69,7 @@ copy_is_placed plan past e move extends before cmd_is answer_is = by_copied move
   cpu = cpu_after plan e.trace.cpu past
 
   ask : Ctx → Ask
-  ask c = record { before = c; lpid = cpu.lpid; vid = cpu.vid; last = cpu.last; hand = if uses_hand c Go then cpu.hand else [] }
+  ask c = record { before = c; lpid = cpu.lpid; vid = cpu.vid; last = cpu.last; hand = if uses_hand c Go then cpu.hand else []; register = register_shown c Go cpu.own }
 
   deed : Bool → Deed
   deed b = deed_after plan past (ask (ctx.Uv (Outward move))) Go (if b then AtGuest move.lpid else AtFrame move.frame)

@@ -1,8 +1,8 @@
 -- What an entry makes of its CPU and lets out.
-use Rattle.std.proofs.Common.{Option, Some, None, ◌≡◌, ℕ, ◌<◌, List, ◌∷◌, length, replicate, get_or, refl, ap, sym, subst, ◌∙◌, if◌then◌else◌, arith, Bool, true, false, ◌==◌, ◌≢◌, Option}
+use Rattle.std.proofs.Common.{Option, Some, None, ◌≡◌, ℕ, ◌-◌, ◌<◌, ◌≤◌, List, ◌∷◌, ◌++◌, length, replicate, get_or, refl, ap, sym, subst, ◌∙◌, if◌then◌else◌, arith, Bool, true, false, ◌==◌, ◌≢◌, Option, nat_lt, nat_le}
 use Rattle.std.specs.Prelude.{unwrap_or, slice_get}
-use Rattle.std.proofs.lemmas.Option.{slice_get-get_or}
-use Rattle.std.proofs.lemmas.List.{get_or-replicate}
+use Rattle.std.proofs.lemmas.Option.{slice_get-get_or, slice_get_past}
+use Rattle.std.proofs.lemmas.List.{get_or-replicate, get_or-take, get_or_append_left, get_or-append_right}
 use Rattle.std.proofs.lemmas.Grind.{common_steps}
 use Rattle.std.proofs.lemmas.Bool.Decides.{nat_tests}
 use Rattle.pef_model.specs.declared.state.Run.{Run}
@@ -12,13 +12,13 @@ use Rattle.pef_model.specs.declared.state.Ctx.{Ctx}
 use Rattle.pef_model.specs.declared.state.Ctx.TheVariants as ctx
 use Rattle.pef_model.specs.declared.command.TheConstants.{EXTERNAL_INTERRUPT}
 use Rattle.pef_model.specs.declared.command.Cmd.{Cmd}
-use Rattle.pef_model.specs.declared.command.Cmd.TheVariants.{HLd, HSt, HSelect, HEnter, UPate, URegslot, UUnregslot, UPagein, UPageout, UReturn, Go}
+use Rattle.pef_model.specs.declared.command.Cmd.TheVariants.{HLd, HSt, HSelect, HEnter, UPate, URegslot, UUnregslot, UPagein, UPageout, UReturn, Go, Dump}
 use Rattle.pef_model.specs.declared.entry.Exit.TheVariants as exit
 use Rattle.pef_model.specs.declared.entry.Answer.{Answer}
 use Rattle.pef_model.specs.declared.entry.Answer.TheVariants.{Done, Val, Ret, Step, Exit, Gone, Context}
 use Rattle.pef_model.specs.Plan.{Plan}
 use Rattle.pef_model.specs.Event.{Event}
-use Rattle.pef_model.specs.Registers.{Call, number_of, call_of, interrupt_registers}
+use Rattle.pef_model.specs.Registers.{Call, number_of, call_of, interrupt_registers, call_registers}
 use Rattle.pef_model.specs.Cpu.{CpuPart, start_cpu, next_cpu, cpu_in, cpu_by, cpu_of_guest, own_after, own_after_ultracall, own_after_call, own_after_load, last_after}
 use Rattle.pef_model.specs.Target.{touches_cpu, caller}
 use Rattle.pef_model.specs.History.{cpu_after}
@@ -52,6 +52,7 @@ context_leaves cpu ctx.Hv after (UUnregslot lpid id) shown bytes before h = absu
 context_leaves cpu ctx.Hv after (UPagein lpid src gpa flags order) shown bytes before h = absurd h
 context_leaves cpu ctx.Hv after (UPageout lpid dest gpa flags order) shown bytes before h = absurd h
 context_leaves cpu ctx.Hv after (UReturn r0 r2 outs) shown bytes before h = absurd h
+context_leaves cpu ctx.Hv after (Dump reg) shown bytes before h = absurd h
 context_leaves cpu ctx.Hv after cmd shown bytes before h = (λ i. record cpu { ctx = (h.0 ∙ sym before) i })
 context_leaves cpu (ctx.Uv (Inward move)) after Go shown bytes before h = absurd h
 context_leaves cpu (ctx.Uv (Inward move)) after cmd shown bytes before h = (λ i. record cpu { ctx = (h.0 ∙ sym before) i })
@@ -130,6 +131,21 @@ interrupt_shows r small = by_test (r == 3) refl where
   by_test true t = ap (λ (n : ℕ). get_or interrupt_registers n 0) (test_same r 3 t)
   by_test false t = let other : 3 ≢ r = grind (arith, nat_tests) in let zero : get_or (replicate {A = ℕ} 32 0) r 0 ≡ 0 = get_or-replicate 32 r 0 0 small in grind (arith, common_steps)
 
+-- what a hypercall lets out is in R3 and the registers after it, and every other register shows 0
+pub call_shows : (shown : List ℕ) (r : ℕ) → r < 32 → get_or (call_registers shown) r 0 ≡ (if nat_le 3 r then unwrap_or (slice_get shown (r - 3)) 0 else 0)
+call_shows shown r small = get_or-take 32 (replicate 3 0 ++ (shown ++ replicate 29 0)) r 0 small ∙ by_place (nat_le 3 r) refl where
+  behind : (k : ℕ) → k < 29 → get_or (shown ++ replicate 29 0) k 0 ≡ unwrap_or (slice_get shown k) 0
+  behind k few = by_length (nat_lt k (length shown)) refl where
+    by_length : (b : Bool) → nat_lt k (length shown) ≡ b → get_or (shown ++ replicate 29 0) k 0 ≡ unwrap_or (slice_get shown k) 0
+    by_length true t = let less : k < length shown = grind (arith, nat_tests) in get_or_append_left shown (replicate 29 0) 0 k less ∙ ap (λ (o : Option ℕ). unwrap_or o 0) (sym (slice_get-get_or shown k 0 less))
+    by_length false t =
+        let more : length shown ≤ k = grind (arith, nat_tests) in
+        get_or-append_right shown (replicate 29 0) (length shown) k 0 refl more ∙ get_or-replicate 29 (k - length shown) 0 0 (omega arith) ∙ ap (λ (o : Option ℕ). unwrap_or o 0) (sym (slice_get_past shown k more))
+
+  by_place : (b : Bool) → nat_le 3 r ≡ b → get_or (replicate 3 0 ++ (shown ++ replicate 29 0)) r 0 ≡ (if b then unwrap_or (slice_get shown (r - 3)) 0 else 0)
+  by_place true t = let low : 3 ≤ r = grind (arith, nat_tests) in get_or-append_right (replicate 3 0) (shown ++ replicate 29 0) 3 r 0 refl low ∙ behind (r - 3) (omega (arith, small, low))
+  by_place false t = let high : r < 3 = grind (arith, nat_tests) in get_or_append_left (replicate 3 0) (shown ++ replicate 29 0) 0 r high ∙ get_or-replicate 3 r 0 0 high
+
 -- all that a guest lets out is shown
 whole_shows : (shown : List ℕ) (r old : ℕ) → r < length shown → get_or shown r 0 ≡ unwrap_or (slice_get shown r) old
 whole_shows shown r old small = ap (λ (o : Option ℕ). unwrap_or o old) (sym (slice_get-get_or shown r 0 small))
@@ -140,6 +156,7 @@ own_left : (cpu : CpuPart) (c : Ctx) (cmd : Cmd) (a : Answer) (shown : List ℕ)
 own_left cpu ctx.Hv cmd a shown r k whole full small = own_by_command cpu.own cmd a r k full
 own_left cpu (ctx.Uv work) cmd a shown r k whole full small = own_by_work cpu work cmd a shown r full
 own_left cpu (ctx.Guest run) cmd (Exit exit.Irq) shown r k whole full small = interrupt_shows r small
+own_left cpu (ctx.Guest run) cmd (Exit (exit.Hcall n)) shown r k whole full small = call_shows shown r small
 own_left cpu (ctx.Guest run) cmd (Exit exit.Normal) shown r k whole full small = whole_shows shown r (get_or cpu.own r 0) (omega (arith, whole, small))
 own_left cpu (ctx.Guest run) cmd Gone shown r k whole full small = get_or-replicate 32 r 0 0 small
 own_left cpu (ctx.Guest run) cmd a shown r k whole full small = refl
@@ -158,7 +175,7 @@ selection_left cpu (ctx.Guest run) cmd Gone shown = (refl, refl)
 selection_left cpu (ctx.Guest run) cmd a shown = (refl, refl)
 
 -- a CPU after an entry of its own
-own_cpu : (plan : Plan) (past : List Event) (e : Event) → cpu_after plan e.trace.cpu (e ∷ past) ≡ next_cpu (cpu_after plan e.trace.cpu past) e
+pub own_cpu : (plan : Plan) (past : List Event) (e : Event) → cpu_after plan e.trace.cpu (e ∷ past) ≡ next_cpu (cpu_after plan e.trace.cpu past) e
 own_cpu plan past e = counts (touches_cpu e.trace.cpu) next_cpu (start_cpu plan) e past (same_test e.trace.cpu)
 
 -- its context is the one that the entry tells

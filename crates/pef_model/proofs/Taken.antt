@@ -4,11 +4,12 @@ use Rattle.std.proofs.lemmas.Bool.Decides.{nat_tests}
 use Rattle.pef_model.specs.declared.state.Phase.TheVariants as phase
 use Rattle.pef_model.specs.declared.state.Ctx.{Ctx}
 use Rattle.pef_model.specs.declared.state.Ctx.TheVariants as ctx
+use Rattle.pef_model.specs.declared.state.Pending.{Pending}
 use Rattle.pef_model.specs.declared.state.Pending.TheVariants as pending
 use Rattle.pef_model.specs.declared.state.VState.{VState}
 use Rattle.pef_model.specs.declared.state.VState.TheVariants as vstate
 use Rattle.pef_model.specs.declared.command.Cmd.{Cmd}
-use Rattle.pef_model.specs.declared.command.Cmd.TheVariants.{HEnter, UPate, UPagein, UReturn, GLd, GSt, GIrq}
+use Rattle.pef_model.specs.declared.command.Cmd.TheVariants.{HEnter, UPate, UPagein, UReturn, GLd, GSt, GHcall, GIrq}
 use Rattle.pef_model.specs.declared.command.Code.{Code}
 use Rattle.pef_model.specs.declared.command.Code.TheVariants.{USuccess, UP2}
 use Rattle.pef_model.specs.declared.state.Work.TheVariants.{Inward, Outward}
@@ -19,7 +20,7 @@ use Rattle.pef_model.specs.declared.entry.PoolSaw.{PoolSaw}
 use Rattle.pef_model.specs.Plan.{Plan}
 use Rattle.pef_model.specs.Event.{Event}
 use Rattle.pef_model.specs.Target.{Ask, Alone, AtGuest, is_guest, target_in, touches_guest}
-use Rattle.pef_model.specs.GuestPart.{GuestPart, VcpuPart, new_vcpu, ends_guest, ended_normal, part_of_write, part_in, part_of_access}
+use Rattle.pef_model.specs.GuestPart.{GuestPart, VcpuPart, new_vcpu, waits_for, ends_guest, ended_normal, part_of_write, part_in, part_of_access}
 use Rattle.pef_model.specs.Guest.{Guest, next_guest}
 use Rattle.pef_model.specs.Entry.{enter_code}
 use Rattle.pef_model.specs.Deed.{answering, returning}
@@ -81,15 +82,16 @@ there_is plan past e extends =
 abbrev taken_up : GuestPart → ℕ → VcpuPart
 taken_up g cpu = record { state = vstate.Running cpu; generation = g.generation }
 
-abbrev parked : GuestPart → ℕ → VcpuPart
-parked g vid = record (g.vcpus vid) { state = vstate.Parked pending.Irq }
+abbrev parked : GuestPart → ℕ → Pending → VcpuPart
+parked g vid waits = record (g.vcpus vid) { state = vstate.Parked waits }
 
 -- what a step makes of this vCPU of the guest at which it aims, by the one that is selected; None where it stays as it was
 abbrev vcpu_given : GuestPart → ℕ → ℕ → ℕ → Ctx → Cmd → Answer → Option VcpuPart
 vcpu_given g vid selected cpu ctx.Hv (UReturn r0 r2 outs) Enter = if selected == vid then Some (taken_up g cpu) else None
 vcpu_given g vid selected cpu ctx.Hv (HEnter lpid entered value) Enter = if entered == vid then Some (taken_up g cpu) else None
 vcpu_given g vid selected cpu ctx.Hv (UPate lpid dw0 dw1) (Ret code) = if ends_guest code dw1 then Some (new_vcpu vstate.Idle) else None
-vcpu_given g vid selected cpu (ctx.Guest run) GIrq (Exit exit) = if run.vid == vid then Some (parked g run.vid) else None
+vcpu_given g vid selected cpu (ctx.Guest run) GHcall (Exit why) = if run.vid == vid then Some (parked g run.vid (waits_for why)) else None
+vcpu_given g vid selected cpu (ctx.Guest run) GIrq (Exit why) = if run.vid == vid then Some (parked g run.vid pending.Irq) else None
 vcpu_given g vid selected cpu c cmd a = None
 
 -- one vCPU changes
@@ -131,7 +133,8 @@ module _ (plan : Plan) (g : GuestPart) (pool : Option PoolSaw) (v cpu : ℕ) (by
   vcpu_by (ctx.Guest run) cmd (Val value) = refl
   vcpu_by (ctx.Guest run) (GSt rs gpa) Done = access_keeps _ pool
   vcpu_by (ctx.Guest run) cmd Done = refl
-  vcpu_by (ctx.Guest run) GIrq (Exit exit) = put_vcpu g.vcpus vid run.vid (parked g run.vid)
+  vcpu_by (ctx.Guest run) GHcall (Exit why) = put_vcpu g.vcpus vid run.vid (parked g run.vid (waits_for why))
+  vcpu_by (ctx.Guest run) GIrq (Exit why) = put_vcpu g.vcpus vid run.vid (parked g run.vid pending.Irq)
   vcpu_by (ctx.Guest run) cmd (Exit exit) = refl
   vcpu_by (ctx.Guest run) cmd a = refl
 
@@ -189,18 +192,22 @@ module _ (plan : Plan) (g : GuestPart) (lpid vid l v cpu : ℕ) where
   state_is ctx.Hv cmd a after shown h there = ap (λ (x : VcpuPart). x.state) (sym (given_none (is_guest lpid (target_in plan ctx.Hv l cmd)) old))
   state_is (ctx.Uv (Inward move)) cmd a after shown h there = ap (λ (x : VcpuPart). x.state) (sym (given_none (is_guest lpid (target_in plan (ctx.Uv (Inward move)) l cmd)) old))
   state_is (ctx.Uv (Outward move)) cmd a after shown h there = ap (λ (x : VcpuPart). x.state) (sym (given_none (is_guest lpid (target_in plan (ctx.Uv (Outward move)) l cmd)) old))
-  state_is (ctx.Guest run) GIrq (Exit exit.Normal) after shown h there = sym (given_both (λ (x : VcpuPart). x.state) (parked g run.vid) old (run.lpid == lpid) (run.vid == vid))
-  state_is (ctx.Guest run) GIrq (Exit exit.Irq) after shown h there = sym (given_both (λ (x : VcpuPart). x.state) (parked g run.vid) old (run.lpid == lpid) (run.vid == vid))
-  state_is (ctx.Guest run) cmd (Exit exit) after shown h there = absurd h
+  state_is (ctx.Guest run) GHcall (Exit exit.Normal) after shown h there = sym (given_both (λ (x : VcpuPart). x.state) (parked g run.vid pending.Exit) old (run.lpid == lpid) (run.vid == vid))
+  state_is (ctx.Guest run) GHcall (Exit exit.Irq) after shown h there = sym (given_both (λ (x : VcpuPart). x.state) (parked g run.vid pending.Irq) old (run.lpid == lpid) (run.vid == vid))
+  state_is (ctx.Guest run) GHcall (Exit (exit.Hcall n)) after shown h there = sym (given_both (λ (x : VcpuPart). x.state) (parked g run.vid (pending.Hcall n)) old (run.lpid == lpid) (run.vid == vid))
+  state_is (ctx.Guest run) GIrq (Exit exit.Normal) after shown h there = sym (given_both (λ (x : VcpuPart). x.state) (parked g run.vid pending.Irq) old (run.lpid == lpid) (run.vid == vid))
+  state_is (ctx.Guest run) GIrq (Exit exit.Irq) after shown h there = sym (given_both (λ (x : VcpuPart). x.state) (parked g run.vid pending.Irq) old (run.lpid == lpid) (run.vid == vid))
+  state_is (ctx.Guest run) GIrq (Exit (exit.Hcall n)) after shown h there = absurd h
+  state_is (ctx.Guest run) cmd (Exit why) after shown h there = absurd h
   state_is (ctx.Guest run) cmd a after shown h there =
       ap (λ (x : VcpuPart). x.state) (sym (given_none (is_guest lpid (target_in plan (ctx.Guest run) l cmd)) old))
       ∙ ap (λ (o : Option VState). unwrap_or o old.state) (sym (either_same ((run.lpid == lpid) && (run.vid == vid)) None))
 
   -- a vCPU that leaves keeps its generation
-  parked_keeps : (at : ℕ) (b c : Bool) → (at == vid) ≡ c → (given_at b (if c then Some (parked g at) else None) old).generation ≡ old.generation
-  parked_keeps at true true t = ap (λ (n : ℕ). (g.vcpus n).generation) (test_same at vid t)
-  parked_keeps at true false t = refl
-  parked_keeps at false c t = refl
+  parked_keeps : (waits : Pending) (at : ℕ) (b c : Bool) → (at == vid) ≡ c → (given_at b (if c then Some (parked g at waits) else None) old).generation ≡ old.generation
+  parked_keeps waits at true true t = ap (λ (n : ℕ). (g.vcpus n).generation) (test_same at vid t)
+  parked_keeps waits at true false t = refl
+  parked_keeps waits at false c t = refl
 
   generation_is : (c : Ctx) (cmd : Cmd) (a : Answer) → IsThereIn c plan cmd a → (now c cmd a).generation ≡ unwrap_or (taken_given g lpid vid l v c cmd a) old.generation
   generation_is ctx.Hv (UReturn r0 r2 outs) Enter there = sym (given_both (λ (x : VcpuPart). x.generation) (taken_up g cpu) old (l == lpid) (v == vid))
@@ -209,7 +216,8 @@ module _ (plan : Plan) (g : GuestPart) (lpid vid l v cpu : ℕ) where
       ∙ named_aims (λ (x : VcpuPart). x.generation) named (if entered == vid then Some (taken_up g cpu) else None) (nat_le 1 named && nat_le named plan.guests) there)
   generation_is ctx.Hv (UPate named dw0 dw1) (Ret code) there =
       sym (ended_aims (λ (x : VcpuPart). x.generation) named (new_vcpu vstate.Idle) (nat_le 1 named && nat_le named plan.guests) (ends_guest code dw1) there)
-  generation_is (ctx.Guest run) GIrq (Exit exit) there = parked_keeps run.vid (run.lpid == lpid) (run.vid == vid) refl
+  generation_is (ctx.Guest run) GHcall (Exit why) there = parked_keeps (waits_for why) run.vid (run.lpid == lpid) (run.vid == vid) refl
+  generation_is (ctx.Guest run) GIrq (Exit why) there = parked_keeps pending.Irq run.vid (run.lpid == lpid) (run.vid == vid) refl
   generation_is c cmd a there = ap (λ (x : VcpuPart). x.generation) (sym (given_none (is_guest lpid (target_in plan c l cmd)) old))
 
 pub each_entry_leaves_states : EachEntryLeavesStates

@@ -12,7 +12,7 @@ use Rattle.pef_model.specs.Target.{Ask, AtGuest, AtFrame, uses_hand, target_in}
 use Rattle.pef_model.specs.Cpu.{CpuPart}
 use Rattle.pef_model.specs.PageIn.{is_last_sealed}
 use Rattle.pef_model.specs.Deed.{coming_back, deed_page_in_test}
-use Rattle.pef_model.specs.History.{cpu_after, guest_after, deed_after, ask_of, Extends}
+use Rattle.pef_model.specs.History.{cpu_after, guest_after, deed_after, ask_of, Extends, register_shown}
 use Rattle.pef_model.specs.MoveLaw.{GoesThroughHand, EachMoveGoesThroughHand}
 
 -- the end of a page-in has the hand as its bytes, whatever it answers
@@ -26,7 +26,7 @@ module _ (plan : Plan) (past : List Event) (e : Event) (extends : Extends plan p
   cpu = cpu_after plan e.trace.cpu past
 
   abbrev ask : Ctx → Ask
-  ask c = record { before = c; lpid = cpu.lpid; vid = cpu.vid; last = cpu.last; hand = if uses_hand c Go then cpu.hand else [] }
+  ask c = record { before = c; lpid = cpu.lpid; vid = cpu.vid; last = cpu.last; hand = if uses_hand c Go then cpu.hand else []; register = register_shown c Go cpu.own }
 
   -- the bytes of a step of a call in progress are its deed's
   bytes_are : (c : Ctx) → e.saw.before ≡ c → e.trace.cmd ≡ Go → e.bytes ≡ (deed_after plan past (ask c) Go (target_in plan c cpu.lpid Go)).bytes

@@ -13,7 +13,7 @@ use Rattle.pef_model.specs.Target.{frame_of}
 use Rattle.pef_model.specs.Memory.{offset_of, writes_of, writes_in, write_in, after_writes, overwritten}
 use Rattle.pef_model.specs.History.{frame_after, part_after, last_norm, reg, IsLegal}
 use Rattle.pef_model.specs.AddressLaw.{IsParted}
-use Rattle.pef_model.specs.ToldLaw.{value_in}
+use Rattle.pef_model.specs.Target.{value_in}
 use Rattle.pef_model.specs.NormalLaw.{address_through, LoadThroughGivesLastNorm, StoreThroughIsLastNorm}
 use Rattle.pef_model.proofs.Folds.{same_test}
 use Rattle.pef_model.proofs.Written.{doubleword_overwrites, frame_written}

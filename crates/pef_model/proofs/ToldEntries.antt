@@ -16,14 +16,14 @@ use Rattle.pef_model.specs.declared.entry.Answer.{Answer}
 use Rattle.pef_model.specs.declared.entry.Answer.TheVariants.{Done, Val}
 use Rattle.pef_model.specs.Plan.{Plan}
 use Rattle.pef_model.specs.Event.{Event, mark_of}
-use Rattle.pef_model.specs.Target.{Ask, Target, AtGuest, frame_of, told, target_in}
+use Rattle.pef_model.specs.Target.{Ask, Target, AtGuest, frame_of, told, target_in, value_in}
 use Rattle.pef_model.specs.GuestPart.{GuestPart, Meeting, NoPlace, Moves, Private, Normal, Unbacked, meets, meets_in, meets_kind, is_private_in, is_shared, page_of, is_in_slot}
 use Rattle.pef_model.specs.Guest.{Guest}
 use Rattle.pef_model.specs.Deed.{Deed, deed_access, deed_running, deed_gone, deed_guest, deed_guest_in}
 use Rattle.pef_model.specs.History.{cpu_after, guest_after, pool_after, found_after, deed_after, ask_of, entry_of, Extends, part_after}
 use Rattle.pef_model.specs.Memory.{offset_of, tells_free}
 use Rattle.std.proofs.Common.{rules}
-use Rattle.pef_model.specs.ToldLaw.{is_done, frame_met, value_in, AccessTellsItsFrame, PrivateAccessTellsNoFrame, told_any, told_found, EntryAtGuestIsTold}
+use Rattle.pef_model.specs.ToldLaw.{is_done, frame_met, AccessTellsItsFrame, PrivateAccessTellsNoFrame, told_any, told_found, EntryAtGuestIsTold}
 use Rattle.pef_model.proofs.DeedOf.{deed_of, ask_in, success_of, through_of, shown_of, reach, access_is}
 
 -- an access that is done tells the normal frame that it meets

@@ -7,7 +7,7 @@ use Rattle.pef_model.specs.declared.state.Work.TheVariants.{Inward, Outward}
 use Rattle.pef_model.specs.declared.state.Ctx.{Ctx}
 use Rattle.pef_model.specs.declared.state.Ctx.TheVariants as ctx
 use Rattle.pef_model.specs.declared.command.Cmd.{Cmd}
-use Rattle.pef_model.specs.declared.command.Cmd.TheVariants.{HEnter, UPagein, UPageout, UReturn, GLd, GSt, GIrq, Go}
+use Rattle.pef_model.specs.declared.command.Cmd.TheVariants.{HEnter, UPagein, UPageout, UReturn, GLd, GSt, GIrq, Go, GHcall}
 use Rattle.pef_model.specs.declared.command.Code.{Code}
 use Rattle.pef_model.specs.declared.command.Code.TheVariants.{USuccess, UParameter, UInvalid}
 use Rattle.pef_model.specs.declared.entry.Answer.{Answer}
@@ -25,10 +25,15 @@ use Rattle.pef_model.specs.Guest.{Guest}
 use Rattle.pef_model.specs.PageOut.{page_out_code}
 use Rattle.pef_model.specs.PageIn.{page_in_operands, is_last_sealed}
 use Rattle.pef_model.specs.Entry.{enter_code}
-use Rattle.pef_model.specs.Deed.{Deed, answering, giving, returning, coming_back, deed_page_out_begin, deed_page_in_with, deed_page_in_test, may_return_in, is_waiting, deed_backing, deed_through, deed_access, deed_interrupt, deed_running, deed_gone, deed_hypervisor, deed_guest_in, deed_guest, deed_frame_in, deed_frame}
+use Rattle.pef_model.specs.Deed.{Deed, answering, giving, returning, coming_back, deed_page_out_begin, deed_page_in_with, deed_page_in_test, may_return_in, is_waiting, deed_backing, deed_through, deed_access, deed_interrupt, deed_running, deed_gone, deed_hypervisor, deed_guest_in, deed_guest, deed_frame_in, deed_frame, deed_hypercall, deed_by_row, deed_by_kind}
 use Rattle.pef_model.specs.History.{cpu_after, guest_after, pool_after, frame_after, ask_of, entry_of, deed_after, next_entry, next_entry_by, found_after}
 use Rattle.pef_model.specs.ReadLaw.{TouchedObjectsDecide, AskedIsTold, IsTold}
 use Rattle.pef_model.proofs.Folds.{same_test}
+use Rattle.pef_model.specs.declared.hypercall.Row.{Row}
+use Rattle.pef_model.specs.declared.hypercall.RowKind.{RowKind}
+use Rattle.pef_model.specs.declared.hypercall.RowKind.TheVariants.{Reflected}
+use Rattle.pef_model.specs.declared.hypercall.TheConstants.{HCALLS}
+use Rattle.pef_model.specs.Hypercalls.{row_of}
 
 -- an access that didn't ask for a frame is the same whether one is free or not, and reads no normal frame but the one that it tells
 access_asks : (ask : Ask) (success : Answer) (through other : ℕ → Answer) (out : List ℕ) (any free : Bool) (m : Meeting) → (is_some (deed_access ask success through out any m).pool ≡ true → any ≡ free) →
@@ -139,6 +144,18 @@ running_tells plan run g found any ask GIrq saw h = by_phase g.part.phase h wher
   by_phase : (p : Phase) → (deed_interrupt p (g.registers run.vid).gpr ask).pool ≡ Some saw → IsTold any saw
   by_phase phase.Normal k = cc
   by_phase p k = cc
+running_tells plan run g found any ask GHcall saw h = by_phase g.part.phase h where
+  by_kind : (kind : RowKind) (row : Row) → (deed_by_kind kind ask (g.registers run.vid).gpr row).pool ≡ Some saw → IsTold any saw
+  by_kind Reflected row k = cc
+  by_kind kind row k = cc
+
+  by_row : (row : Option Row) → (deed_by_row ask (g.registers run.vid).gpr row).pool ≡ Some saw → IsTold any saw
+  by_row (Some row) k = by_kind row.kind row k
+  by_row None k = cc
+
+  by_phase : (p : Phase) → (deed_hypercall p (g.registers run.vid).gpr ask).pool ≡ Some saw → IsTold any saw
+  by_phase phase.Normal k = cc
+  by_phase p k = by_row (row_of HCALLS (slice_index (g.registers run.vid).gpr 3)) k
 running_tells plan run g found any ask cmd saw h = cc
 
 page_in_tells : (plan : Plan) (g : GuestPart) (any : Bool) (ask : Ask) (lpid src gpa : ℕ) (code : Option Code) (saw : PoolSaw) →

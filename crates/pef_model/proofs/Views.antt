@@ -1,5 +1,5 @@
 -- Two histories that are alike show the same.
-use Rattle.std.proofs.Common.{◌≡◌, ℕ, zero, suc, ◌-◌, List, [], ◌∷◌, length, drop, Bool, true, false, refl, ap, sym, subst, ◌∙◌, ◌==◌, nat_lt, if◌then◌else◌, Some, slice_index}
+use Rattle.std.proofs.Common.{◌≡◌, ℕ, zero, suc, ◌-◌, List, [], ◌∷◌, length, drop, Bool, true, false, refl, ap, sym, subst, ◌∙◌, ◌==◌, nat_lt, if◌then◌else◌, Some, slice_index, Option, None}
 use Rattle.std.specs.Prelude.{◌^◌, IsTrue}
 use Rattle.std.specs.List.{list_any, AllByRecursion}
 use Rattle.pef_model.specs.declared.config.Config.{Config}
@@ -9,7 +9,7 @@ use Rattle.pef_model.specs.declared.state.Run.{Run}
 use Rattle.pef_model.specs.declared.state.Ctx.{Ctx}
 use Rattle.pef_model.specs.declared.state.Ctx.TheVariants as ctx
 use Rattle.pef_model.specs.declared.command.Cmd.{Cmd}
-use Rattle.pef_model.specs.declared.command.Cmd.TheVariants.{HLd, HSt, HSelect, HEnter, GLd, GSt, GIrq, Go}
+use Rattle.pef_model.specs.declared.command.Cmd.TheVariants.{HLd, HSt, HSelect, HEnter, GLd, GSt, GIrq, Go, GHcall}
 use Rattle.pef_model.specs.declared.entry.Answer.{Answer}
 use Rattle.pef_model.specs.declared.entry.Answer.TheVariants.{Done, Val}
 use Rattle.pef_model.specs.Plan.{Plan, plan_of, with_entropy}
@@ -20,7 +20,7 @@ use Rattle.pef_model.specs.Cpu.{CpuPart, start_cpu, next_cpu}
 use Rattle.pef_model.specs.GuestPart.{GuestPart, Meeting, Unbacked, meets, start_part, next_part}
 use Rattle.pef_model.specs.Memory.{writes_of, start_pool, next_pool, start_frame, next_frame, offset_of, either_of}
 use Rattle.pef_model.specs.Guest.{Guest}
-use Rattle.pef_model.specs.Deed.{deed_access, deed_interrupt, deed_running, deed_gone}
+use Rattle.pef_model.specs.Deed.{deed_access, deed_interrupt, deed_running, deed_gone, deed_hypercall, deed_by_row, deed_by_kind}
 use Rattle.pef_model.specs.History.{public_state, cpu_after, guest_after, pool_after, ask_of, deed_after, next_entry_by, IsLegal, found_after}
 use Rattle.pef_model.specs.Report.{command_name}
 use Rattle.pef_model.specs.SecretLaw.{open_cmd, open_answer, open_answer_of_guest, SecretsStayIn}
@@ -31,15 +31,20 @@ use Rattle.pef_model.proofs.Opened.{name_open}
 use Rattle.pef_model.proofs.Secrets.{no_secret_in_one_entry, agree_more, part_after}
 use Rattle.pef_model.proofs.Deeds.{IsShut}
 use Rattle.pef_model.proofs.AlikeEntries.{IsNext, unstamped, opened, Same, entries_shut, sealed_agree, entries_agree}
+use Rattle.pef_model.specs.declared.hypercall.Row.{Row}
+use Rattle.pef_model.specs.declared.hypercall.RowKind.{RowKind}
+use Rattle.pef_model.specs.declared.hypercall.RowKind.TheVariants.{Reflected}
+use Rattle.pef_model.specs.declared.hypercall.TheConstants.{HCALLS}
+use Rattle.pef_model.specs.Hypercalls.{row_of}
 
 -- a step of a guest after which the hypervisor runs gives no value
-running_gives_none : (plan : Plan) (past : List Event) (run : Run) (l v : ℕ) (last : Answer) (hand : List ℕ) (cmd : Cmd) →
-    (deed_after plan past (record { before = ctx.Guest run; lpid = l; vid = v; last = last; hand = hand }) cmd (target_in plan (ctx.Guest run) l cmd)).after ≡ ctx.Hv →
-    open_answer_of_guest (deed_after plan past (record { before = ctx.Guest run; lpid = l; vid = v; last = last; hand = hand }) cmd (target_in plan (ctx.Guest run) l cmd)).answer
-    ≡ (deed_after plan past (record { before = ctx.Guest run; lpid = l; vid = v; last = last; hand = hand }) cmd (target_in plan (ctx.Guest run) l cmd)).answer
-running_gives_none plan past run l v last hand cmd = by_command cmd where
+running_gives_none : (plan : Plan) (past : List Event) (run : Run) (l v : ℕ) (last : Answer) (hand : List ℕ) (register : ℕ) (cmd : Cmd) →
+    (deed_after plan past (record { before = ctx.Guest run; lpid = l; vid = v; last = last; hand = hand; register = register }) cmd (target_in plan (ctx.Guest run) l cmd)).after ≡ ctx.Hv →
+    open_answer_of_guest (deed_after plan past (record { before = ctx.Guest run; lpid = l; vid = v; last = last; hand = hand; register = register }) cmd (target_in plan (ctx.Guest run) l cmd)).answer
+    ≡ (deed_after plan past (record { before = ctx.Guest run; lpid = l; vid = v; last = last; hand = hand; register = register }) cmd (target_in plan (ctx.Guest run) l cmd)).answer
+running_gives_none plan past run l v last hand register cmd = by_command cmd where
   ask : Ask
-  ask = record { before = ctx.Guest run; lpid = l; vid = v; last = last; hand = hand }
+  ask = record { before = ctx.Guest run; lpid = l; vid = v; last = last; hand = hand; register = register }
 
   g : Guest
   g = guest_after plan run.lpid past
@@ -56,10 +61,22 @@ running_gives_none plan past run l v last hand cmd = by_command cmd where
   by_interrupt gpr Normal = refl
   by_interrupt gpr p = refl
 
+  by_call : (gpr : List ℕ) (p : Phase) → (deed_hypercall p gpr ask).after ≡ ctx.Hv → open_answer_of_guest (deed_hypercall p gpr ask).answer ≡ (deed_hypercall p gpr ask).answer
+  by_call gpr Normal h = refl
+  by_call gpr p h = by_row (row_of HCALLS (slice_index gpr 3)) h where
+    by_kind : (kind : RowKind) (row : Row) → open_answer_of_guest (deed_by_kind kind ask gpr row).answer ≡ (deed_by_kind kind ask gpr row).answer
+    by_kind Reflected row = refl
+    by_kind kind row = refl
+
+    by_row : (row : Option Row) → (deed_by_row ask gpr row).after ≡ ctx.Hv → open_answer_of_guest (deed_by_row ask gpr row).answer ≡ (deed_by_row ask gpr row).answer
+    by_row (Some row) h = by_kind row.kind row
+    by_row None h = refl
+
   by_running : (cmd : Cmd) → (deed_running plan run g (found_after plan past) free ask cmd).after ≡ ctx.Hv → open_answer_of_guest (deed_running plan run g (found_after plan past) free ask cmd).answer ≡ (deed_running plan run g (found_after plan past) free ask cmd).answer
   by_running (GLd rd gpa) h = by_reach (Val (g.content gpa)) (λ n. Val (found_after plan past n (offset_of plan gpa))) [] free (meets plan g.part gpa) h
   by_running (GSt rs gpa) h = by_reach Done (λ n. Done) (slice_index (g.registers run.vid).gpr rs ∷ []) free (meets plan g.part gpa) h
   by_running GIrq h = by_interrupt (g.registers run.vid).gpr g.part.phase
+  by_running GHcall h = by_call (g.registers run.vid).gpr g.part.phase h
   by_running cmd h = cc
 
   by_generation : (cmd : Cmd) (b : Bool) → (if b then deed_running plan run g (found_after plan past) free ask cmd else deed_gone ask).after ≡ ctx.Hv →
@@ -85,12 +102,12 @@ gives_none plan past e extends after = by_ctx e.saw.before refl where
   by_ctx ctx.Hv before = refl
   by_ctx (ctx.Uv work) before = refl
   by_ctx (ctx.Guest run) before =
-      let running : Ask = record { before = ctx.Guest run; lpid = ask.lpid; vid = ask.vid; last = ask.last; hand = ask.hand } in
+      let running : Ask = record { before = ctx.Guest run; lpid = ask.lpid; vid = ask.vid; last = ask.last; hand = ask.hand; register = ask.register } in
       let is : ask.before ≡ ctx.Guest run = ap (λ (x : Event). x.saw.before) (sym extends) ∙ before in
-      let same : ask ≡ running = (λ i. record { before = is i; lpid = ask.lpid; vid = ask.vid; last = ask.last; hand = ask.hand }) in
+      let same : ask ≡ running = (λ i. record { before = is i; lpid = ask.lpid; vid = ask.vid; last = ask.last; hand = ask.hand; register = ask.register }) in
       let entry : e ≡ next_entry_by plan past running (mark_of e) e.trace.cmd = extends ∙ ap (λ (a : Ask). next_entry_by plan past a (mark_of e) e.trace.cmd) same in
       ap (λ (x : Event). open_answer_of_guest x.trace.answer) entry
-      ∙ running_gives_none plan past run ask.lpid ask.vid ask.last ask.hand e.trace.cmd (sym (ap (λ (x : Event). x.saw.after) entry) ∙ after)
+      ∙ running_gives_none plan past run ask.lpid ask.vid ask.last ask.hand ask.register e.trace.cmd (sym (ap (λ (x : Event). x.saw.after) entry) ∙ after)
       ∙ sym (ap (λ (x : Event). x.trace.answer) entry)
 
 -- a step is shown where the hypervisor runs before it or after it

@@ -5,10 +5,10 @@ use Rattle.pef_model.specs.declared.state.Work.TheVariants.{Inward, Outward}
 use Rattle.pef_model.specs.declared.state.Ctx.{Ctx}
 use Rattle.pef_model.specs.declared.state.Ctx.TheVariants as ctx
 use Rattle.pef_model.specs.declared.command.Code.{Code}
-use Rattle.pef_model.specs.declared.command.Code.TheVariants.{USuccess, UParameter, UP2, UP3, UP4, UP5, UFunction, UBusy, UPermission, UInvalid}
+use Rattle.pef_model.specs.declared.command.Code.TheVariants.{USuccess, UParameter, UP2, UP3, UP4, UP5, UFunction, UBusy, UPermission, UInvalid, HUnsupported, HFunction, HHardware}
 use Rattle.pef_model.specs.declared.command.Cmd.{Cmd}
-use Rattle.pef_model.specs.declared.command.Cmd.TheVariants.{HLd, HSt, HSelect, HEnter, UPate, URegslot, UUnregslot, UPagein, UPageout, UReturn, GLi, GLd, GSt, GIrq}
-use Rattle.pef_model.specs.declared.entry.Exit.TheVariants.{Normal, Irq}
+use Rattle.pef_model.specs.declared.command.Cmd.TheVariants.{HLd, HSt, HSelect, HEnter, UPate, URegslot, UUnregslot, UPagein, UPageout, UReturn, GLi, GAdd, GXor, GLd, GSt, GHcall, GIrq, Dump}
+use Rattle.pef_model.specs.declared.entry.Exit.TheVariants.{Normal, Irq, Hcall}
 use Rattle.pef_model.specs.declared.entry.Answer.{Answer}
 use Rattle.pef_model.specs.declared.entry.Answer.TheVariants.{Done, Val, Ret, Step, Enter, Exit, Again, Gone, Hole, Context}
 use Rattle.pef_model.specs.Plan.{Plan}
@@ -75,6 +75,7 @@ can_answer_hypervisor (UPageout lpid dest gpa flags order) Step = true
 can_answer_hypervisor (UPageout lpid dest gpa flags order) (Ret code) = is_of_page_out code
 can_answer_hypervisor (UReturn r0 r2 outs) Enter = true
 can_answer_hypervisor (UReturn r0 r2 outs) (Ret UInvalid) = true
+can_answer_hypervisor (Dump reg) (Val value) = true
 can_answer_hypervisor cmd a = false
 
 -- whether the next step of a page's move inward can have an answer: the copy goes on, and the end comes back
@@ -102,14 +103,22 @@ can_answer_vcpu (UPagein lpid src gpa flags order) (Ret UPermission) = true
 can_answer_vcpu (UPageout lpid dest gpa flags order) (Ret UPermission) = true
 can_answer_vcpu (UReturn r0 r2 outs) (Ret UInvalid) = true
 can_answer_vcpu (GLi rd value) Done = true
+can_answer_vcpu (GAdd rd ra rb) Done = true
+can_answer_vcpu (GXor rd ra rb) Done = true
 can_answer_vcpu (GLd rd gpa) (Val value) = true
 can_answer_vcpu (GLd rd gpa) Hole = true
 can_answer_vcpu (GLd rd gpa) Again = true
 can_answer_vcpu (GSt rs gpa) Done = true
 can_answer_vcpu (GSt rs gpa) Hole = true
 can_answer_vcpu (GSt rs gpa) Again = true
+can_answer_vcpu GHcall (Ret HUnsupported) = true
+can_answer_vcpu GHcall (Ret HFunction) = true
+can_answer_vcpu GHcall (Ret HHardware) = true
+can_answer_vcpu GHcall (Exit Normal) = true
+can_answer_vcpu GHcall (Exit (Hcall n)) = true
 can_answer_vcpu GIrq (Exit Irq) = true
 can_answer_vcpu GIrq (Exit Normal) = true
+can_answer_vcpu (Dump reg) (Val value) = true
 can_answer_vcpu cmd a = false
 
 -- whether a command of its CPU's context can have an answer

@@ -8,14 +8,18 @@ use Rattle.pef_model.specs.declared.state.Run.{Run}
 use Rattle.pef_model.specs.declared.state.Ctx.{Ctx}
 use Rattle.pef_model.specs.declared.state.Ctx.TheVariants as ctx
 use Rattle.pef_model.specs.declared.command.TheConstants.{PAGE_IN_FLAGS}
+use Rattle.pef_model.specs.declared.hypercall.TheConstants.{HCALLS}
+use Rattle.pef_model.specs.declared.hypercall.Row.{Row}
+use Rattle.pef_model.specs.declared.hypercall.RowKind.TheVariants.{Reflected}
 use Rattle.pef_model.specs.declared.command.Code.TheVariants.{USuccess, UBusy}
 use Rattle.pef_model.specs.declared.command.Cmd.{Cmd}
-use Rattle.pef_model.specs.declared.command.Cmd.TheVariants.{HLd, HSt, HSelect, HEnter, UPate, URegslot, UUnregslot, UPagein, UPageout, UReturn, GIrq}
+use Rattle.pef_model.specs.declared.command.Cmd.TheVariants.{HLd, HSt, HSelect, HEnter, UPate, URegslot, UUnregslot, UPagein, UPageout, UReturn, GHcall, GIrq}
 use Rattle.pef_model.specs.declared.entry.Exit.TheVariants as exit
 use Rattle.pef_model.specs.declared.entry.Answer.TheVariants as answer
 use Rattle.pef_model.specs.Plan.{Plan, IsWithin}
 use Rattle.pef_model.specs.Event.{Event}
 use Rattle.pef_model.specs.Registers.{zero_registers}
+use Rattle.pef_model.specs.Hypercalls.{row_of}
 use Rattle.pef_model.specs.Target.{frame_of, vcpu_in, guest_address_in, is_command_in}
 use Rattle.pef_model.specs.Cpu.{CpuPart}
 use Rattle.pef_model.specs.Slots.{has_slot, has_id, meets_slots}
@@ -25,7 +29,7 @@ use Rattle.pef_model.specs.PageIn.{may_page_in_in, may_come_in}
 use Rattle.pef_model.specs.Entry.{can_be_entered}
 use Rattle.pef_model.specs.SlotCalls.{may_change_slots_in, has_pages}
 use Rattle.pef_model.specs.Deed.{may_return_in, is_waiting}
-use Rattle.pef_model.specs.History.{cpu_after, pool_after, Extends, part_after, page_after, ChangesNoMemory}
+use Rattle.pef_model.specs.History.{cpu_after, pool_after, reg, Extends, part_after, page_after, ChangesNoMemory}
 
 -- a page can't come in at present: it has a mover, or it isn't Shared and no secure frame is free
 abbrev pub IsBusyIn : Page → ℕ → Type 0
@@ -240,18 +244,27 @@ pub record HoleComes (plan : Plan) (past : List Event) (e : Event) : Type 0 wher
 abbrev pub HoleExactlyWhere : Type 0
 HoleExactlyWhere = (plan : Plan) (past : List Event) (e : Event) → Extends plan past e → HoleComes plan past e
 
--- an entry is an interrupt of a vCPU, under its guest's generation, in a guest of such a phase
-pub record Interrupts (IsIn : Phase → Type 0) (plan : Plan) (past : List Event) (e : Event) : Type 0 where
+-- an entry is such a command of a vCPU, under its guest's generation, in a guest of such a phase
+pub record IsBy (Is : Cmd → Type 0) (IsIn : Phase → Type 0) (plan : Plan) (past : List Event) (e : Event) : Type 0 where
   pub run : Run
   pub before : e.saw.before ≡ ctx.Guest run
-  pub cmd_is : e.trace.cmd ≡ GIrq
+  pub cmd_is : Is e.trace.cmd
   pub generation : run.generation ≡ (part_after plan past run.lpid).generation
   pub phase : IsIn (part_after plan past run.lpid).phase
 
--- where a guest leaves: one that is Normal exactly so, by an interrupt, and every other so
+-- an entry is a hypercall of a guest that isn't Normal, whose row has this number and is one that the hypervisor answers
+pub record Reflects (n : ℕ) (plan : Plan) (past : List Event) (e : Event) : Type 0 where
+  pub call : IsBy (λ cmd. cmd ≡ GHcall) (λ phase. phase ≢ Normal) plan past e
+  pub row : Row
+  pub row_is : row_of HCALLS (reg plan past call.run.lpid call.run.vid 3) ≡ Some row
+  pub kind_is : row.kind ≡ Reflected
+  pub number : row.number ≡ n
+
+-- where a guest leaves: one that is Normal exactly so, by a hypercall or an interrupt, and every other exactly so
 pub record ExitComes (plan : Plan) (past : List Event) (e : Event) : Type 0 where
-  pub normal : (e.trace.answer ≡ answer.Exit exit.Normal) ↔ Interrupts (λ phase. phase ≡ Normal) plan past e
-  pub irq : (e.trace.answer ≡ answer.Exit exit.Irq) ↔ Interrupts (λ phase. phase ≢ Normal) plan past e
+  pub normal : (e.trace.answer ≡ answer.Exit exit.Normal) ↔ IsBy (λ cmd. (cmd ≡ GHcall) ⊎ (cmd ≡ GIrq)) (λ phase. phase ≡ Normal) plan past e
+  pub irq : (e.trace.answer ≡ answer.Exit exit.Irq) ↔ IsBy (λ cmd. cmd ≡ GIrq) (λ phase. phase ≢ Normal) plan past e
+  pub call : (n : ℕ) → (e.trace.answer ≡ answer.Exit (exit.Hcall n)) ↔ Reflects n plan past e
 
 abbrev pub ExitsExactlyWhere : Type 0
 ExitsExactlyWhere = (plan : Plan) (past : List Event) (e : Event) → Extends plan past e → ExitComes plan past e

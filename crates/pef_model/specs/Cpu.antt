@@ -12,7 +12,7 @@ use Rattle.pef_model.specs.declared.entry.Answer.TheVariants as answer
 use Rattle.pef_model.specs.Plan.{Plan}
 use Rattle.pef_model.specs.Event.{Event}
 use Rattle.pef_model.specs.Target.{caller, takes_bytes}
-use Rattle.pef_model.specs.Registers.{Call, zero_registers, interrupt_registers, call_of, loaded, with_code}
+use Rattle.pef_model.specs.Registers.{Call, zero_registers, interrupt_registers, call_registers, call_of, loaded, with_code}
 
 -- the context, the hypervisor's 32 registers, the selected guest and vCPU, the last answer, the hand of one page
 pub record CpuPart : Type 0 where
@@ -53,6 +53,7 @@ own_after own cmd a = own_after_ultracall (call_of cmd) own cmd a
 abbrev pub left_registers : Exit → List ℕ → List ℕ
 left_registers exit.Normal shown = shown
 left_registers exit.Irq shown = interrupt_registers
+left_registers (exit.Hcall n) shown = call_registers shown
 
 -- the last answer after a step of the hypervisor: Context isn't kept
 abbrev pub last_after : Answer → Answer → Answer

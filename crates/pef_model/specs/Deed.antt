@@ -2,6 +2,7 @@
 use Rattle.std.specs.Prelude.{ℕ, ◌==◌, nat_lt, nat_le, Bool, true, false, not, ◌&&◌, if◌then◌else◌, List, [], ◌∷◌, Option, Some, None, slice_index}
 use Rattle.pef_model.specs.declared.state.Phase.{Phase}
 use Rattle.pef_model.specs.declared.state.Phase.TheVariants as phase
+use Rattle.pef_model.specs.declared.state.Pending.TheVariants as pending
 use Rattle.pef_model.specs.declared.state.VState.{VState}
 use Rattle.pef_model.specs.declared.state.VState.TheVariants as vstate
 use Rattle.pef_model.specs.declared.state.Run.{Run}
@@ -11,18 +12,23 @@ use Rattle.pef_model.specs.declared.state.Work.TheVariants.{Inward, Outward}
 use Rattle.pef_model.specs.declared.state.Ctx.{Ctx}
 use Rattle.pef_model.specs.declared.state.Ctx.TheVariants as ctx
 use Rattle.pef_model.specs.declared.command.Code.{Code}
-use Rattle.pef_model.specs.declared.command.Code.TheVariants.{USuccess, UParameter, UP2, UBusy, UPermission, UInvalid}
+use Rattle.pef_model.specs.declared.command.Code.TheVariants.{USuccess, UParameter, UP2, UBusy, UPermission, UInvalid, HUnsupported, HFunction, HHardware}
 use Rattle.pef_model.specs.declared.command.Cmd.{Cmd}
-use Rattle.pef_model.specs.declared.command.Cmd.TheVariants.{HLd, HSt, HSelect, HEnter, UPate, URegslot, UUnregslot, UPagein, UPageout, UReturn, GLi, GLd, GSt, GIrq}
+use Rattle.pef_model.specs.declared.command.Cmd.TheVariants.{HLd, HSt, HSelect, HEnter, UPate, URegslot, UUnregslot, UPagein, UPageout, UReturn, GLi, GAdd, GXor, GLd, GSt, GHcall, GIrq, Dump}
+use Rattle.pef_model.specs.declared.hypercall.TheConstants.{HCALLS}
+use Rattle.pef_model.specs.declared.hypercall.Row.{Row}
+use Rattle.pef_model.specs.declared.hypercall.RowKind.{RowKind}
+use Rattle.pef_model.specs.declared.hypercall.RowKind.TheVariants.{Reflected, Local, Svm}
 use Rattle.pef_model.specs.declared.entry.Exit.TheVariants as exit
 use Rattle.pef_model.specs.declared.entry.Answer.{Answer}
 use Rattle.pef_model.specs.declared.entry.Answer.TheVariants as answer
 use Rattle.pef_model.specs.declared.entry.PoolSaw.{PoolSaw}
 use Rattle.pef_model.specs.Plan.{Plan}
-use Rattle.pef_model.specs.Target.{Ask, frame_of}
+use Rattle.pef_model.specs.Target.{Ask, shows_register, frame_of}
 use Rattle.pef_model.specs.GuestPart.{GuestPart, Meeting, Moves, Private, Normal, Unbacked, meets, page_of}
 use Rattle.pef_model.specs.Guest.{Guest}
 use Rattle.pef_model.specs.Registers.{Call, call_of, arguments}
+use Rattle.pef_model.specs.Hypercalls.{row_of, let_out_by}
 use Rattle.pef_model.specs.Memory.{offset_of}
 use Rattle.pef_model.specs.PageOut.{page_out_code, bytes_out}
 use Rattle.pef_model.specs.PageIn.{page_in_operands, is_last_sealed}
@@ -73,9 +79,9 @@ answer_alone plan ctx.Hv (UPagein lpid src gpa flags order) = answer.Ret UParame
 answer_alone plan ctx.Hv (UPageout lpid dest gpa flags order) = answer.Ret UParameter
 answer_alone plan before cmd = answer.Context
 
--- a command that aims at nothing
+-- a command that aims at nothing: one that shows a register gives its value
 abbrev pub deed_alone : Plan → Ask → Cmd → Deed
-deed_alone plan ask cmd = answering ask (answer_alone plan ask.before cmd)
+deed_alone plan ask cmd = answering ask (if shows_register ask.before cmd then answer.Val ask.register else answer_alone plan ask.before cmd)
 
 -- the answer of the hypervisor's load or store in a normal frame with these bytes
 abbrev pub answer_frame : Plan → List ℕ → Cmd → Answer
@@ -175,12 +181,14 @@ may_return_in phase.Starting = true
 may_return_in phase.Secure = true
 may_return_in phase.Aborting = false
 
--- whether UV_RETURN takes up a vCPU in this state
+-- whether UV_RETURN takes up a vCPU in this state: one that waits for the answer of a hypercall not yet
 abbrev pub is_waiting : VState → Bool
 is_waiting vstate.Idle = false
 is_waiting vstate.Fresh = true
 is_waiting (vstate.Running cpu) = false
-is_waiting (vstate.Parked pending) = true
+is_waiting (vstate.Parked pending.Exit) = false
+is_waiting (vstate.Parked (pending.Hcall n)) = false
+is_waiting (vstate.Parked pending.Irq) = true
 
 -- UV_RETURN of the hypervisor: the selected vCPU runs, if it waits in a Secure or Starting guest
 abbrev pub deed_return : GuestPart → Ask → Deed
@@ -220,6 +228,26 @@ abbrev pub deed_interrupt : Phase → List ℕ → Ask → Deed
 deed_interrupt phase.Normal gpr ask = record (answering ask (answer.Exit exit.Normal)) { after = ctx.Hv; shown = gpr }
 deed_interrupt other gpr ask = record (answering ask (answer.Exit exit.Irq)) { after = ctx.Hv }
 
+-- a hypercall that is answered at once lets its number out
+abbrev pub deed_answered : Ask → List ℕ → Code → Deed
+deed_answered ask gpr code = record (answering ask (answer.Ret code)) { shown = slice_index gpr 3 ∷ [] }
+
+-- a hypercall of a row, by who answers it: one that the hypervisor answers leaves with its number and its inputs; H_RANDOM has no word yet
+abbrev pub deed_by_kind : RowKind → Ask → List ℕ → Row → Deed
+deed_by_kind Reflected ask gpr row = record (answering ask (answer.Exit (exit.Hcall row.number))) { after = ctx.Hv; shown = let_out_by row gpr }
+deed_by_kind Local ask gpr row = deed_answered ask gpr HHardware
+deed_by_kind Svm ask gpr row = deed_answered ask gpr HUnsupported
+
+-- a hypercall of a number that has a row, or none
+abbrev pub deed_by_row : Ask → List ℕ → Option Row → Deed
+deed_by_row ask gpr (Some row) = deed_by_kind row.kind ask gpr row
+deed_by_row ask gpr None = deed_answered ask gpr HFunction
+
+-- a hypercall by the guest's phase: of one in normal memory all registers leave, and of every other what the row of the number in R3 says
+abbrev pub deed_hypercall : Phase → List ℕ → Ask → Deed
+deed_hypercall phase.Normal gpr ask = record (answering ask (answer.Exit exit.Normal)) { after = ctx.Hv; shown = gpr }
+deed_hypercall other gpr ask = deed_by_row ask gpr (row_of HCALLS (slice_index gpr 3))
+
 -- the code with which a call of a guest is refused that is the hypervisor's: UV_RETURN takes up no vCPU there, and a guest has no right to the others
 abbrev pub refused_with : Cmd → Code
 refused_with (UReturn r0 r2 outs) = UInvalid
@@ -233,9 +261,13 @@ deed_refused ask cmd (Some call) = record (answering ask (answer.Ret (refused_wi
 -- a command of the vCPU that runs; found: the doubleword at an offset of a normal frame; any: a secure frame is free
 abbrev pub deed_running : Plan → Run → Guest → (ℕ → ℕ → ℕ) → Bool → Ask → Cmd → Deed
 deed_running plan run g found any ask (GLi rd value) = answering ask answer.Done
+deed_running plan run g found any ask (GAdd rd ra rb) = answering ask answer.Done
+deed_running plan run g found any ask (GXor rd ra rb) = answering ask answer.Done
 deed_running plan run g found any ask (GLd rd gpa) = deed_access ask (answer.Val (g.content gpa)) (λ n. answer.Val (found n (offset_of plan gpa))) [] any (meets plan g.part gpa)
 deed_running plan run g found any ask (GSt rs gpa) = deed_access ask answer.Done (λ n. answer.Done) (slice_index (g.registers run.vid).gpr rs ∷ []) any (meets plan g.part gpa)
+deed_running plan run g found any ask GHcall = deed_hypercall g.part.phase (g.registers run.vid).gpr ask
 deed_running plan run g found any ask GIrq = deed_interrupt g.part.phase (g.registers run.vid).gpr ask
+deed_running plan run g found any ask (Dump reg) = answering ask (answer.Val (slice_index (g.registers run.vid).gpr reg))
 deed_running plan run g found any ask cmd = deed_refused ask cmd (call_of cmd)
 
 -- a command of the hypervisor at a guest

@@ -1,11 +1,15 @@
 -- A guest whole: its public part, the doublewords of its pages and the registers of its vCPUs.
-use Rattle.std.specs.Prelude.{ℕ, ◌+◌, ◌%◌, ◌^◌, ◌==◌, Bool, true, not, ◌&&◌, if◌then◌else◌, List, Option, Some, None, unwrap_or, slice_index, slice_set}
+use Rattle.std.specs.Prelude.{ℕ, ◌+◌, ◌%◌, ◌^◌, ◌==◌, Bool, true, not, ◌&&◌, if◌then◌else◌, List, Option, Some, None, unwrap_or, slice_index, slice_set, bit_xor}
 use Rattle.pef_model.specs.declared.state.Run.{Run}
 use Rattle.pef_model.specs.declared.state.Ctx.{Ctx}
 use Rattle.pef_model.specs.declared.state.Ctx.TheVariants as ctx
+use Rattle.pef_model.specs.declared.state.Pending.TheVariants as pending
+use Rattle.pef_model.specs.declared.state.VState.{VState}
+use Rattle.pef_model.specs.declared.state.VState.TheVariants as vstate
 use Rattle.pef_model.specs.declared.state.Regs.{Regs}
 use Rattle.pef_model.specs.declared.command.Cmd.{Cmd}
-use Rattle.pef_model.specs.declared.command.Cmd.TheVariants.{UPate, UReturn, GLi, GLd, GSt}
+use Rattle.pef_model.specs.declared.command.Cmd.TheVariants.{HEnter, UPate, UReturn, GLi, GAdd, GXor, GLd, GSt, GHcall}
+use Rattle.pef_model.specs.declared.entry.Exit.TheVariants as exit
 use Rattle.pef_model.specs.declared.entry.Answer.{Answer}
 use Rattle.pef_model.specs.declared.entry.Answer.TheVariants as answer
 use Rattle.pef_model.specs.Plan.{Plan}
@@ -45,20 +49,30 @@ abbrev pub registers_after_call : Option Call → Regs → Cmd → Answer → Re
 registers_after_call (Some call) regs cmd (answer.Ret code) = at_next_instruction regs (with_code (loaded regs.gpr cmd) code)
 registers_after_call call regs cmd a = regs
 
--- the registers of a guest's vCPU after a command of its own, by its answer: one that met a hole, a page on the move or an interrupt, or whose guest has ended, keeps them
+-- the registers of a guest's vCPU after a command of its own, by its answer: one that met a hole, a page on the move or an interrupt, that waits for the answer of a hypercall of a secure guest, or whose guest has ended, keeps them
 abbrev pub registers_after_command : Guest → Regs → Cmd → Answer → Regs
 registers_after_command g regs (GLi rd value) answer.Done = at_next_instruction regs (slice_set regs.gpr rd value)
+registers_after_command g regs (GAdd rd ra rb) answer.Done = at_next_instruction regs (slice_set regs.gpr rd ((slice_index regs.gpr ra + slice_index regs.gpr rb) % 2 ^ 64))
+registers_after_command g regs (GXor rd ra rb) answer.Done = at_next_instruction regs (slice_set regs.gpr rd (bit_xor (slice_index regs.gpr ra) (slice_index regs.gpr rb)))
 registers_after_command g regs (GLd rd gpa) (answer.Val value) = at_next_instruction regs (slice_set regs.gpr rd value)
 registers_after_command g regs (GSt rs gpa) answer.Done = at_next_instruction regs regs.gpr
+registers_after_command g regs GHcall (answer.Ret code) = at_next_instruction regs (with_code regs.gpr code)
+registers_after_command g regs GHcall (answer.Exit exit.Normal) = at_next_instruction regs regs.gpr
 registers_after_command g regs cmd a = registers_after_call (call_of cmd) regs cmd a
 
 -- UV_RETURN goes on at the address in R2, where it isn't 0, and keeps where the vCPU was in SRR0
 abbrev pub entered_at : Regs → ℕ → Regs
 entered_at regs r2 = if r2 == 0 then regs else record regs { nip = r2; srr0 = regs.nip }
 
+-- h.enter gives R3 its value where the vCPU waits for the answer of a hypercall
+abbrev pub answered_with : VState → Regs → ℕ → Regs
+answered_with (vstate.Parked pending.Exit) regs value = record regs { gpr = slice_set regs.gpr 3 value }
+answered_with other regs value = regs
+
 -- the registers of a guest's vCPUs after a step of the hypervisor that has this vCPU selected
 abbrev pub registers_of_hypervisor : Guest → ℕ → Answer → Cmd → ℕ → Regs
 registers_of_hypervisor g vid answer.Enter (UReturn r0 r2 outs) = put g.registers vid (entered_at (g.registers vid) r2)
+registers_of_hypervisor g vid answer.Enter (HEnter lpid named value) = put g.registers named (answered_with (g.part.vcpus named).state (g.registers named) value)
 registers_of_hypervisor g vid (answer.Ret code) (UPate lpid dw0 dw1) = if ends_guest code dw1 then (λ n. fresh_registers) else g.registers
 registers_of_hypervisor g vid a cmd = g.registers
 

@@ -16,9 +16,11 @@ use Rattle.pef_model.specs.declared.state.Work.TheVariants.{Inward, Outward}
 use Rattle.pef_model.specs.declared.state.Ctx.{Ctx}
 use Rattle.pef_model.specs.declared.state.Ctx.TheVariants as ctx
 use Rattle.pef_model.specs.declared.command.Cmd.{Cmd}
-use Rattle.pef_model.specs.declared.command.Cmd.TheVariants.{HEnter, UPate, URegslot, UUnregslot, UPagein, UPageout, UReturn, GLd, GSt, GIrq}
+use Rattle.pef_model.specs.declared.command.Cmd.TheVariants.{HEnter, UPate, URegslot, UUnregslot, UPagein, UPageout, UReturn, GLd, GSt, GHcall, GIrq}
 use Rattle.pef_model.specs.declared.command.Code.{Code}
 use Rattle.pef_model.specs.declared.command.Code.TheVariants.{USuccess, UP2}
+use Rattle.pef_model.specs.declared.entry.Exit.{Exit}
+use Rattle.pef_model.specs.declared.entry.Exit.TheVariants as exit
 use Rattle.pef_model.specs.declared.entry.Answer.{Answer}
 use Rattle.pef_model.specs.declared.entry.Answer.TheVariants as answer
 use Rattle.pef_model.specs.declared.entry.PoolSaw.{PoolSaw}
@@ -290,11 +292,18 @@ abbrev pub part_of_access : GuestPart → ℕ → Option PoolSaw → GuestPart
 part_of_access g gfn (Some saw) = with_secure_page g gfn
 part_of_access g gfn None = g
 
+-- for what a vCPU waits after a hypercall that leaves so
+abbrev pub waits_for : Exit → Pending
+waits_for exit.Normal = pending.Exit
+waits_for exit.Irq = pending.Irq
+waits_for (exit.Hcall n) = pending.Hcall n
+
 -- after a step of a guest's vCPU
 abbrev pub part_of_guest : Plan → GuestPart → ℕ → Answer → Cmd → Option PoolSaw → GuestPart
 part_of_guest plan g vid (answer.Val value) (GLd rd gpa) pool = part_of_access g (page_of plan gpa) pool
 part_of_guest plan g vid answer.Done (GSt rs gpa) pool = part_of_access g (page_of plan gpa) pool
-part_of_guest plan g vid (answer.Exit exit) GIrq pool = with_parked_vcpu g vid pending.Irq
+part_of_guest plan g vid (answer.Exit why) GHcall pool = with_parked_vcpu g vid (waits_for why)
+part_of_guest plan g vid (answer.Exit why) GIrq pool = with_parked_vcpu g vid pending.Irq
 part_of_guest plan g vid a cmd pool = g
 
 -- by the context before the step

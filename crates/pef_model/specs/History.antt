@@ -1,8 +1,9 @@
 -- The objects after a history, the one entry that a step adds, and legal histories.
 use Rattle.std.specs.Prelude.{◌≡◌, ℕ, ◌<◌, ◌==◌, nat_lt, Bool, false, ◌&&◌, if◌then◌else◌, List, [], ◌∷◌, Option, Some, None, slice_index}
 use Rattle.pef_model.specs.declared.state.Ctx.{Ctx}
+use Rattle.pef_model.specs.declared.state.Ctx.TheVariants as ctx
 use Rattle.pef_model.specs.declared.command.Cmd.{Cmd}
-use Rattle.pef_model.specs.declared.command.Cmd.TheVariants.{UPageout}
+use Rattle.pef_model.specs.declared.command.Cmd.TheVariants.{UPageout, Dump}
 use Rattle.pef_model.specs.declared.entry.Answer.{Answer}
 use Rattle.pef_model.specs.Commands.{IsCommand}
 use Rattle.pef_model.specs.Plan.{Plan}
@@ -75,9 +76,14 @@ last_norm plan past ra = newest (decides_norm plan ra) 0 past
 abbrev pub reg : Plan → List Event → ℕ → ℕ → ℕ → ℕ
 reg plan past lpid vid r = slice_index ((guest_after plan lpid past).registers vid).gpr r
 
+-- the register of a CPU that a step shows, where it shows one
+abbrev pub register_shown : Ctx → Cmd → List ℕ → ℕ
+register_shown ctx.Hv (Dump reg) own = slice_index own reg
+register_shown before cmd own = 0
+
 -- what a step learns of its CPU
 abbrev pub ask_of : CpuPart → Cmd → Ask
-ask_of cpu cmd = record { before = cpu.ctx; lpid = cpu.lpid; vid = cpu.vid; last = cpu.last; hand = if uses_hand cpu.ctx cmd then cpu.hand else [] }
+ask_of cpu cmd = record { before = cpu.ctx; lpid = cpu.lpid; vid = cpu.vid; last = cpu.last; hand = if uses_hand cpu.ctx cmd then cpu.hand else []; register = register_shown cpu.ctx cmd cpu.own }
 
 -- the entry of a step
 abbrev pub entry_of : Ask → Mark → Cmd → Deed → Event

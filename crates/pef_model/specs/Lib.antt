@@ -4,6 +4,7 @@ pub mod Event
 pub mod Doubleword
 pub mod Seal
 pub mod Registers
+pub mod Hypercalls
 pub mod Target
 pub mod Cpu
 pub mod Guest
@@ -42,6 +43,9 @@ pub mod PairLaw
 pub mod NameLaw
 pub mod EntryLaw
 pub mod SlotLaw
+pub mod TableLaw
+pub mod ScrubLaw
+pub mod HypercallLaw
 pub mod CauseLaw
 pub mod OldMoveLaw
 pub mod ToldLaw

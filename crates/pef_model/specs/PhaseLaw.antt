@@ -6,6 +6,7 @@ use Rattle.pef_model.specs.declared.state.Kind.{Kind}
 use Rattle.pef_model.specs.declared.state.Kind.TheVariants.{Invalid, Secure, Out, Shared}
 use Rattle.pef_model.specs.declared.state.Way.{Way}
 use Rattle.pef_model.specs.declared.state.Way.TheVariants.{Inward, Outward}
+use Rattle.pef_model.specs.declared.state.Pending.TheVariants as pending
 use Rattle.pef_model.specs.declared.state.Pending.TheVariants.{Irq}
 use Rattle.pef_model.specs.declared.state.VState.{VState}
 use Rattle.pef_model.specs.declared.state.VState.TheVariants.{Idle, Fresh, Running, Parked}
@@ -28,12 +29,12 @@ use Rattle.pef_model.specs.RefusalLaw.{page_out_to, page_in_from}
 abbrev pub small_plan : Plan
 small_plan = plan_of (record small_config { vault = true })
 
--- each phase, and states of a vCPU: it runs or doesn't, or waits
+-- each phase, and states of a vCPU: it runs or doesn't, or waits for what an interrupt or a hypercall of normal memory wants
 abbrev pub phases : List Phase
 phases = phase.Absent ∷ phase.Normal ∷ phase.Starting ∷ phase.Secure ∷ phase.Aborting ∷ []
 
 abbrev pub states : List VState
-states = Idle ∷ Fresh ∷ Running 1 ∷ Parked Irq ∷ []
+states = Idle ∷ Fresh ∷ Running 1 ∷ Parked Irq ∷ Parked pending.Exit ∷ []
 
 -- a page at rest, and one on the move
 abbrev pub at_rest : Kind → Page
@@ -58,7 +59,7 @@ without_slots g = record g { part = record g.part { slots = [] } }
 
 -- the answer of a command at a guest in this context, where each doubleword of a normal frame is the frame's number, with this vCPU selected, where a secure frame is free or none is
 abbrev pub answer_selecting : Ctx → ℕ → Guest → Bool → Cmd → Answer
-answer_selecting before vid g free cmd = (deed_guest small_plan g (λ n offset. n) free (record { before = before; lpid = 1; vid = vid; last = Nothing; hand = [] }) cmd).answer
+answer_selecting before vid g free cmd = (deed_guest small_plan g (λ n offset. n) free (record { before = before; lpid = 1; vid = vid; last = Nothing; hand = []; register = 0 }) cmd).answer
 
 -- with vCPU 0 selected
 abbrev pub answer_at : Ctx → Guest → Bool → Cmd → Answer
@@ -68,11 +69,11 @@ answer_at before g free cmd = answer_selecting before 0 g free cmd
 abbrev pub ReturnsByPhase : Type 0
 ReturnsByPhase =
     map (λ phase. map (λ state. answer_at ctx.Hv (guest_in phase invalid_page state) true (return_with 0)) states) phases
-    ≡ replicate 4 (Ret UInvalid)
-    ∷ replicate 4 (Ret UInvalid)
-    ∷ (Ret UInvalid ∷ Enter ∷ Ret UInvalid ∷ Enter ∷ [])
-    ∷ (Ret UInvalid ∷ Enter ∷ Ret UInvalid ∷ Enter ∷ [])
-    ∷ replicate 4 (Ret UInvalid)
+    ≡ replicate 5 (Ret UInvalid)
+    ∷ replicate 5 (Ret UInvalid)
+    ∷ (Ret UInvalid ∷ Enter ∷ Ret UInvalid ∷ Enter ∷ Ret UInvalid ∷ [])
+    ∷ (Ret UInvalid ∷ Enter ∷ Ret UInvalid ∷ Enter ∷ Ret UInvalid ∷ [])
+    ∷ replicate 5 (Ret UInvalid)
     ∷ []
 
 -- a guest that is Secure, whose vCPU 1 alone waits
@@ -118,6 +119,7 @@ pub record PageInByPhase : Type 0 where
 pub record NotHereYet : Type 0 where
   pub aborting_page_out : answers_in phase.Aborting pages true (page_out_to 0x0) ≡ replicate 7 (Ret UParameter)
   pub starting_page_in : map (λ free. answers_in phase.Starting (at_rest Invalid ∷ []) free (page_in_from 0x0)) (true ∷ false ∷ []) ≡ replicate 2 (Ret UP3 ∷ [])
+  pub call_return : answer_at ctx.Hv (guest_in phase.Secure invalid_page (Parked (pending.Hcall 8))) true (return_with 0) ≡ Ret UInvalid
   pub shared_page_in : map (λ free. map (λ phase. answers_in phase shared_pages free (page_in_from 0x0)) (phase.Starting ∷ phase.Secure ∷ [])) (true ∷ false ∷ []) ≡ replicate 2 (replicate 2 (replicate 2 (Ret UP3)))
 
 -- what an access to the second doubleword of page 1 meets in a guest of this phase
@@ -154,7 +156,7 @@ pub record NormalByPhase : Type 0 where
   -- h.enter: a row for each phase, a column for each state
   pub enters :
       map (λ phase. map (λ state. answer_at ctx.Hv (guest_in phase invalid_page state) true (HEnter 1 0 0)) states) phases
-      ≡ replicate 4 (Ret UParameter) ∷ (Enter ∷ Ret UP2 ∷ Ret UP2 ∷ Enter ∷ []) ∷ replicate 3 (replicate 4 (Ret UParameter))
+      ≡ replicate 5 (Ret UParameter) ∷ (Enter ∷ Ret UP2 ∷ Ret UP2 ∷ Enter ∷ Enter ∷ []) ∷ replicate 3 (replicate 5 (Ret UParameter))
   -- UV_WRITE_PATE, with pages and with none
   pub writes :
       map (λ dw1. map (λ phase. answer_at ctx.Hv (guest_in phase invalid_page Idle) true (UPate 1 0x100 dw1)) phases) (2 ∷ 0 ∷ [])

@@ -2,7 +2,7 @@
 use Rattle.std.specs.Prelude.{ℕ, ◌+◌, ◌-◌, ◌==◌, nat_le, if◌then◌else◌, List, [], ◌∷◌, ◌++◌, length, take, drop, slice_get, slice_set, replicate, Option, Some, None}
 use Rattle.pef_model.specs.declared.command.TheConstants.{UV_WRITE_PATE, UV_REGISTER_MEM_SLOT, UV_UNREGISTER_MEM_SLOT, UV_PAGE_IN, UV_PAGE_OUT, UV_RETURN, EXTERNAL_INTERRUPT}
 use Rattle.pef_model.specs.declared.command.Code.{Code}
-use Rattle.pef_model.specs.declared.command.Code.TheVariants.{USuccess, UParameter, UP2, UP3, UP4, UP5, UFunction, UBusy, UPermission, UInvalid}
+use Rattle.pef_model.specs.declared.command.Code.TheVariants.{USuccess, UParameter, UP2, UP3, UP4, UP5, UFunction, UBusy, UPermission, UInvalid, HUnsupported, HFunction, HHardware}
 use Rattle.pef_model.specs.declared.command.Cmd.{Cmd}
 use Rattle.pef_model.specs.declared.command.Cmd.TheVariants.{UPate, URegslot, UUnregslot, UPagein, UPageout, UReturn}
 use Rattle.pef_model.specs.declared.state.Regs.{Regs}
@@ -19,6 +19,9 @@ number_of UFunction = 6
 number_of UBusy = 7
 number_of UPermission = 8
 number_of UInvalid = 9
+number_of HUnsupported = 37
+number_of HFunction = 38
+number_of HHardware = 39
 
 -- registers that are all zero
 abbrev pub zero_registers : List ℕ
@@ -27,6 +30,10 @@ zero_registers = replicate 32 0
 -- what the registers show where an interrupt takes a guest from the CPU: the interrupt in R3, and nothing else
 abbrev pub interrupt_registers : List ℕ
 interrupt_registers = slice_set zero_registers 3 EXTERNAL_INTERRUPT
+
+-- what the registers show where a hypercall lets out these values: they are in R3 and the registers after it, and every other is 0
+abbrev pub call_registers : List ℕ → List ℕ
+call_registers shown = take 32 (replicate 3 0 ++ (shown ++ replicate 29 0))
 
 -- the registers of a vCPU that hasn't run
 abbrev pub fresh_registers : Regs

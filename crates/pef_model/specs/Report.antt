@@ -1,13 +1,13 @@
 -- The text of a report.
-use Rattle.std.specs.Prelude.{ℕ, zero, suc, ◌==◌, Bool, if◌then◌else◌, [], false, List, ◌++◌, reverse, codes, decimal}
+use Rattle.std.specs.Prelude.{ℕ, zero, suc, ◌==◌, Bool, if◌then◌else◌, [], false, List, ◌∷◌, ◌++◌, reverse, codes, decimal, slice_index_or}
 use Rattle.std.specs.List.{flat_map, list_all}
 use Rattle.std.specs.Fmt.{digits}
 use Rattle.hex.specs.Hex.{encode_lower}
 use Rattle.sha2.specs.Sha256.{sha256}
 use Rattle.pef_model.specs.declared.command.Code.{Code}
-use Rattle.pef_model.specs.declared.command.Code.TheVariants.{USuccess, UParameter, UP2, UP3, UP4, UP5, UFunction, UBusy, UPermission, UInvalid}
+use Rattle.pef_model.specs.declared.command.Code.TheVariants.{USuccess, UParameter, UP2, UP3, UP4, UP5, UFunction, UBusy, UPermission, UInvalid, HUnsupported, HFunction, HHardware}
 use Rattle.pef_model.specs.declared.command.Cmd.{Cmd}
-use Rattle.pef_model.specs.declared.command.Cmd.TheVariants.{HLd, HSt, HSelect, HEnter, UPate, URegslot, UUnregslot, UPagein, UPageout, UReturn, GLi, GLd, GSt, GIrq, Go}
+use Rattle.pef_model.specs.declared.command.Cmd.TheVariants.{HLd, HSt, HSelect, HEnter, UPate, URegslot, UUnregslot, UPagein, UPageout, UReturn, GLi, GAdd, GXor, GLd, GSt, GHcall, GIrq, Go, Dump}
 use Rattle.pef_model.specs.declared.entry.Exit.TheVariants as exit
 use Rattle.pef_model.specs.declared.entry.Answer.{Answer}
 use Rattle.pef_model.specs.declared.entry.Answer.TheVariants.{Done, Val, Ret, Step, Enter, Exit, Again, Gone, Hole, Context, Nothing}
@@ -32,10 +32,14 @@ command_name (UPagein lpid src gpa flags order) = codes "u.pagein"
 command_name (UPageout lpid dest gpa flags order) = codes "u.pageout"
 command_name (UReturn r0 r2 outs) = codes "u.return"
 command_name (GLi rd value) = codes "g.li"
+command_name (GAdd rd ra rb) = codes "g.add"
+command_name (GXor rd ra rb) = codes "g.xor"
 command_name (GLd rd gpa) = codes "g.ld"
 command_name (GSt rs gpa) = codes "g.st"
+command_name GHcall = codes "g.hcall"
 command_name GIrq = codes "g.irq"
 command_name Go = codes "go"
+command_name (Dump reg) = codes "dump"
 
 -- a code's name
 abbrev pub code_name : Code → List ℕ
@@ -49,6 +53,17 @@ code_name UFunction = codes "U_FUNCTION"
 code_name UBusy = codes "U_BUSY"
 code_name UPermission = codes "U_PERMISSION"
 code_name UInvalid = codes "U_INVALID"
+code_name HUnsupported = codes "H_UNSUPPORTED"
+code_name HFunction = codes "H_FUNCTION"
+code_name HHardware = codes "H_HARDWARE"
+
+-- the hypercalls' names, in the order of their numbers; 0 is none
+abbrev pub hypercall_names : List (List ℕ)
+hypercall_names =
+    []
+    ∷ codes "H_SVM_INIT_START" ∷ codes "H_SVM_INIT_DONE" ∷ codes "H_SVM_INIT_ABORT" ∷ codes "H_SVM_PAGE_IN" ∷ codes "H_SVM_PAGE_OUT" ∷ codes "H_RANDOM"
+    ∷ codes "H_CEDE" ∷ codes "H_PROD" ∷ codes "H_CONFER" ∷ codes "H_PUT_TERM_CHAR" ∷ codes "H_GET_TERM_CHAR" ∷ codes "H_EOI"
+    ∷ codes "H_CPPR" ∷ codes "H_IPI" ∷ codes "H_IPOLL" ∷ codes "H_XIRR" ∷ codes "H_SET_MODE" ∷ codes "H_REGISTER_VPA" ∷ []
 
 -- an answer
 abbrev pub answer_text : Answer → List ℕ
@@ -59,6 +74,7 @@ answer_text Step = codes "step"
 answer_text Enter = codes "enter"
 answer_text (Exit exit.Normal) = codes "exit normal"
 answer_text (Exit exit.Irq) = codes "exit irq"
+answer_text (Exit (exit.Hcall n)) = codes "exit " ++ slice_index_or hypercall_names n []
 answer_text Again = codes "again"
 answer_text Gone = codes "gone"
 answer_text Hole = codes "hole"

@@ -1,12 +1,15 @@
 -- Laws of what a guest loads: the last store, as a search from the newest entry on.
-use Rattle.std.specs.Prelude.{◌≡◌, ℕ, ◌/◌, ◌%◌, ◌^◌, ◌<◌, ◌==◌, true, ◌&&◌, if◌then◌else◌, List, [], ◌∷◌, ◌++◌, Option, Some, None}
+use Rattle.std.specs.Prelude.{◌≡◌, ℕ, ◌+◌, ◌/◌, ◌%◌, ◌^◌, ◌<◌, ◌==◌, true, ◌&&◌, if◌then◌else◌, List, [], ◌∷◌, ◌++◌, Option, Some, None, slice_index, bit_xor}
 use Rattle.pef_model.specs.declared.state.Phase.TheVariants as phase
 use Rattle.pef_model.specs.declared.state.Kind.TheVariants.{Secure}
+use Rattle.pef_model.specs.declared.state.Pending.TheVariants as pending
+use Rattle.pef_model.specs.declared.state.VState.{VState}
+use Rattle.pef_model.specs.declared.state.VState.TheVariants as vstate
 use Rattle.pef_model.specs.declared.state.Run.{Run}
 use Rattle.pef_model.specs.declared.state.Ctx.{Ctx}
 use Rattle.pef_model.specs.declared.state.Ctx.TheVariants as ctx
 use Rattle.pef_model.specs.declared.command.Cmd.{Cmd}
-use Rattle.pef_model.specs.declared.command.Cmd.TheVariants.{UPate, GLi, GLd, GSt}
+use Rattle.pef_model.specs.declared.command.Cmd.TheVariants.{HEnter, UPate, GLi, GAdd, GXor, GLd, GSt, GHcall}
 use Rattle.pef_model.specs.declared.entry.Answer.{Answer}
 use Rattle.pef_model.specs.declared.entry.Answer.TheVariants as answer
 use Rattle.pef_model.specs.Plan.{Plan}
@@ -39,22 +42,31 @@ assigned_by_call (Some call) cmd (answer.Ret code) r = value_returned cmd code r
 assigned_by_call call cmd a r = None
 
 -- the value that a command of a vCPU gives one of its registers, by the guest that it finds
-abbrev pub assigned_by_command : Guest → Cmd → Answer → ℕ → Option ℕ
-assigned_by_command g (GLi rd value) answer.Done r = if r == rd then Some value else None
-assigned_by_command g (GLd rd gpa) (answer.Val value) r = if r == rd then Some value else None
-assigned_by_command g cmd a r = assigned_by_call (call_of cmd) cmd a r
+abbrev pub assigned_by_command : Guest → ℕ → Cmd → Answer → ℕ → Option ℕ
+assigned_by_command g vid (GLi rd value) answer.Done r = if r == rd then Some value else None
+assigned_by_command g vid (GAdd rd ra rb) answer.Done r = if r == rd then Some ((slice_index (g.registers vid).gpr ra + slice_index (g.registers vid).gpr rb) % 2 ^ 64) else None
+assigned_by_command g vid (GXor rd ra rb) answer.Done r = if r == rd then Some (bit_xor (slice_index (g.registers vid).gpr ra) (slice_index (g.registers vid).gpr rb)) else None
+assigned_by_command g vid (GLd rd gpa) (answer.Val value) r = if r == rd then Some value else None
+assigned_by_command g vid GHcall (answer.Ret code) r = if r == 3 then Some (number_of code) else None
+assigned_by_command g vid cmd a r = assigned_by_call (call_of cmd) cmd a r
 
 -- a call that comes back to a vCPU gives R3 its code
 abbrev pub assigned_by_work : Option Run → ℕ → Answer → ℕ → Option ℕ
 assigned_by_work (Some run) vid (answer.Ret code) r = if (vid == run.vid) && (r == 3) then Some (number_of code) else None
 assigned_by_work caller vid a r = None
 
+-- the value that h.enter gives a register of a vCPU in this state: R3 of one that waits for the answer of a hypercall
+abbrev pub assigned_entering : VState → ℕ → ℕ → Option ℕ
+assigned_entering (vstate.Parked pending.Exit) value r = if r == 3 then Some value else None
+assigned_entering state value r = None
+
 -- the value that an entry gives a register of a vCPU of a guest
 abbrev pub assigned_in : Ctx → Guest → ℕ → Cmd → Answer → ℕ → Option ℕ
 assigned_in ctx.Hv g vid (UPate lpid dw0 dw1) (answer.Ret code) r = if ends_guest code dw1 then Some 0 else None
+assigned_in ctx.Hv g vid (HEnter lpid named value) answer.Enter r = if vid == named then assigned_entering (g.part.vcpus vid).state value r else None
 assigned_in ctx.Hv g vid cmd a r = None
 assigned_in (ctx.Uv work) g vid cmd a r = assigned_by_work (caller work) vid a r
-assigned_in (ctx.Guest run) g vid cmd a r = if vid == run.vid then assigned_by_command g cmd a r else None
+assigned_in (ctx.Guest run) g vid cmd a r = if vid == run.vid then assigned_by_command g vid cmd a r else None
 
 -- the value that an entry of a guest gives a register of its vCPU
 abbrev pub decides_register : Plan → ℕ → ℕ → ℕ → List Event → Event → Option ℕ

@@ -1,5 +1,5 @@
 -- Laws of one entry: what it makes of its CPU and lets out, and what it makes of a vCPU's registers.
-use Rattle.std.specs.Prelude.{◌≡◌, ◌≢◌, ℕ, ◌+◌, ◌%◌, ◌^◌, ◌==◌, ◌<◌, Bool, true, false, ◌||◌, if◌then◌else◌, List, [], ◌∷◌, Option, Some, None, unwrap_or, slice_get, slice_index}
+use Rattle.std.specs.Prelude.{◌≡◌, ◌≢◌, ℕ, ◌+◌, ◌-◌, ◌%◌, ◌^◌, ◌==◌, ◌<◌, nat_le, Bool, true, false, ◌||◌, if◌then◌else◌, List, [], ◌∷◌, Option, Some, None, unwrap_or, slice_get, slice_index, slice_set}
 use Rattle.pef_model.specs.declared.state.Phase.TheVariants as phase
 use Rattle.pef_model.specs.declared.state.Pending.TheVariants as pending
 use Rattle.pef_model.specs.declared.state.VState.{VState}
@@ -10,13 +10,16 @@ use Rattle.pef_model.specs.declared.state.Ctx.{Ctx}
 use Rattle.pef_model.specs.declared.state.Ctx.TheVariants as ctx
 use Rattle.pef_model.specs.declared.command.TheConstants.{EXTERNAL_INTERRUPT}
 use Rattle.pef_model.specs.declared.command.Cmd.{Cmd}
-use Rattle.pef_model.specs.declared.command.Cmd.TheVariants.{HLd, HSelect, HEnter, UPate, UReturn, GSt, GIrq}
+use Rattle.pef_model.specs.declared.command.Cmd.TheVariants.{HLd, HSelect, HEnter, UPate, UReturn, GSt, GHcall, GIrq, Dump}
 use Rattle.pef_model.specs.declared.command.Code.TheVariants.{USuccess}
+use Rattle.pef_model.specs.declared.hypercall.TheConstants.{HCALLS}
+use Rattle.pef_model.specs.declared.hypercall.Row.{Row}
 use Rattle.pef_model.specs.declared.entry.Exit.TheVariants as exit
 use Rattle.pef_model.specs.declared.entry.Answer.{Answer}
 use Rattle.pef_model.specs.declared.entry.Answer.TheVariants as answer
 use Rattle.pef_model.specs.Plan.{Plan}
 use Rattle.pef_model.specs.Event.{Event}
+use Rattle.pef_model.specs.Hypercalls.{row_of, let_out_by}
 use Rattle.pef_model.specs.Registers.{fresh_registers, Call, number_of, call_of, arguments, value_loaded, value_returned}
 use Rattle.pef_model.specs.Target.{told, caller, vcpu_in, takes_bytes, is_hypervisor}
 use Rattle.pef_model.specs.Cpu.{CpuPart}
@@ -54,6 +57,7 @@ given_by_command cmd a r = given_by_ultracall (call_of cmd) cmd a r
 -- a guest that leaves gives the hypervisor what its exit shows, and the end of one that ran gives zeros
 abbrev pub given_by_leaving : Answer → List ℕ → ℕ → Option ℕ
 given_by_leaving (answer.Exit exit.Normal) shown r = slice_get shown r
+given_by_leaving (answer.Exit (exit.Hcall n)) shown r = Some (if nat_le 3 r then unwrap_or (slice_get shown (r - 3)) 0 else 0)
 given_by_leaving (answer.Exit exit.Irq) shown r = Some (if r == 3 then EXTERNAL_INTERRUPT else 0)
 given_by_leaving answer.Gone shown r = Some 0
 given_by_leaving a shown r = None
@@ -85,8 +89,16 @@ selected_vid (ctx.Guest run) cmd (answer.Exit exit) old = run.vid
 selected_vid ctx.Hv (HSelect lpid vid) answer.Done old = vid
 selected_vid before cmd a old = old
 
--- what a step of a vCPU with these registers lets out, by the normal frame that it tells: a call that came back its arguments, a store in a normal frame its value, a guest in normal memory that leaves all its registers, and every other step nothing
+-- what a hypercall lets out that leaves with these registers: its number, and the inputs of the number's row
+abbrev pub let_out_calling : List ℕ → Option Row → List ℕ
+let_out_calling gpr (Some row) = let_out_by row gpr
+let_out_calling gpr None = []
+
+-- what a step of a vCPU with these registers lets out, by the normal frame that it tells: a hypercall its number, and its inputs where it leaves, a call of the hypervisor that came back its arguments, a store in a normal frame its value, a guest in normal memory that leaves all its registers, and every other step nothing
 abbrev pub let_out_running : List ℕ → Cmd → Answer → Option ℕ → List ℕ
+let_out_running gpr GHcall (answer.Ret code) frame = slice_index gpr 3 ∷ []
+let_out_running gpr GHcall (answer.Exit (exit.Hcall n)) frame = let_out_calling gpr (row_of HCALLS (slice_index gpr 3))
+let_out_running gpr GHcall (answer.Exit exit.Normal) frame = gpr
 let_out_running gpr cmd (answer.Ret code) frame = arguments cmd
 let_out_running gpr (GSt rs gpa) answer.Done (Some n) = slice_index gpr rs ∷ []
 let_out_running gpr GIrq (answer.Exit exit.Normal) frame = gpr
@@ -133,8 +145,16 @@ pub record TakesUp (lpid vid r0 r2 : ℕ) (outs : List ℕ) (e : Event) : Type 0
   pub guest_is : e.saw.lpid ≡ lpid
   pub vcpu_is : e.saw.vid ≡ vid
 
--- whether a vCPU goes on to its next instruction after a command of this answer
+-- an entry is h.enter that entered a vCPU
+pub record Enters (lpid vid value : ℕ) (e : Event) : Type 0 where
+  pub before : e.saw.before ≡ ctx.Hv
+  pub cmd_is : e.trace.cmd ≡ HEnter lpid vid value
+  pub answer_is : e.trace.answer ≡ answer.Enter
+
+-- whether a vCPU goes on to its next instruction after a command of this answer: a register that is shown is no instruction, and a guest in normal memory has made its hypercall as it leaves
 abbrev pub goes_on : Cmd → Answer → Bool
+goes_on (Dump reg) (answer.Val value) = false
+goes_on GHcall (answer.Exit exit.Normal) = true
 goes_on cmd answer.Done = true
 goes_on cmd (answer.Val value) = true
 goes_on cmd (answer.Ret code) = true
@@ -169,6 +189,10 @@ pub record KeepsRegisters (plan : Plan) (past : List Event) (e : Event) (lpid : 
   pub generation : (guest_after plan lpid (e ∷ past)).part.generation ≡ (guest_after plan lpid past).part.generation
   pub starting : (guest_after plan lpid past).part.phase ≢ phase.Starting
 
+-- an entry is h.enter of a vCPU that waits for the answer of a hypercall, in normal memory
+abbrev pub IsAnswered : Plan → List Event → ℕ → ℕ → ℕ → Event → Type 0
+IsAnswered plan past lpid vid value e = Enters lpid vid value e × (((guest_after plan lpid past).part.vcpus vid).state ≡ vstate.Parked pending.Exit)
+
 -- what an entry makes of a vCPU's registers
 pub record LeavesRegisters (plan : Plan) (past : List Event) (e : Event) (lpid vid : ℕ) : Type 0 where
   -- its own step moves it on
@@ -177,15 +201,17 @@ pub record LeavesRegisters (plan : Plan) (past : List Event) (e : Event) (lpid v
   pub taken :
       (r0 r2 : ℕ) (outs : List ℕ) → TakesUp lpid vid r0 r2 outs e → takes_nothing ((guest_after plan lpid past).part.vcpus vid).state ≡ true →
       IsInterrupted r2 (registers_of plan past lpid vid) (registers_of plan (e ∷ past) lpid vid)
+  -- h.enter that gives its hypercall an answer gives R3 the value, and leaves the others
+  pub answered : (value : ℕ) → IsAnswered plan past lpid vid value e → registers_of plan (e ∷ past) lpid vid ≡ record (registers_of plan past lpid vid) { gpr = slice_set (registers_of plan past lpid vid).gpr 3 value }
   -- UV_WRITE_PATE that ends its guest leaves each register of it zero
   pub ended : (dw0 : ℕ) → e.saw.before ≡ ctx.Hv → e.trace.cmd ≡ UPate lpid dw0 0 → e.trace.answer ≡ answer.Ret USuccess → registers_of plan (e ∷ past) lpid vid ≡ fresh_registers
   -- no other entry changes a register of it
   pub others :
-      KeepsRegisters plan past e lpid → ((run : Run) → IsStepOf lpid vid run e → ⊥) → ((r0 r2 : ℕ) (outs : List ℕ) → TakesUp lpid vid r0 r2 outs e → ⊥) →
+      KeepsRegisters plan past e lpid → ((run : Run) → IsStepOf lpid vid run e → ⊥) → ((r0 r2 : ℕ) (outs : List ℕ) → TakesUp lpid vid r0 r2 outs e → ⊥) → ((value : ℕ) → IsAnswered plan past lpid vid value e → ⊥) →
       registers_of plan (e ∷ past) lpid vid ≡ registers_of plan past lpid vid
   -- and no entry that isn't its own step changes one of R0 to R31
   pub gpr :
-      KeepsRegisters plan past e lpid → ((run : Run) → IsStepOf lpid vid run e → ⊥) →
+      KeepsRegisters plan past e lpid → ((run : Run) → IsStepOf lpid vid run e → ⊥) → ((value : ℕ) → IsAnswered plan past lpid vid value e → ⊥) →
       ((r0 r2 : ℕ) (outs : List ℕ) → TakesUp lpid vid r0 r2 outs e → takes_nothing ((guest_after plan lpid past).part.vcpus vid).state ≡ true) →
       (registers_of plan (e ∷ past) lpid vid).gpr ≡ (registers_of plan past lpid vid).gpr
 

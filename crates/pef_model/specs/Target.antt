@@ -11,7 +11,7 @@ use Rattle.pef_model.specs.declared.state.Ctx.TheVariants as ctx
 use Rattle.pef_model.specs.declared.aim.Aim.{Aim}
 use Rattle.pef_model.specs.declared.aim.Aim.TheVariants as aim
 use Rattle.pef_model.specs.declared.command.Cmd.{Cmd}
-use Rattle.pef_model.specs.declared.command.Cmd.TheVariants.{HLd, HSt, HSelect, HEnter, UPate, URegslot, UUnregslot, UPagein, UPageout, UReturn, GLi, GLd, GSt, GIrq, Go}
+use Rattle.pef_model.specs.declared.command.Cmd.TheVariants.{HLd, HSt, HSelect, HEnter, UPate, URegslot, UUnregslot, UPagein, UPageout, UReturn, GLi, GAdd, GXor, GLd, GSt, GHcall, GIrq, Go, Dump}
 use Rattle.pef_model.specs.declared.entry.Answer.{Answer}
 use Rattle.pef_model.specs.declared.entry.Answer.TheVariants as answer
 use Rattle.pef_model.specs.Plan.{Plan}
@@ -35,6 +35,7 @@ is_command_in ctx.Hv (UUnregslot lpid id) = true
 is_command_in ctx.Hv (UPagein lpid src gpa flags order) = true
 is_command_in ctx.Hv (UPageout lpid dest gpa flags order) = true
 is_command_in ctx.Hv (UReturn r0 r2 outs) = true
+is_command_in ctx.Hv (Dump reg) = true
 is_command_in (ctx.Uv work) Go = true
 is_command_in (ctx.Guest run) (UPate lpid dw0 dw1) = true
 is_command_in (ctx.Guest run) (URegslot lpid start size flags id) = true
@@ -43,9 +44,13 @@ is_command_in (ctx.Guest run) (UPagein lpid src gpa flags order) = true
 is_command_in (ctx.Guest run) (UPageout lpid dest gpa flags order) = true
 is_command_in (ctx.Guest run) (UReturn r0 r2 outs) = true
 is_command_in (ctx.Guest run) (GLi rd value) = true
+is_command_in (ctx.Guest run) (GAdd rd ra rb) = true
+is_command_in (ctx.Guest run) (GXor rd ra rb) = true
 is_command_in (ctx.Guest run) (GLd rd gpa) = true
 is_command_in (ctx.Guest run) (GSt rs gpa) = true
+is_command_in (ctx.Guest run) GHcall = true
 is_command_in (ctx.Guest run) GIrq = true
+is_command_in (ctx.Guest run) (Dump reg) = true
 is_command_in before cmd = false
 
 -- the guest address at which a command loads or stores
@@ -95,15 +100,26 @@ abbrev pub uses_hand : Ctx → Cmd → Bool
 uses_hand (ctx.Uv work) Go = work_uses_hand work
 uses_hand before cmd = false
 
--- what a step learns of its CPU: the context, the selected vCPU, the last answer, and the hand where it uses it
+-- whether a step shows one of its CPU's registers
+abbrev pub shows_register : Ctx → Cmd → Bool
+shows_register ctx.Hv (Dump reg) = true
+shows_register before cmd = false
+
+-- the value of an answer that has one
+abbrev pub value_in : Answer → ℕ
+value_in (answer.Val value) = value
+value_in a = 0
+
+-- what a step learns of its CPU: the context, the selected vCPU, the last answer, the hand where it uses it, and the register that it shows
 pub record Ask : Type 0 where
   pub before : Ctx
   pub lpid : ℕ
   pub vid : ℕ
   pub last : Answer
   pub hand : List ℕ
+  pub register : ℕ
 
--- the same, as an entry tells it: the hand is the bytes of a step that uses it
+-- the same, as an entry tells it: the hand is the bytes of a step that uses it, a register the value that is shown
 abbrev pub told : Event → Ask
 told e = record {
   before = e.saw.before;
@@ -111,6 +127,7 @@ told e = record {
   vid = e.saw.vid;
   last = e.saw.last;
   hand = if uses_hand e.saw.before e.trace.cmd then e.bytes else [];
+  register = if shows_register e.saw.before e.trace.cmd then value_in e.trace.answer else 0;
 }
 
 -- the object whose state decides a step's answer

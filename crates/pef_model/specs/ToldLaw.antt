@@ -6,7 +6,7 @@ use Rattle.pef_model.specs.declared.entry.Answer.{Answer}
 use Rattle.pef_model.specs.declared.entry.Answer.TheVariants as answer
 use Rattle.pef_model.specs.Plan.{Plan}
 use Rattle.pef_model.specs.Event.{Event, mark_of}
-use Rattle.pef_model.specs.Target.{AtGuest, target_of, told, guest_address_in}
+use Rattle.pef_model.specs.Target.{value_in, AtGuest, target_of, told, guest_address_in}
 use Rattle.pef_model.specs.GuestPart.{Meeting, Normal, meets, is_private, page_of}
 use Rattle.pef_model.specs.Deed.{deed_guest}
 use Rattle.pef_model.specs.History.{guest_after, entry_of, Extends, part_after}
@@ -38,11 +38,6 @@ PrivateAccessTellsNoFrame =
 -- whether an entry tells that a secure frame was free
 abbrev pub told_any : Event → Bool
 told_any e = tells_free e.saw.pool
-
--- the value of an answer that has one
-abbrev pub value_in : Answer → ℕ
-value_in (answer.Val value) = value
-value_in a = 0
 
 -- the value that an entry tells of normal memory: that of its answer, whatever the frame and the offset
 abbrev pub told_found : Event → ℕ → ℕ → ℕ

@@ -14,7 +14,7 @@ use Rattle.pef_model.specs.declared.state.Slot.{Slot}
 use Rattle.pef_model.specs.declared.state.Ctx.{Ctx}
 use Rattle.pef_model.specs.declared.state.Ctx.TheVariants as ctx
 use Rattle.pef_model.specs.declared.command.Cmd.{Cmd}
-use Rattle.pef_model.specs.declared.command.Cmd.TheVariants.{HEnter, UPate, URegslot, UUnregslot, UReturn, GLd, GSt}
+use Rattle.pef_model.specs.declared.command.Cmd.TheVariants.{HEnter, UPate, URegslot, UUnregslot, UReturn, GLd, GSt, GHcall}
 use Rattle.pef_model.specs.declared.command.Code.TheVariants.{USuccess}
 use Rattle.pef_model.specs.declared.entry.Exit.TheVariants as exit
 use Rattle.pef_model.specs.declared.entry.Answer.{Answer}
@@ -49,8 +49,10 @@ EachEntryLeavesKinds =
 
 -- for what a vCPU waits after a step of its own with which it leaves; None after another step
 abbrev pub waits_by : GuestPart → ℕ → Ctx → Cmd → Answer → Option Pending
+waits_by g vid before GHcall (answer.Exit exit.Normal) = Some pending.Exit
 waits_by g vid before cmd (answer.Exit exit.Normal) = Some pending.Irq
 waits_by g vid before cmd (answer.Exit exit.Irq) = Some pending.Irq
+waits_by g vid before cmd (answer.Exit (exit.Hcall n)) = Some (pending.Hcall n)
 waits_by g vid before cmd a = None
 
 -- whether this vCPU is the one whose step it is

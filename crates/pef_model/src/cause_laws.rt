@@ -76,8 +76,8 @@ pub fn hole_exactly_where()
     ensures { HoleExactlyWhere }
 {}
 
-/// A guest leaves exactly by an interrupt, under its generation: one that is Normal with all its registers, and every other
-/// with none.
+/// A guest leaves under its generation alone: one that is Normal with all its registers, exactly by a hypercall or an interrupt;
+/// every other by an interrupt with none, and with a hypercall exactly where the row of its number is the hypervisor's to answer.
 pub fn exits_exactly_where()
     ensures { ExitsExactlyWhere }
 {}

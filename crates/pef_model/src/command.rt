@@ -98,6 +98,12 @@ pub enum Code {
     UPermission,
     /// The call makes no sense in the caller's state.
     UInvalid,
+    /// A hypercall that isn't the guest's to make.
+    HUnsupported,
+    /// A hypercall that isn't there.
+    HFunction,
+    /// A hypercall that wants what the machine doesn't have.
+    HHardware,
 }
 
 impl Code {
@@ -116,6 +122,9 @@ impl Code {
             Code::UBusy => 7,
             Code::UPermission => 8,
             Code::UInvalid => 9,
+            Code::HUnsupported => 37,
+            Code::HFunction => 38,
+            Code::HHardware => 39,
         }
     }
 }
@@ -195,6 +204,18 @@ pub enum Cmd {
         rd: Reg,
         value: u64,
     },
+    /// The guest adds two registers into one, without what is past 64 bits.
+    GAdd {
+        rd: Reg,
+        ra: Reg,
+        rb: Reg,
+    },
+    /// The guest combines two registers into one by exclusive-or.
+    GXor {
+        rd: Reg,
+        ra: Reg,
+        rb: Reg,
+    },
     /// The guest loads the doubleword at a guest address, in bytes, into a register.
     GLd {
         rd: Reg,
@@ -205,10 +226,16 @@ pub enum Cmd {
         rs: Reg,
         gpa: u64,
     },
+    /// The guest makes the hypercall whose number it has in R3, with its inputs from R4 on.
+    GHcall,
     /// An external interrupt comes while the guest runs.
     GIrq,
     /// The next step of the call in progress.
     Go,
+    /// A register is shown, of the hypervisor on its CPU or of the vCPU that runs. It changes nothing of either.
+    Dump {
+        reg: Reg,
+    },
 }
 
 impl Cmd {
@@ -230,10 +257,14 @@ impl Cmd {
                 let [_r4, _r5, _r6, _r7, _r8, _r9, _r10, _r11, _r12] = outs;
             }
             Cmd::GLi { .. } => {}
+            Cmd::GAdd { .. } => {}
+            Cmd::GXor { .. } => {}
             Cmd::GLd { .. } => {}
             Cmd::GSt { .. } => {}
+            Cmd::GHcall => {}
             Cmd::GIrq => {}
             Cmd::Go => {}
+            Cmd::Dump { .. } => {}
         }
     }
 }

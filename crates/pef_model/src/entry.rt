@@ -14,6 +14,8 @@ pub enum Exit {
     Normal,
     /// An external interrupt of a secure guest.
     Irq,
+    /// A secure guest's hypercall of this number, which the hypervisor is to answer.
+    Hcall(u8),
 }
 
 /// The answer of a step.

@@ -2,11 +2,13 @@
 #![tactic(auto)]
 
 pub mod aim;
+pub mod call_laws;
 pub mod cause_laws;
 pub mod command;
 pub mod config;
 pub mod entry;
 pub mod fresh_laws;
+pub mod hypercall;
 pub mod laws;
 pub mod move_laws;
 pub mod refusal_laws;
@@ -20,6 +22,11 @@ pub use command::{
 };
 pub use config::{Config, EntropyWord, EntropyWords, Lpids};
 pub use entry::{Answer, Entry, Exit, Exposed, History, PoolSaw, Saw, Trace};
+pub use hypercall::{
+    H_CEDE, H_CONFER, H_CPPR, H_EOI, H_GET_TERM_CHAR, H_IPI, H_IPOLL, H_PROD, H_PUT_TERM_CHAR,
+    H_RANDOM, H_REGISTER_VPA, H_SET_MODE, H_SVM_INIT_ABORT, H_SVM_INIT_DONE, H_SVM_INIT_START,
+    H_SVM_PAGE_IN, H_SVM_PAGE_OUT, H_XIRR, HCALLS, Row, RowKind,
+};
 pub use state::{
     Ctx, Digest32, Kind, Move, Mover, Pending, Phase, Regs, Run, Slot, Tag, VState, Way, Work,
 };

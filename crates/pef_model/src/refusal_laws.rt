@@ -5,6 +5,7 @@ ghost use Rattle.pef_model.specs.PhaseLaw.{TablesByPhase};
 ghost use Rattle.pef_model.specs.NameLaw.{EachNameIsWritten, FrameHasItsLine, AreNumbers};
 ghost use Rattle.pef_model.specs.EntryLaw.{ANormalGuest, AGuestEndsAsItRuns, AllRegistersAreLeft, PateRefusals, SelectRefusals, EnterRefusals};
 ghost use Rattle.pef_model.specs.SlotLaw.{APageComesBack, RegisterRefusals, UnregisterRefusals};
+ghost use Rattle.pef_model.specs.HypercallLaw.{CallsAreAnswered, ANormalGuestCalls, InputsAloneLeave};
 
 /// The codes of UV_PAGE_OUT, each where what would be refused later is wrong too.
 pub fn page_out_refusals()
@@ -112,4 +113,21 @@ pub fn register_refusals()
 /// Each code of UV_UNREGISTER_MEM_SLOT in its order.
 pub fn unregister_refusals()
     ensures { UnregisterRefusals }
+{}
+
+/// What a secure guest's hypercalls are answered, and which registers its CPU shows where one leaves; a sum that wraps, an
+/// exclusive-or.
+pub fn calls_are_answered()
+    ensures { CallsAreAnswered }
+{}
+
+/// A guest in normal memory leaves with any hypercall, shows all its registers, and has the answer of `h.enter` in R3.
+pub fn a_normal_guest_calls()
+    ensures { ANormalGuestCalls }
+{}
+
+/// Two runs that differ in a register that is no input of a hypercall show the hypervisor the same; where an input differs they
+/// don't.
+pub fn inputs_alone_leave()
+    ensures { InputsAloneLeave }
 {}

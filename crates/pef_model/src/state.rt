@@ -72,6 +72,10 @@ pub struct Tag {
 /// What a vCPU that has left waits for.
 #[derive(Clone, Copy, Debug, PartialEq, Eq)]
 pub enum Pending {
+    /// The answer of its hypercall, in a guest in normal memory: `h.enter` gives R3 its value.
+    Exit,
+    /// The answer of its hypercall of this number, in a secure guest.
+    Hcall(u8),
     /// An interrupt took it from its CPU.
     Irq,
 }

@@ -1,6 +1,7 @@
 //! The laws of one step and of counts: each is the contract of a function that does nothing.
 
 ghost use Rattle.pef_model.specs.StepLaw.{EachEntryLeavesCpu, EachEntryLeavesRegisters, EachEntryTells};
+ghost use Rattle.pef_model.specs.HypercallLaw.{EachHypercallIsScrubbed};
 ghost use Rattle.pef_model.specs.TransitionLaw.{EachEntryLeavesKinds, EachEntryLeavesStates, EachEntryLeavesLives, EachEntryLeavesSlots};
 ghost use Rattle.pef_model.specs.CountLaw.{EachCpuRunsItsVcpu, EachRunIsOfAGeneration, NoVcpuRunsTwice, FramesAreCounted, OrderHasSecurePages, OrderGrows, EachNormalGuestIsPlain, EachGuestHasItsSlots};
 
@@ -11,10 +12,16 @@ pub fn each_entry_leaves_cpu()
 {}
 
 /// While its guest has one generation and isn't Starting, a vCPU's next instruction changes at its own steps and where UV_RETURN
-/// takes it up, SRR0 at the latter alone, and R0 to R31 at its own steps and where UV_RETURN gives it something: nothing to one
-/// that hasn't run yet or was interrupted.
+/// takes it up, SRR0 at the latter alone, and R0 to R31 at its own steps, where UV_RETURN gives it something: nothing to one that
+/// hasn't run yet or was interrupted; and R3 where `h.enter` gives its hypercall the answer.
 pub fn each_entry_leaves_registers()
     ensures { EachEntryLeavesRegisters }
+{}
+
+/// Where a secure guest leaves with a hypercall, its CPU's registers are the guest's, scrubbed by the row of the number in R3:
+/// R3 is the number, the row's inputs are kept, and every other register is 0.
+pub fn each_hypercall_is_scrubbed()
+    ensures { EachHypercallIsScrubbed }
 {}
 
 /// A CPU that runs a vCPU of a guest's present generation is the one that the vCPU's state names, in the generation in which

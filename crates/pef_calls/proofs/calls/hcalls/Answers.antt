@@ -1,5 +1,5 @@
 use Rattle.std.proofs.Common.{refl}
-use Rattle.pef_calls.proofs.Tables.{IsTable-from_test}
+use Rattle.pef_model.proofs.HypercallTables.{IsTable-from_test}
 use Rattle.pef_calls.proofs.calls.hcalls.Goals as goal
 
 -- the rows pass the test

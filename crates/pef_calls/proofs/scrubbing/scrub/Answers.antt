@@ -1,5 +1,5 @@
 use Rattle.std.proofs.Common.{arith}
-use Rattle.pef_calls.proofs.Scrubs.{scrubbed-from_registers}
+use Rattle.pef_model.proofs.Scrubs.{scrubbed-from_registers}
 use Rattle.pef_calls.proofs.scrubbing.scrub.Goals as goal
 
 -- the loop has written each of the 32

@@ -1,5 +1,5 @@
 use Rattle.std.proofs.Common.{◌≡◌, ℕ, ◌<◌, length, slice_index}
-use Rattle.pef_calls.specs.Scrub.{value_scrubbed}
+use Rattle.pef_model.specs.Hypercalls.{value_scrubbed}
 use Rattle.pef_calls.proofs.scrubbing.scrub.Given as goal
 
 abbrev pub invariant-loop-r : goal.invariant-loop-r

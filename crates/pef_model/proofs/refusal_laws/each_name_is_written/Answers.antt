@@ -7,4 +7,4 @@ use Rattle.pef_model.proofs.refusal_laws.each_name_is_written.Goals as goal
 -- computed from the definitions
 pub returns : goal.returns
 unfolding digits tag_bytes doubleword with_doubleword
-returns c = record { written = refl; others = refl }
+returns c = record { written = refl; others = refl; commands = refl }

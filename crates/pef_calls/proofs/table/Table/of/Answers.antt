@@ -1,5 +1,5 @@
 use Rattle.std.proofs.Common.{rules, ◌≡◌, ◌<◌, length, arith, refl}
-use Rattle.pef_calls.proofs.Tables.{IsTable-whole, IsTable-falls}
+use Rattle.pef_model.proofs.HypercallTables.{IsTable-whole, IsTable-falls}
 use Rattle.pef_calls.proofs.table.Table.of.Goals as goal
 
 -- a table's number is above the one before it

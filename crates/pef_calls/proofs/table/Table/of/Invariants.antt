@@ -1,4 +1,4 @@
-use Rattle.pef_calls.proofs.Tables.{IsTableTo}
+use Rattle.pef_model.proofs.HypercallTables.{IsTableTo}
 use Rattle.pef_calls.proofs.table.Table.of.Given as goal
 
 abbrev pub invariant-loop-i : goal.invariant-loop-i

@@ -1,6 +1,6 @@
 use Rattle.std.proofs.Common.{rules, ◌≡◌}
-use Rattle.pef_calls.specs.Table.{row_of}
-use Rattle.pef_calls.proofs.Rows.{row_whole}
+use Rattle.pef_model.specs.Hypercalls.{row_of}
+use Rattle.pef_model.proofs.HypercallRows.{row_whole}
 use Rattle.pef_calls.proofs.table.Table.row.Goals as goal
 
 -- each row of a table is whole

@@ -1,8 +1,8 @@
 -- Laws of the rows of a table.
 use Rattle.std.specs.Prelude.{◌≡◌, ◌↔◌, ℕ, List, Some, None}
 use Rattle.std.specs.List.{Contains}
-use Rattle.pef_calls.specs.declared.row.Row.{Row}
-use Rattle.pef_calls.specs.Table.{IsTable, row_of}
+use Rattle.pef_model.specs.declared.hypercall.Row.{Row}
+use Rattle.pef_model.specs.Hypercalls.{IsTable, row_of}
 
 -- a number's row is the one row of the table that has the number
 abbrev pub NumbersHaveTheirRows : Type 0

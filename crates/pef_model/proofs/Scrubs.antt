@@ -5,10 +5,9 @@ use Rattle.std.proofs.lemmas.Option.{slice_get-get_or}
 use Rattle.std.proofs.lemmas.List.FromFn.{get_or-map-range_with_len}
 use Rattle.std.proofs.lemmas.Grind.{common_steps, same_number_lists}
 use Rattle.pef_model.specs.declared.state.Regs.{Regs}
-use Rattle.pef_calls.specs.declared.row.Row.{Row}
-use Rattle.pef_calls.specs.Table.{IsRow}
-use Rattle.pef_calls.specs.Scrub.{value_scrubbed, scrubbed}
-use Rattle.pef_calls.specs.ScrubLaw.{ShowsInputsAlone, SameInputsShowTheSame}
+use Rattle.pef_model.specs.declared.hypercall.Row.{Row}
+use Rattle.pef_model.specs.Hypercalls.{IsRow, value_scrubbed, scrubbed}
+use Rattle.pef_model.specs.ScrubLaw.{ShowsInputsAlone, SameInputsShowTheSame}
 
 -- each of the 32 registers shows its value
 register_is : (row : Row) (regs : Regs) (r : ℕ) → r < 32 → get_or (scrubbed row regs).gpr r 0 ≡ value_scrubbed row regs.gpr r

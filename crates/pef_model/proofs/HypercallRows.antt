@@ -6,17 +6,17 @@ use Rattle.std.proofs.lemmas.Bool.{cases_order}
 use Rattle.std.proofs.lemmas.Bool.Decides.{nat_tests}
 use Rattle.std.proofs.lemmas.List.{get_or_default, length-map}
 use Rattle.std.proofs.lemmas.List.Kept.{AllPairs-from_increasing}
-use Rattle.pef_calls.specs.declared.row.Row.{Row}
-use Rattle.pef_calls.specs.Table.{IsRow, IsTable, row_of}
-use Rattle.pef_calls.specs.TableLaw.{NumbersHaveTheirRows, OtherNumbersHaveNone}
-use Rattle.pef_calls.proofs.Tables.{IsRow-within, number_at}
+use Rattle.pef_model.specs.declared.hypercall.Row.{Row}
+use Rattle.pef_model.specs.Hypercalls.{IsRow, IsTable, row_of}
+use Rattle.pef_model.specs.TableLaw.{NumbersHaveTheirRows, OtherNumbersHaveNone}
+use Rattle.pef_model.proofs.HypercallTables.{IsRow-within, number_at}
 
 -- what stands behind the first row stands in all
 Contains-behind : (x : Row) (rows : List Row) (row : Row) → Contains rows row → Contains (x ∷ rows) row
 Contains-behind x rows row within = (suc within.0, omega (arith, within.1), within.2)
 
 -- what is found is a row of the table, and has the number
-row_of-found : (rows : List Row) (number : ℕ) (row : Row) → row_of rows number ≡ Some row → Contains rows row × (row.number ≡ number)
+pub row_of-found : (rows : List Row) (number : ℕ) (row : Row) → row_of rows number ≡ Some row → Contains rows row × (row.number ≡ number)
 row_of-found [] number row is = cc
 row_of-found (x ∷ rows) number row is = by_test (row_of-found rows number row) (x.number == number) refl where
   by_test : (row_of rows number ≡ Some row → Contains rows row × (row.number ≡ number)) → (b : Bool) → (x.number == number) ≡ b →

@@ -5,9 +5,9 @@ use Rattle.std.specs.List.{Contains}
 use Rattle.std.proofs.lemmas.List.{get_or-map, length-map}
 use Rattle.std.proofs.lemmas.Bool.Decides.{nat_tests}
 use Rattle.std.proofs.lemmas.Grind.{common_steps}
-use Rattle.pef_calls.specs.declared.row.Row.{Row}
-use Rattle.pef_calls.specs.declared.row.RowKind.TheVariants.{Local}
-use Rattle.pef_calls.specs.Table.{IsRow, IsTable}
+use Rattle.pef_model.specs.declared.hypercall.Row.{Row}
+use Rattle.pef_model.specs.declared.hypercall.RowKind.TheVariants.{Local}
+use Rattle.pef_model.specs.Hypercalls.{IsRow, IsTable}
 
 -- the first n rows are rows of a table, in order
 pub record IsTableTo (rows : List Row) (n : ℕ) : Type 0 where

@@ -1,7 +1,7 @@
 //! The laws of tables and of what leaves with a hypercall: each is the contract of a function that does nothing.
 
-ghost use Rattle.pef_calls.specs.TableLaw.{NumbersHaveTheirRows, OtherNumbersHaveNone};
-ghost use Rattle.pef_calls.specs.ScrubLaw.{EachRowShowsInputsAlone, EachHypercallShowsInputsAlone, SameInputsShowTheSame};
+ghost use Rattle.pef_model.specs.TableLaw.{NumbersHaveTheirRows, OtherNumbersHaveNone};
+ghost use Rattle.pef_model.specs.ScrubLaw.{EachRowShowsInputsAlone, EachHypercallShowsInputsAlone, SameInputsShowTheSame};
 
 /// A number's row is the one row of a table that has the number.
 pub fn numbers_have_their_rows()

@@ -2,10 +2,9 @@
 use Rattle.std.specs.Prelude.{◌≡◌, ◌≢◌, ◌⊎◌, ℕ, ◌+◌, ◌<◌, ◌≤◌, List, length, slice_get, slice_index, Some}
 use Rattle.std.specs.List.{Contains}
 use Rattle.pef_model.specs.declared.state.Regs.{Regs}
-use Rattle.pef_calls.specs.declared.calls.TheConstants.{HCALLS}
-use Rattle.pef_calls.specs.declared.row.Row.{Row}
-use Rattle.pef_calls.specs.Table.{IsRow, IsTable}
-use Rattle.pef_calls.specs.Scrub.{scrubbed}
+use Rattle.pef_model.specs.declared.hypercall.TheConstants.{HCALLS}
+use Rattle.pef_model.specs.declared.hypercall.Row.{Row}
+use Rattle.pef_model.specs.Hypercalls.{IsRow, IsTable, scrubbed}
 
 -- R3 is the row's number, the inputs are kept, and every other register is 0
 pub record ShowsInputsAlone (row : Row) (regs shown : Regs) : Type 0 where

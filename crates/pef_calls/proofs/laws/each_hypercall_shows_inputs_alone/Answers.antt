@@ -1,8 +1,0 @@
-use Rattle.std.proofs.Common.{refl}
-use Rattle.pef_calls.specs.declared.calls.TheConstants.{HCALLS}
-use Rattle.pef_calls.proofs.Tables.{IsRow-within, IsTable-from_test}
-use Rattle.pef_calls.proofs.Scrubs.{each_row}
-use Rattle.pef_calls.proofs.laws.each_hypercall_shows_inputs_alone.Goals as goal
-
-pub returns : goal.returns
-returns c = λ row regs within long. each_row row regs (IsRow-within HCALLS row (IsTable-from_test 0 HCALLS refl) within) long

@@ -1,6 +1,0 @@
-use Rattle.pef_calls.proofs.Tables.{IsRow-within}
-use Rattle.pef_calls.proofs.Scrubs.{each_row}
-use Rattle.pef_calls.proofs.laws.each_row_shows_inputs_alone.Goals as goal
-
-pub returns : goal.returns
-returns c = λ rows row regs table within long. each_row row regs (IsRow-within rows row table within) long

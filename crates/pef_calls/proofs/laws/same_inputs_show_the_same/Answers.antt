@@ -1,5 +1,0 @@
-use Rattle.pef_calls.proofs.Scrubs.{same_inputs}
-use Rattle.pef_calls.proofs.laws.same_inputs_show_the_same.Goals as goal
-
-pub returns : goal.returns
-returns c = same_inputs

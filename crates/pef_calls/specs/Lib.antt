@@ -1,4 +1,0 @@
-pub mod Table
-pub mod Scrub
-pub mod TableLaw
-pub mod ScrubLaw
