@@ -21,14 +21,15 @@ use Rattle.pef_frames.specs.Pool.{PoolState}
 use Rattle.pef_pages.specs.declared.cell.Cell.TheVariants as cell
 use Rattle.pef_pages.specs.Pages.{PagesState}
 use Rattle.pef_guest.specs.declared.cpu.Cpu.{Cpu}
-use Rattle.pef_guest.specs.declared.vcpu.Vcpu.{Vcpu}
+use Rattle.pef_regs.specs.declared.vcpu.Vcpu.{Vcpu}
 use Rattle.pef_guest.specs.declared.guest.Guest.{Guest}
 use Rattle.pef_guest.specs.Shows.{ShowsPages, ShowsCpu, vcpu_at, Shows}
 use Rattle.pef_guest.specs.Whole.{IsOutside, IsWhole}
 use Rattle.pef_guest.specs.Aims.{uses_pool, frame_met, frame_running}
 use Rattle.pef_guest.specs.Ready.{IsRunning}
 use Rattle.pef_guest.specs.Refused.{SameGuest, Refuses}
-use Rattle.pef_guest.specs.Rows.{RowWithPool, with_registers, ask_running, entry_running}
+use Rattle.pef_regs.specs.Registers.{with_registers}
+use Rattle.pef_guest.specs.Rows.{RowWithPool, ask_running, entry_running}
 use Rattle.pef_guest.specs.Does.{is_any_free, DoesRow}
 use Rattle.pef_guest.proofs.Asked.{frames_stay, running_does}
 use Rattle.pef_guest.proofs.OneVcpu.{with_step, keeps_guest, whole_counted}

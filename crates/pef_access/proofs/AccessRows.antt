@@ -20,10 +20,11 @@ use Rattle.pef_frames.specs.Frame.{FrameState}
 use Rattle.pef_pages.specs.declared.cell.Cell.TheVariants as cell
 use Rattle.pef_pages.specs.Pages.{PagesState}
 use Rattle.pef_guest.specs.declared.cpu.Cpu.{Cpu}
-use Rattle.pef_guest.specs.declared.vcpu.Vcpu.{Vcpu}
+use Rattle.pef_regs.specs.declared.vcpu.Vcpu.{Vcpu}
 use Rattle.pef_guest.specs.declared.guest.Guest.{Guest}
 use Rattle.pef_guest.specs.Shows.{kept_in, sealed_of, ShowsCpu, ShowsVcpu, vcpu_at, Shows}
-use Rattle.pef_guest.specs.Rows.{RowWithPool, with_registers, ask_running}
+use Rattle.pef_regs.specs.Registers.{with_registers}
+use Rattle.pef_guest.specs.Rows.{RowWithPool, ask_running}
 use Rattle.pef_access.specs.Access.{place_at, value_at, after_load, after_store, register_at}
 use Rattle.pef_access.proofs.Meets.{IsHeld}
 use Rattle.pef_access.proofs.AccessPages.{AreLikePages, like_through, like_with, with_secure, frame_with}

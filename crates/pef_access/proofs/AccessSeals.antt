@@ -10,7 +10,7 @@ use Rattle.pef_model.specs.PageOut.{tag_of, private_page}
 use Rattle.pef_frames.specs.Frame.{FrameState}
 use Rattle.pef_pages.specs.Cells.{way_of}
 use Rattle.pef_pages.specs.Pages.{PagesState, cell_at}
-use Rattle.pef_guest.specs.declared.vcpu.Vcpu.{Vcpu}
+use Rattle.pef_regs.specs.declared.vcpu.Vcpu.{Vcpu}
 use Rattle.pef_guest.specs.declared.guest.Guest.{Guest}
 use Rattle.pef_guest.specs.Shows.{kept_in, digest_by, first_there, sealed_of, ShowsSealed}
 use Rattle.pef_access.proofs.SamePage.{same_page_bytes}

@@ -2,9 +2,9 @@
 use Rattle.std.proofs.Common.{◌≡◌, ℕ, ◌<◌, length, get_or, ap, ◌∙◌}
 use Rattle.std.specs.Vec.{with_item}
 use Rattle.pef_model.specs.declared.state.Regs.{Regs}
-use Rattle.pef_guest.specs.declared.vcpu.Vcpu.{Vcpu}
+use Rattle.pef_regs.specs.declared.vcpu.Vcpu.{Vcpu}
 use Rattle.pef_guest.specs.declared.guest.Guest.{Guest}
-use Rattle.pef_guest.specs.Rows.{with_registers}
+use Rattle.pef_regs.specs.Registers.{with_registers}
 use Rattle.pef_guest.specs.Shows.{vcpu_at}
 use Rattle.pef_guest.proofs.OneVcpu.{is_at}
 use Rattle.pef_access.specs.Access.{with_change}

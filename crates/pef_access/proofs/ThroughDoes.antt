@@ -25,13 +25,14 @@ use Rattle.pef_model.proofs.Places.{room_at}
 use Rattle.pef_model.proofs.Written.{doubleword_overwrites}
 use Rattle.pef_frames.specs.Pool.{PoolState}
 use Rattle.pef_guest.specs.declared.cpu.Cpu.{Cpu}
-use Rattle.pef_guest.specs.declared.vcpu.Vcpu.{Vcpu}
+use Rattle.pef_regs.specs.declared.vcpu.Vcpu.{Vcpu}
 use Rattle.pef_guest.specs.declared.guest.Guest.{Guest}
 use Rattle.pef_guest.specs.Shows.{ShowsCpu, vcpu_at, Shows}
 use Rattle.pef_guest.specs.Whole.{IsWhole}
 use Rattle.pef_guest.specs.Ready.{IsRunning}
 use Rattle.pef_guest.specs.Refused.{Refuses}
-use Rattle.pef_guest.specs.Rows.{with_registers, ask_running, entry_running}
+use Rattle.pef_regs.specs.Registers.{with_registers}
+use Rattle.pef_guest.specs.Rows.{ask_running, entry_running}
 use Rattle.pef_guest.specs.Does.{NormalPart, IsFoundIn, is_any_free, DoesLent}
 use Rattle.pef_guest.proofs.Asked.{frames_stay, lent_does, makes_lent, RowLent}
 use Rattle.pef_guest.specs.Aims.{frame_met}

@@ -20,7 +20,7 @@ use Rattle.pef_pages.specs.declared.cell.Cell.TheVariants as cell
 use Rattle.pef_pages.specs.Pages.{PagesState, kind_at, mover_at, frame_at, with_cell, with_frame_at, joins_order}
 use Rattle.pef_guest.specs.declared.guest.Guest.{Guest}
 use Rattle.pef_guest.specs.Shows.{vcpu_at}
-use Rattle.pef_guest.specs.Rows.{with_registers}
+use Rattle.pef_regs.specs.Registers.{with_registers}
 use Rattle.pef_guest.specs.Aims.{frame_met}
 
 -- what an access to a page meets

@@ -5,6 +5,7 @@ use Rattle.pef_model.specs.declared.state.Run.{Run}
 use Rattle.pef_model.specs.declared.state.Tag.{Tag}
 use Rattle.pef_model.specs.declared.state.Ctx.TheVariants as ctx
 use Rattle.pef_model.specs.declared.command.Cmd.{Cmd}
+use Rattle.pef_model.specs.declared.command.Cmd.TheVariants.{Dump}
 use Rattle.pef_model.specs.declared.command.Code.{Code}
 use Rattle.pef_model.specs.declared.entry.Answer.{Answer}
 use Rattle.pef_model.specs.declared.entry.Answer.TheVariants.{Ret}
@@ -14,11 +15,11 @@ use Rattle.pef_model.specs.Target.{Ask, uses_hand}
 use Rattle.pef_model.specs.Cpu.{CpuPart}
 use Rattle.pef_model.specs.Guest.{Guest as GuestWhole}
 use Rattle.pef_model.specs.Deed.{deed_guest, deed_running, deed_gone}
-use Rattle.pef_model.specs.History.{ask_of, entry_of}
+use Rattle.pef_model.specs.History.{register_shown, ask_of, entry_of}
 use Rattle.pef_frames.specs.Pool.{PoolState}
 use Rattle.pef_frames.specs.PoolLaw.{times_free}
 use Rattle.pef_guest.specs.declared.cpu.Cpu.{Cpu}
-use Rattle.pef_guest.specs.declared.vcpu.Vcpu.{Vcpu}
+use Rattle.pef_regs.specs.declared.vcpu.Vcpu.{Vcpu}
 use Rattle.pef_guest.specs.declared.guest.Guest.{Guest}
 use Rattle.pef_guest.specs.Whole.{IsWhole}
 use Rattle.pef_guest.specs.Keeps.{KeepsGuest, KeepsLife, KeepsFrames, KeepsMovers, times_held}
@@ -31,13 +32,21 @@ use Rattle.pef_guest.specs.Does.{NormalPart, IsFoundIn, TellsFrame, is_any_free,
 use Rattle.pef_guest.proofs.Deeds.{share_running, share_guest}
 use Rattle.pef_guest.proofs.OneVcpu.{with_step, keeps_guest, whole_vcpu}
 
--- what a step learns of a CPU on which the hypervisor runs
-pub ask_in_hypervisor : (c : CpuPart) (cmd : Cmd) → c.ctx ≡ ctx.Hv → ask_of c cmd ≡ ask_hypervisor c
-ask_in_hypervisor c cmd is = λ i. record { before = is i; lpid = c.lpid; vid = c.vid; last = c.last; hand = if uses_hand (is i) cmd then c.hand else [] }
+-- what a step learns of a CPU on which the hypervisor runs: for one that shows a register that register too
+abbrev pub ask_showing : CpuPart → Cmd → Ask
+ask_showing c cmd = record { before = ctx.Hv; lpid = c.lpid; vid = c.vid; last = c.last; hand = []; register = register_shown ctx.Hv cmd c.own }
+
+pub ask_in_hypervisor : (c : CpuPart) (cmd : Cmd) → c.ctx ≡ ctx.Hv → ask_of c cmd ≡ ask_showing c cmd
+ask_in_hypervisor c cmd is = λ i. record { before = is i; lpid = c.lpid; vid = c.vid; last = c.last; hand = if uses_hand (is i) cmd then c.hand else []; register = register_shown (is i) cmd c.own }
+
+-- none that shows a register is at a guest
+pub deed_in_hypervisor : (plan : Plan) (g : GuestWhole) (found : ℕ → ℕ → ℕ) (any : Bool) (c : CpuPart) (cmd : Cmd) → deed_guest plan g found any (ask_showing c cmd) cmd ≡ deed_guest plan g found any (ask_hypervisor c) cmd
+deed_in_hypervisor plan g found any c (Dump reg) = refl
+deed_in_hypervisor plan g found any c cmd = refl
 
 -- what it learns of one on which a vCPU runs
 pub ask_in_guest : (c : CpuPart) (run : Run) (cmd : Cmd) → c.ctx ≡ ctx.Guest run → ask_of c cmd ≡ ask_running run c
-ask_in_guest c run cmd is = λ i. record { before = is i; lpid = c.lpid; vid = c.vid; last = c.last; hand = if uses_hand (is i) cmd then c.hand else [] }
+ask_in_guest c run cmd is = λ i. record { before = is i; lpid = c.lpid; vid = c.vid; last = c.last; hand = if uses_hand (is i) cmd then c.hand else []; register = register_shown (is i) cmd c.own }
 
 -- a step that takes no frame and gives none back leaves each where it is
 pub frames_stay : {S : Type 0} (old new : Guest S) (pool : PoolState) → ((number : ℕ) → times_held new number ≡ times_held old number) → KeepsFrames old new pool pool
@@ -50,10 +59,13 @@ refused_call cmd {old = old} {new = new} {cpu = cpu} {cpu_new = cpu_new} {pool =
     subst (λ c. Refuses c cmd old new cpu cpu_new pool pool_new (Ret code)) (sym hv) (λ refusal. (refuses, same))
 
 module _ {S : Type 0} (takes : S → ℕ → ℕ → Type 0) (stands : S → Tag → List ℕ → List ℕ → Type 0) (image : S → Tag → List ℕ → List ℕ) (cmd : Cmd) (old new : Guest S) (cpu cpu_new : Cpu) (pool pool_new : PoolState) (a : Answer) where
-  -- the row, by what the step learns of its CPU
+  -- the row, by its entry
+  abbrev RowOf : Plan → GuestWhole → CpuPart → Event → Type 0
+  RowOf plan g c e = RowWithPool stands image plan g c e new cpu_new (length pool.free) (length pool_new.free) a
+
+  -- by what the step learns of its CPU
   abbrev pub RowAsked : Plan → GuestWhole → (ℕ → ℕ → ℕ) → CpuPart → Mark → Ask → Type 0
-  RowAsked plan g found c mark ask =
-      RowWithPool stands image plan g c (entry_of ask mark cmd (deed_guest plan g found (is_any_free pool) ask cmd)) new cpu_new (length pool.free) (length pool_new.free) a
+  RowAsked plan g found c mark ask = RowOf plan g c (entry_of ask mark cmd (deed_guest plan g found (is_any_free pool) ask cmd))
 
   -- a step at a guest touches no normal frame, but for an access of a vCPU in one
   pub tells_none : (plan : Plan) (g : GuestWhole) (found : ℕ → ℕ → ℕ) (c : CpuPart) (mark : Mark) → frame_at_guest plan g.part c.ctx cmd ≡ None → (entry_at_guest plan g found (is_any_free pool) c mark cmd).saw.frame ≡ None
@@ -65,14 +77,15 @@ module _ {S : Type 0} (takes : S → ℕ → ℕ → Type 0) (stands : S → Tag
       MakesEntry takes stands image cmd old new cpu cpu_new pool pool_new a
   makes_hypervisor hv does plan g found c mark marked shows shows_cpu none clean =
       let here : c.ctx ≡ ctx.Hv = sym shows_cpu.ctx ∙ hv in (
-        subst (RowAsked plan g found c mark) (sym (ask_in_hypervisor c cmd here)) (does plan g found c mark marked shows shows_cpu),
+        subst (RowAsked plan g found c mark) (sym (ask_in_hypervisor c cmd here))
+            (subst (λ deed. RowOf plan g c (entry_of (ask_hypervisor c) mark cmd deed)) (sym (deed_in_hypervisor plan g found (is_any_free pool) c cmd)) (does plan g found c mark marked shows shows_cpu)),
         tells_none plan g found c mark (ap (λ before. frame_at_guest plan g.part before cmd) here),
       )
 
   module _ (frame : Option NormalPart) (left : List ℕ) (run : Run) (running : cpu.ctx ≡ ctx.Guest run) where
     -- a row of a step that is lent this normal frame, or none, by its entry
     abbrev pub RowLent : Plan → GuestWhole → CpuPart → Event → Type 0
-    RowLent plan g c e = RowWithPool stands image plan g c e new cpu_new (length pool.free) (length pool_new.free) a × TellsFrame plan e frame left
+    RowLent plan g c e = RowOf plan g c e × TellsFrame plan e frame left
 
     -- a command of a vCPU, by whether it is in its guest's generation
     abbrev EntryIn : Plan → GuestWhole → (ℕ → ℕ → ℕ) → CpuPart → Mark → Bool → Event

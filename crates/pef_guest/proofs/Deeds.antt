@@ -7,13 +7,18 @@ use Rattle.pef_model.specs.declared.state.Ctx.TheVariants as ctx
 use Rattle.pef_model.specs.declared.command.Code.{Code}
 use Rattle.pef_model.specs.declared.command.Code.TheVariants.{USuccess, UParameter, UInvalid}
 use Rattle.pef_model.specs.declared.command.Cmd.{Cmd}
-use Rattle.pef_model.specs.declared.command.Cmd.TheVariants.{HEnter, UPagein, UPageout, UReturn, GLd, GSt, GIrq}
+use Rattle.pef_model.specs.declared.command.Cmd.TheVariants.{HEnter, UPagein, UPageout, UReturn, GLd, GSt, GHcall, GIrq}
+use Rattle.pef_model.specs.declared.hypercall.TheConstants.{HCALLS}
+use Rattle.pef_model.specs.declared.hypercall.Row.{Row}
+use Rattle.pef_model.specs.declared.hypercall.RowKind.{RowKind}
+use Rattle.pef_model.specs.declared.hypercall.RowKind.TheVariants.{Reflected, Local, Svm}
 use Rattle.pef_model.specs.declared.entry.Answer.{Answer}
 use Rattle.pef_model.specs.declared.entry.Answer.TheVariants as answer
 use Rattle.pef_model.specs.declared.entry.PoolSaw.{PoolSaw}
 use Rattle.pef_model.specs.Plan.{Plan}
 use Rattle.pef_model.specs.Registers.{Call, call_of}
 use Rattle.pef_model.specs.Entry.{enter_code}
+use Rattle.pef_model.specs.Hypercalls.{row_of}
 use Rattle.pef_model.specs.declared.state.Phase.{Phase}
 use Rattle.pef_model.specs.declared.state.Phase.TheVariants as phase
 use Rattle.pef_model.specs.Target.{Ask}
@@ -23,7 +28,7 @@ use Rattle.pef_model.specs.Memory.{offset_of}
 use Rattle.pef_model.specs.PageOut.{page_out_code}
 use Rattle.pef_model.specs.PageIn.{page_in_operands, is_last_sealed}
 use Rattle.pef_guest.specs.Aims.{frame_met, frame_running, frame_at_guest}
-use Rattle.pef_model.specs.Deed.{Deed, answering, returning, giving, coming_back, deed_guest_in, deed_hypervisor, deed_running, deed_gone, deed_access, deed_interrupt, deed_refused, deed_page_out_begin, deed_page_in_with, deed_page_in_test, may_return_in, is_waiting}
+use Rattle.pef_model.specs.Deed.{Deed, answering, returning, giving, coming_back, deed_guest_in, deed_hypervisor, deed_running, deed_gone, deed_access, deed_interrupt, deed_by_kind, deed_by_row, deed_hypercall, deed_refused, deed_page_out_begin, deed_page_in_with, deed_page_in_test, may_return_in, is_waiting}
 
 -- the ways in which a step at a guest touches the pool: it takes the frame that is free, finds none, or gives one back
 abbrev pub IsShareOf : Bool → Option PoolSaw → Type 0
@@ -49,6 +54,22 @@ share_running plan run g found any ask GIrq = by_phase g.part.phase where
   by_phase : (phase : Phase) → IsShare any None (deed_interrupt phase (g.registers run.vid).gpr ask)
   by_phase phase.Normal = (refl, tt)
   by_phase other = (refl, tt)
+share_running plan run g found any ask GHcall = by_phase g.part.phase where
+  gpr : List ℕ
+  gpr = (g.registers run.vid).gpr
+
+  by_kind : (kind : RowKind) (row : Row) → IsShare any None (deed_by_kind kind ask gpr row)
+  by_kind Reflected row = (refl, tt)
+  by_kind Local row = (refl, tt)
+  by_kind Svm row = (refl, tt)
+
+  by_row : (row : Option Row) → IsShare any None (deed_by_row ask gpr row)
+  by_row None = (refl, tt)
+  by_row (Some row) = by_kind row.kind row
+
+  by_phase : (phase : Phase) → IsShare any None (deed_hypercall phase gpr ask)
+  by_phase phase.Normal = (refl, tt)
+  by_phase other = by_row (row_of HCALLS (slice_index gpr 3))
 share_running plan run g found any ask cmd = by_call (call_of cmd) where
   by_call : (call : Option Call) → IsShare any None (deed_refused ask cmd call)
   by_call None = (refl, tt)

@@ -13,15 +13,15 @@ use Rattle.pef_model.specs.Plan.{Plan}
 use Rattle.pef_model.specs.Cpu.{CpuPart}
 use Rattle.pef_guest.specs.declared.cpu.Cpu.{Cpu}
 use Rattle.pef_model.specs.GuestPart.{GuestPart, VcpuPart, put, with_running_vcpu, with_parked_vcpu}
-use Rattle.pef_model.specs.Guest.{Guest as GuestWhole, entered_at}
+use Rattle.pef_model.specs.Guest.{Guest as GuestWhole}
 use Rattle.pef_model.proofs.Puts.{put-here, put-other}
 use Rattle.pef_frames.specs.Frame.{FrameState}
 use Rattle.pef_pages.specs.Pages.{PagesState}
-use Rattle.pef_guest.specs.declared.vcpu.Vcpu.{Vcpu}
+use Rattle.pef_regs.specs.declared.vcpu.Vcpu.{Vcpu}
+use Rattle.pef_regs.specs.Start.{start_vcpu}
+use Rattle.pef_regs.specs.Registers.{with_registers}
 use Rattle.pef_guest.specs.declared.guest.Guest.{Guest}
-use Rattle.pef_guest.specs.Start.{start_vcpu}
 use Rattle.pef_guest.specs.Shows.{ShowsEntry, ShowsPages, ShowsSealed, ShowsCpu, ShowsVcpu, vcpu_at, Shows}
-use Rattle.pef_guest.specs.Rows.{with_registers}
 use Rattle.pef_guest.specs.Whole.{IsWhole}
 use Rattle.pef_guest.specs.Keeps.{KeepsGuest}
 use Rattle.pef_guest.specs.Refused.{SameGuest}
@@ -166,23 +166,24 @@ module _ {S : Type 0} (stands : S → Tag → List ℕ → List ℕ → Type 0) 
       shows_vcpu g.part.vcpus (with_registers (vcpu_at old vid) (change (vcpu_at old vid).regs)) (change (g.registers vid)) (λ n other. refl)
       (record { state = shows_own.state; generation = shows_own.generation; registers = ap change shows_own.registers })
 
-  -- a vCPU that leaves is parked
-  pub shows_parked : {clean : Bool} (pending : Pending) →
-      Shows stands image plan (with_step old old.pages vid (record (vcpu_at old vid) { state = Parked pending })) (stepped g vid (with_parked_vcpu g.part vid pending) g.content (g.registers vid) clean)
-  shows_parked pending =
-      shows_vcpu (with_parked_vcpu g.part vid pending).vcpus (record (vcpu_at old vid) { state = Parked pending }) (g.registers vid) (put-other g.part.vcpus vid _)
-      (subst (λ (v : VcpuPart). ShowsVcpu (record (vcpu_at old vid) { state = Parked pending }) v (g.registers vid)) (sym (put-here g.part.vcpus vid _))
-      (record { state = refl; generation = shows_own.generation; registers = shows_own.registers }))
+  -- a vCPU that leaves is parked, with its registers, or as the step changes them
+  pub shows_parked : {clean : Bool} (pending : Pending) (change : Regs → Regs) →
+      Shows stands image plan (with_step old old.pages vid (record (vcpu_at old vid) { state = Parked pending; regs = change (vcpu_at old vid).regs })) (stepped g vid (with_parked_vcpu g.part vid pending) g.content (change (g.registers vid)) clean)
+  shows_parked pending change =
+      let vcpu : Vcpu = record (vcpu_at old vid) { state = Parked pending; regs = change (vcpu_at old vid).regs } in
+      shows_vcpu (with_parked_vcpu g.part vid pending).vcpus vcpu (change (g.registers vid)) (put-other g.part.vcpus vid _)
+      (subst (λ (v : VcpuPart). ShowsVcpu vcpu v (change (g.registers vid))) (sym (put-here g.part.vcpus vid _))
+      (record { state = refl; generation = shows_own.generation; registers = ap change shows_own.registers }))
 
-  -- a vCPU that is taken up runs on the CPU, in the generation of its guest
-  pub shows_running : {clean : Bool} (cpu r2 : ℕ) →
-      Shows stands image plan (with_step old old.pages vid (record { state = Running cpu; generation = old.generation; regs = entered_at (vcpu_at old vid).regs r2 }))
-      (stepped g vid (with_running_vcpu g.part vid cpu) g.content (entered_at (g.registers vid) r2) clean)
-  shows_running cpu r2 =
-      let vcpu : Vcpu = record { state = Running cpu; generation = old.generation; regs = entered_at (vcpu_at old vid).regs r2 } in
-      shows_vcpu (with_running_vcpu g.part vid cpu).vcpus vcpu (entered_at (g.registers vid) r2) (put-other g.part.vcpus vid _)
-      (subst (λ (v : VcpuPart). ShowsVcpu vcpu v (entered_at (g.registers vid) r2)) (sym (put-here g.part.vcpus vid _))
-      (record { state = refl; generation = shows.generation; registers = ap (λ (x : Regs). entered_at x r2) shows_own.registers }))
+  -- a vCPU that is taken up runs on the CPU, in the generation of its guest, with its registers as the step changes them
+  pub shows_running : {clean : Bool} (cpu : ℕ) (change : Regs → Regs) →
+      Shows stands image plan (with_step old old.pages vid (record { state = Running cpu; generation = old.generation; regs = change (vcpu_at old vid).regs }))
+      (stepped g vid (with_running_vcpu g.part vid cpu) g.content (change (g.registers vid)) clean)
+  shows_running cpu change =
+      let vcpu : Vcpu = record { state = Running cpu; generation = old.generation; regs = change (vcpu_at old vid).regs } in
+      shows_vcpu (with_running_vcpu g.part vid cpu).vcpus vcpu (change (g.registers vid)) (put-other g.part.vcpus vid _)
+      (subst (λ (v : VcpuPart). ShowsVcpu vcpu v (change (g.registers vid))) (sym (put-here g.part.vcpus vid _))
+      (record { state = refl; generation = shows.generation; registers = ap change shows_own.registers }))
 
   -- a command of another context leaves the guest
   pub shows_read : {clean : Bool} → Shows stands image plan (with_step old old.pages vid (vcpu_at old vid)) (stepped g vid g.part g.content (g.registers vid) clean)

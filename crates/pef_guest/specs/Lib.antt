@@ -1,10 +1,10 @@
 pub mod Life
-pub mod Loads
 pub mod Start
 pub mod Whole
 pub mod Shows
 pub mod Keeps
 pub mod Aims
+pub mod Leaves
 pub mod Refused
 pub mod Rows
 pub mod Ready

@@ -4,7 +4,7 @@ use Rattle.pef_model.specs.declared.state.Phase.TheVariants.{Absent, Normal}
 use Rattle.pef_model.specs.declared.state.VState.TheVariants.{Idle}
 use Rattle.pef_pate.specs.declared.pate.Pate.{Pate}
 use Rattle.pef_guest.specs.declared.guest.Guest.{Guest}
-use Rattle.pef_guest.specs.Start.{start_vcpu}
+use Rattle.pef_regs.specs.Start.{start_vcpu}
 
 -- a guest with another partition entry, but for its vCPUs: with a page it is in normal memory, and with none it is Absent, in the next generation
 abbrev pub with_pate : {S : Type 0} → Guest S → Pate → Guest S

@@ -13,9 +13,9 @@ use Rattle.pef_model.specs.Registers.{number_of, with_code, zero_registers}
 use Rattle.pef_frames.specs.Frame.{FrameState}
 use Rattle.pef_frames.specs.Pool.{PoolState, with_free}
 use Rattle.pef_pages.specs.Pages.{frame_at, kind_at, digest_at, ended_in}
-use Rattle.pef_guest.specs.Loads.{LoadsCall}
+use Rattle.pef_regs.specs.Loads.{LoadsCall}
 use Rattle.pef_guest.specs.declared.cpu.Cpu.{Cpu}
-use Rattle.pef_guest.specs.declared.vcpu.Vcpu.{Vcpu}
+use Rattle.pef_regs.specs.declared.vcpu.Vcpu.{Vcpu}
 use Rattle.pef_guest.specs.declared.guest.Guest.{Guest}
 use Rattle.pef_guest.specs.Shows.{vcpu_at}
 use Rattle.pef_guest.specs.Aims.{is_refusal}

@@ -20,10 +20,10 @@ use Rattle.pef_pages.specs.declared.cell.Cell.{Cell}
 use Rattle.pef_pages.specs.declared.cell.Cell.TheVariants as cell
 use Rattle.pef_pages.specs.Cells.{way_of}
 use Rattle.pef_pages.specs.Pages.{PagesState, cell_at, kind_at, mover_at, version_at, frame_at}
+use Rattle.pef_regs.specs.declared.vcpu.Vcpu.{Vcpu}
+use Rattle.pef_regs.specs.Start.{start_vcpu}
 use Rattle.pef_guest.specs.declared.cpu.Cpu.{Cpu}
-use Rattle.pef_guest.specs.declared.vcpu.Vcpu.{Vcpu}
 use Rattle.pef_guest.specs.declared.guest.Guest.{Guest}
-use Rattle.pef_guest.specs.Start.{start_vcpu}
 
 -- a CPU is that of the model
 pub record ShowsCpu (cpu : Cpu) (part : CpuPart) : Type 0 where

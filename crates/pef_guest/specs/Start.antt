@@ -1,17 +1,16 @@
--- CPUs, vCPUs and guests as they begin.
+-- CPUs and guests as they begin.
 use Rattle.std.specs.Prelude.{◌≡◌, ℕ, replicate}
 use Rattle.pef_model.specs.declared.config.Config.{Config}
-use Rattle.pef_model.specs.declared.state.VState.{VState}
 use Rattle.pef_model.specs.declared.state.Ctx.TheVariants as ctx
 use Rattle.pef_model.specs.declared.entry.Answer.TheVariants as answer
 use Rattle.pef_model.specs.Plan.{plan_of}
-use Rattle.pef_model.specs.Registers.{zero_registers, fresh_registers}
+use Rattle.pef_model.specs.Registers.{zero_registers}
 use Rattle.pef_model.specs.Slots.{start_slots}
 use Rattle.pef_model.specs.GuestPart.{start_phase, start_state}
 use Rattle.pef_pate.specs.declared.pate.Pate.{Pate}
 use Rattle.pef_pages.specs.Pages.{invalid_pages}
+use Rattle.pef_regs.specs.Start.{start_vcpu}
 use Rattle.pef_guest.specs.declared.cpu.Cpu.{Cpu}
-use Rattle.pef_guest.specs.declared.vcpu.Vcpu.{Vcpu}
 use Rattle.pef_guest.specs.declared.guest.Guest.{Guest}
 
 -- a CPU of this number, with a hand of so many bytes: the hypervisor runs, all is zero, vCPU 0 of guest 1 is selected
@@ -23,10 +22,6 @@ pub record IsStartCpu (number size : ℕ) (cpu : Cpu) : Type 0 where
   pub vid : cpu.vid ≡ 0
   pub last : cpu.last ≡ answer.Nothing
   pub hand : cpu.hand ≡ replicate size 0
-
--- a vCPU in this state that was never taken up
-abbrev pub start_vcpu : VState → Vcpu
-start_vcpu state = record { state = state; generation = 0; regs = fresh_registers }
 
 -- a partition entry with no page
 abbrev pub no_pate : Pate

@@ -1,13 +1,12 @@
 //! A CPU goes into a guest and comes back, and shows the hypervisor no more than the guest's exit says.
 
-ghost use Rattle.std.specs.Prelude.{◌≡◌, ◌≢◌, ℕ, ◌+◌, ◌^◌, List, length, replicate, slice_set, IfOk};
+ghost use Rattle.std.specs.Prelude.{◌≡◌, [], slice_index, slice_set, IfOk};
 ghost use Rattle.pef_model.specs.Registers.{zero_registers, with_code};
-ghost use Rattle.pef_model.specs.Cpu.{left_registers};
 ghost use Rattle.pef_guest.specs.Refused.{RefusesCpu};
 
 use crate::hand::Hand;
-use crate::registers;
-use pef_model::{Answer, Code, Ctx, EXTERNAL_INTERRUPT, Exit, Run, Work};
+use pef_model::{Answer, Code, Ctx, EXTERNAL_INTERRUPT, Exit, Reg, Run, Work};
+use pef_regs::registers;
 use std::alloc::{AllocError, Global};
 
 /// A CPU.
@@ -32,6 +31,7 @@ pub struct Cpu {
 impl Cpu {
     ghost use Rattle.pef_guest.specs.Start.{IsStartCpu};
     ghost use Rattle.pef_guest.specs.Refused.{RefusesCpu};
+    ghost use Rattle.pef_guest.specs.Leaves.{leaving};
 
     /// The CPU of a number, from 0, with a hand of a size in bytes. The hypervisor runs on it, with zero registers; guest 1
     /// and its vCPU 0 are selected. Refused where the memory is not to be had.
@@ -132,21 +132,40 @@ impl Cpu {
         self.answer(Answer::Val(value))
     }
 
-    /// The vCPU that runs here leaves: it is selected, the registers show what its exit says, and the hypervisor runs from
-    /// now on. A guest in normal memory shows all its registers, which are these.
-    pub fn leave(&mut self, run: Run, exit: Exit, shown: &[u64; 32]) -> Answer
+    /// The hypervisor is shown one of its registers, which are as they were.
+    pub fn show(&mut self, reg: Reg) -> Answer
+        ensures answer { result ≡ Answer.Val (slice_index self.old.gpr reg) }
+        ensures cpu { self.new ≡ record self.old { last = Answer.Val (slice_index self.old.gpr reg) } }
+    {
+        let value = self.gpr[reg.number() as usize];
+        self.answer(Answer::Val(value))
+    }
+
+    /// The vCPU that runs here leaves a guest in normal memory, which shows all its registers: these.
+    pub fn leave_normal(&mut self, run: Run, shown: &[u64; 32]) -> Answer
+        ensures answer { result ≡ Answer.Exit Exit.Normal }
+        ensures cpu { self.new ≡ leaving self.old run Exit.Normal shown.now }
+    {
+        self.leave(run, Exit::Normal, *shown)
+    }
+
+    /// An interrupt takes the vCPU that runs here from it: the registers show the interrupt, and nothing of the guest.
+    pub fn leave_interrupted(&mut self, run: Run) -> Answer
+        ensures answer { result ≡ Answer.Exit Exit.Irq }
+        ensures cpu { self.new ≡ leaving self.old run Exit.Irq [] }
+    {
+        let mut gpr = [0; 32];
+        gpr[3] = EXTERNAL_INTERRUPT;
+        self.leave(run, Exit::Irq, gpr)
+    }
+
+    /// The vCPU that runs here leaves so, and the registers are these: it is selected, and the hypervisor runs from now on.
+    pub fn leave(&mut self, run: Run, exit: Exit, gpr: [u64; 32]) -> Answer
         ensures answer { result ≡ Answer.Exit exit }
-        ensures cpu { self.new ≡ record self.old { ctx = Ctx.Hv; gpr = left_registers exit shown.now; lpid = run.lpid; vid = run.vid; last = Answer.Exit exit } }
-        ensures hidden { exit ≢ Exit.Normal → (other : List ℕ) → self.new ≡ record self.old { ctx = Ctx.Hv; gpr = left_registers exit other; lpid = run.lpid; vid = run.vid; last = Answer.Exit exit } }
+        ensures cpu { self.new ≡ record self.old { ctx = Ctx.Hv; gpr = gpr; lpid = run.lpid; vid = run.vid; last = Answer.Exit exit } }
     {
         self.ctx = Ctx::Hv;
-        match exit {
-            Exit::Normal => self.gpr = *shown,
-            Exit::Irq => {
-                self.gpr = [0; 32];
-                self.gpr[3] = EXTERNAL_INTERRUPT;
-            }
-        }
+        self.gpr = gpr;
         self.lpid = run.lpid;
         self.vid = run.vid;
         self.last = Answer::Exit(exit);

@@ -9,14 +9,15 @@ ghost use Rattle.pef_guest.specs.Ready.{may_run_in};
 ghost use Rattle.pef_guest.specs.Life.{IsSet};
 ghost use Rattle.pef_model.specs.GuestPart.{start_state};
 ghost use Rattle.pef_model.specs.Slots.{start_slots};
-ghost use Rattle.pef_guest.specs.Start.{start_vcpu, IsStartGuest};
+ghost use Rattle.pef_regs.specs.Start.{start_vcpu};
+ghost use Rattle.pef_guest.specs.Start.{IsStartGuest};
 ghost use Rattle.pef_guest.specs.Whole.{IsWhole};
 
-use crate::vcpu::Vcpu;
 use pef_frames::SecFrame;
 use pef_model::{Config, Phase, VState};
 use pef_pages::Pages;
 use pef_pate::Pate;
+use pef_regs::Vcpu;
 use pef_seal::Seal;
 use pef_slots::Slots;
 use std::alloc::{AllocError, Global};

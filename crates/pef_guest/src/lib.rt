@@ -4,10 +4,8 @@
 mod cpu;
 mod guest;
 mod hand;
-pub mod registers;
-mod vcpu;
 
 pub use cpu::Cpu;
 pub use guest::Guest;
 pub use hand::Hand;
-pub use vcpu::Vcpu;
+pub use pef_regs::{Vcpu, registers};

@@ -20,7 +20,7 @@ use Rattle.pef_model.specs.Memory.{pool_with}
 use Rattle.pef_model.specs.PageOut.{page_out_code}
 use Rattle.pef_model.specs.PageIn.{is_last_sealed}
 use Rattle.pef_model.specs.Deed.{deed_guest, deed_page_out, deed_page_out_begin, deed_page_in_end, deed_page_in_test, coming_back, returning}
-use Rattle.pef_model.specs.History.{ask_of}
+use Rattle.pef_model.specs.History.{register_shown, ask_of}
 use Rattle.pef_model.specs.Clash.{ends_in_clash, clashes_in, clashes}
 use Rattle.pef_frames.specs.Pool.{PoolState}
 use Rattle.pef_guest.specs.declared.cpu.Cpu.{Cpu}
@@ -37,12 +37,12 @@ use Rattle.pef_move.specs.PageIn.{BeginsPageIn, EndsPageIn}
 
 -- what a step learns of a CPU with a call in progress
 pub ask_in_outward : (c : CpuPart) (move : Move) → c.ctx ≡ ctx.Uv (Outward move) → ask_of c Go ≡ ask_outward move c
-ask_in_outward c move is = λ i. record { before = is i; lpid = c.lpid; vid = c.vid; last = c.last; hand = if uses_hand (is i) Go then c.hand else [] }
+ask_in_outward c move is = λ i. record { before = is i; lpid = c.lpid; vid = c.vid; last = c.last; hand = if uses_hand (is i) Go then c.hand else []; register = register_shown (is i) Go c.own }
 
 pub ask_in_inward : (c : CpuPart) (move : Move) → c.ctx ≡ ctx.Uv (Inward move) → move.copied ≡ true → ask_of c Go ≡ ask_inward move c
 ask_in_inward c move is copied =
-    (λ i. record { before = is i; lpid = c.lpid; vid = c.vid; last = c.last; hand = if uses_hand (is i) Go then c.hand else [] })
-    ∙ (λ i. record { before = ctx.Uv (Inward move); lpid = c.lpid; vid = c.vid; last = c.last; hand = if copied i then c.hand else [] })
+    (λ i. record { before = is i; lpid = c.lpid; vid = c.vid; last = c.last; hand = if uses_hand (is i) Go then c.hand else []; register = register_shown (is i) Go c.own })
+    ∙ (λ i. record { before = ctx.Uv (Inward move); lpid = c.lpid; vid = c.vid; last = c.last; hand = if copied i then c.hand else []; register = 0 })
 
 -- a CPU that selects what it did
 pub own_of : {S : Type 0} (guest : Guest S) (old new : Cpu) → KeepsCpu old new → KeepsOwn guest old new

@@ -3,7 +3,7 @@
 ghost use Rattle.std.specs.Prelude.{◌≡◌, ◌≢◌, ◌≤◌, ℕ, length, Some, slice_index, slice_set};
 ghost use Rattle.pef_model.specs.Registers.{with_call, loaded, with_code, number_of};
 ghost use Rattle.pef_model.specs.Guest.{at_next_instruction, entered_at};
-ghost use Rattle.pef_guest.specs.Loads.{LoadsCall};
+ghost use Rattle.pef_regs.specs.Loads.{LoadsCall};
 
 use pef_model::{
     Cmd, Code, Reg, Regs, UV_PAGE_IN, UV_PAGE_OUT, UV_REGISTER_MEM_SLOT, UV_RETURN,

@@ -1,0 +1,119 @@
+//! A vCPU waits, runs, and waits again where it has left, with its registers.
+
+ghost use Rattle.std.specs.Prelude.{◌≡◌, slice_index, slice_set};
+ghost use Rattle.pef_model.specs.Guest.{entered_at, answered_with, at_next_instruction};
+ghost use Rattle.pef_model.specs.Deed.{is_waiting};
+ghost use Rattle.pef_model.specs.Entry.{can_be_entered};
+ghost use Rattle.pef_model.specs.Hypercalls.{IsRow};
+
+use crate::registers;
+use pef_model::{Pending, Reg, Regs, Row, VState};
+
+/// A vCPU of a guest.
+#[derive(Clone, Copy)]
+pub struct Vcpu {
+    pub state: VState,
+    /// The guest's generation when it was taken up; 0 before.
+    pub generation: u64,
+    pub regs: Regs,
+}
+
+impl Vcpu {
+    ghost use Rattle.pef_regs.specs.Start.{start_vcpu};
+    ghost use Rattle.pef_regs.specs.Registers.{with_registers, with_gpr, with_outputs, TakesOutputs};
+
+    /// A vCPU that hasn't run, with zero registers.
+    pub fn new(state: VState) -> Vcpu
+        ensures { result ≡ start_vcpu state }
+    {
+        Vcpu {
+            state,
+            generation: 0,
+            regs: Regs {
+                gpr: [0; 32],
+                nip: 0,
+                srr0: 0,
+            },
+        }
+    }
+
+    /// Whether UV_RETURN takes it up: one that waits for the answer of a hypercall it doesn't.
+    pub fn is_waiting(&self) -> bool
+        ensures { result ≡ is_waiting self.now.state }
+    {
+        match self.state {
+            VState::Fresh | VState::Parked(Pending::Irq) => true,
+            VState::Idle
+            | VState::Running(_)
+            | VState::Parked(Pending::Exit)
+            | VState::Parked(Pending::Hcall(_)) => false,
+        }
+    }
+
+    /// Whether `h.enter` enters it: it hasn't run, or waits where it has left.
+    pub fn can_be_entered(&self) -> bool
+        ensures { result ≡ can_be_entered self.now.state }
+    {
+        match self.state {
+            VState::Idle | VState::Parked(_) => true,
+            VState::Fresh | VState::Running(_) => false,
+        }
+    }
+
+    /// The value of a register.
+    pub fn reg(&self, r: Reg) -> u64
+        ensures { result ≡ slice_index self.now.regs.gpr r }
+    {
+        registers::value_of(&self.regs.gpr, r)
+    }
+
+    /// Puts a value into a register.
+    pub fn set(&mut self, rd: Reg, value: u64)
+        ensures { self.new ≡ with_gpr self.old (slice_set self.old.regs.gpr rd value) }
+    {
+        self.regs.gpr[rd.number() as usize] = value;
+    }
+
+    /// Goes on to the next instruction.
+    pub fn advance(&mut self)
+        ensures { self.new ≡ with_registers self.old (at_next_instruction self.old.regs self.old.regs.gpr) }
+    {
+        registers::move_on(&mut self.regs);
+    }
+
+    /// Takes the outputs of a hypercall: R4 and the registers after it, as many as the call's row has outputs, become the first
+    /// of `outs`.
+    pub fn take_outputs(&mut self, row: &Row, outs: &[u64; 9])
+        requires { IsRow row.now }
+        ensures vcpu { self.new ≡ with_gpr self.old (with_outputs self.old.regs.gpr row.now.outputs outs.now) }
+        ensures each { TakesOutputs self.old.regs.gpr self.new.regs.gpr row.now.outputs outs.now }
+    {
+        let count = usize::from(row.outputs);
+        self.regs.gpr[4..4 + count].copy_from_slice(&outs[..count]);
+    }
+
+    /// Gives R3 the value of `h.enter` where it waits for the answer of a hypercall, in a guest in normal memory.
+    pub fn give_answer(&mut self, value: u64)
+        ensures { self.new ≡ with_registers self.old (answered_with self.old.state self.old.regs value) }
+    {
+        if self.state == VState::Parked(Pending::Exit) {
+            self.regs.gpr[3] = value;
+        }
+    }
+
+    /// Runs from now on, on this CPU and in this generation of its guest; at R2's address, where that isn't 0.
+    pub fn take_up(&mut self, cpu: u8, generation: u64, r2: u64)
+        ensures { self.new ≡ record { state = VState.Running cpu; generation = generation; regs = entered_at self.old.regs r2 } }
+    {
+        self.state = VState::Running(cpu);
+        self.generation = generation;
+        registers::interrupt(&mut self.regs, r2);
+    }
+
+    /// Has left, and waits. Its registers stay in its record.
+    pub fn park(&mut self, pending: Pending)
+        ensures { self.new ≡ record self.old { state = VState.Parked pending } }
+    {
+        self.state = VState::Parked(pending);
+    }
+}
