@@ -20,9 +20,10 @@ use Rattle.pef_pages.specs.Cells.{kind_of, mover_of, way_of}
 use Rattle.pef_pages.specs.Pages.{invalid_page, invalid_pages, page_at, held}
 use Rattle.std.proofs.lemmas.Bool.{false≢true}
 use Rattle.pef_guest.specs.declared.cpu.Cpu.{Cpu}
-use Rattle.pef_guest.specs.declared.vcpu.Vcpu.{Vcpu}
+use Rattle.pef_regs.specs.declared.vcpu.Vcpu.{Vcpu}
 use Rattle.pef_guest.specs.declared.guest.Guest.{Guest}
-use Rattle.pef_guest.specs.Start.{IsStartCpu, IsStartGuest, start_vcpu}
+use Rattle.pef_regs.specs.Start.{start_vcpu}
+use Rattle.pef_guest.specs.Start.{IsStartCpu, IsStartGuest}
 use Rattle.pef_guest.specs.Shows.{ShowsPages, ShowsVcpu, ShowsSealed, Shows, vcpu_at, kept_in}
 use Rattle.pef_core.specs.Normal.{NormalState, ShowsNormal, zero_frames}
 use Rattle.pef_core.specs.Start.{AreStartCpus, AreStartGuests, Begins}

@@ -13,7 +13,7 @@ use Rattle.pef_model.specs.Target.{Ask, uses_hand}
 use Rattle.pef_model.specs.Cpu.{CpuPart}
 use Rattle.pef_model.specs.Memory.{offset_by, offset_of, write_in, after_writes}
 use Rattle.pef_model.specs.Deed.{deed_frame, deed_frame_in}
-use Rattle.pef_model.specs.History.{ask_of, entry_of}
+use Rattle.pef_model.specs.History.{register_shown, ask_of, entry_of}
 use Rattle.pef_model.proofs.Folds.{same_test}
 use Rattle.pef_model.proofs.Written.{doubleword_overwrites, all_overwritten}
 use Rattle.pef_guest.specs.declared.cpu.Cpu.{Cpu}
@@ -82,8 +82,8 @@ module _ (cpu : Cpu) (frame : List ℕ) (hv : cpu.ctx ≡ ctx.Hv) (ra : ℕ) whe
 -- what the copy of a page-in learns of its CPU
 ask_in_reading : (c : CpuPart) (move : Move) → c.ctx ≡ ctx.Uv (Inward move) → move.copied ≡ false → ask_of c Go ≡ ask_reading move c
 ask_in_reading c move is copied =
-    (λ i. record { before = is i; lpid = c.lpid; vid = c.vid; last = c.last; hand = if uses_hand (is i) Go then c.hand else [] })
-    ∙ (λ i. record { before = ctx.Uv (Inward move); lpid = c.lpid; vid = c.vid; last = c.last; hand = if copied i then c.hand else [] })
+    (λ i. record { before = is i; lpid = c.lpid; vid = c.vid; last = c.last; hand = if uses_hand (is i) Go then c.hand else []; register = register_shown (is i) Go c.own })
+    ∙ (λ i. record { before = ctx.Uv (Inward move); lpid = c.lpid; vid = c.vid; last = c.last; hand = if copied i then c.hand else []; register = 0 })
 
 module _ (cpu cpu_new : Cpu) (frame frame_new : List ℕ) (a : Answer) (move : Move) (sized : length cpu.hand ≡ length frame) (step : a ≡ Step) where
   -- the copy of a page-in

@@ -162,6 +162,7 @@ module _ {S : Type 0} (takes : S → ℕ → ℕ → Type 0) (old : State S) (n 
       own_leaves ctx.Hv (answer.Ret code) h = λ refusal. on_cpu old n cpu there (λ c d. RefusesCpu c d code) new_cpu h
       own_leaves ctx.Hv answer.Hole h = on_cpu old n cpu there (λ c d. d ≡ record c { last = answer.Hole }) new_cpu h
       own_leaves ctx.Hv answer.Done h = tt
+      own_leaves ctx.Hv (answer.Val value) h = tt
       own_leaves c answer.Context h = on_cpu old n cpu there (λ c d. d ≡ c) new_cpu h
       own_leaves c b h = absurd h
 

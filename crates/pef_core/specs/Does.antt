@@ -66,6 +66,7 @@ abbrev pub RefusesOwn : Ctx → Cpu → Cpu → Answer → Type 0
 RefusesOwn ctx.Hv cpu cpu_new (answer.Ret code) = RefusesCpu cpu cpu_new code
 RefusesOwn ctx.Hv cpu cpu_new answer.Hole = cpu_new ≡ record cpu { last = answer.Hole }
 RefusesOwn ctx.Hv cpu cpu_new answer.Done = Unit {0}
+RefusesOwn ctx.Hv cpu cpu_new (answer.Val value) = Unit {0}
 RefusesOwn before cpu cpu_new answer.Context = cpu_new ≡ cpu
 RefusesOwn before cpu cpu_new other = ⊥
 

@@ -148,7 +148,7 @@ fn call<S: Seal>(guest: &mut Guest<S>, cpu: &mut Cpu, cmd: &Cmd) -> Answer
     ensures { (pool : PoolState) → DoesRow S.takes S.stands S.image cmd.now guest.old guest.new cpu.old cpu.new pool pool result }
 {
     match cmd {
-        Cmd::HEnter { vid, .. } => pef_reflect::enter_normal(guest, cpu, *vid),
+        Cmd::HEnter { vid, value, .. } => pef_reflect::enter_normal(guest, cpu, *vid, *value),
         Cmd::UPate { lpid, dw0, dw1 } => pef_reflect::write_entry(guest, cpu, *lpid, *dw0, *dw1),
         Cmd::URegslot {
             lpid,
@@ -226,9 +226,13 @@ fn command<S: Seal>(guest: &mut Guest<S>, cpu: &mut Cpu, run: Run, cmd: &Cmd) ->
         | Cmd::UPageout { .. }
         | Cmd::UReturn { .. } => pef_reflect::refuse_call(guest, cpu, run, cmd),
         Cmd::GLi { rd, value } => pef_reflect::load_immediate(guest, cpu, run, *rd, *value),
+        Cmd::GAdd { rd, ra, rb } => pef_reflect::add(guest, cpu, run, *rd, *ra, *rb),
+        Cmd::GXor { rd, ra, rb } => pef_reflect::exclusive_or(guest, cpu, run, *rd, *ra, *rb),
         Cmd::GLd { rd, gpa } => pef_access::load(guest, cpu, run, *rd, *gpa),
         Cmd::GSt { rs, gpa } => pef_access::store(guest, cpu, run, *rs, *gpa),
+        Cmd::GHcall => pef_reflect::hypercall(guest, cpu, run),
         Cmd::GIrq => pef_reflect::interrupt(guest, cpu, run),
+        Cmd::Dump { reg } => pef_reflect::show(guest, cpu, run, *reg),
         _ => unreachable!(),
     }
 }

@@ -1,10 +1,13 @@
 //! What a step did is what its entry tells.
 
-ghost use Rattle.std.specs.Prelude.{◌≡◌, ℕ, Option};
+ghost use Rattle.std.specs.Prelude.{◌≡◌, ℕ, Option, slice_index};
+ghost use Rattle.pef_model.specs.declared.hypercall.TheConstants.{HCALLS};
 ghost use Rattle.pef_model.specs.Registers.{arguments};
-ghost use Rattle.pef_model.specs.StepLaw.{let_out_running};
+ghost use Rattle.pef_model.specs.Hypercalls.{row_of};
+ghost use Rattle.pef_model.specs.StepLaw.{let_out_running, let_out_calling};
 ghost use Rattle.pef_core.specs.Did.{pool_seen, shown_of};
 
+use pef_calls::hcalls;
 use pef_guest::{Cpu, registers};
 use pef_model::{Answer, Cmd, Ctx, Exit, Exposed, PoolSaw, Saw};
 
@@ -59,8 +62,9 @@ pub(crate) fn pool_seen(touched: bool, free: u32, after: u32) -> Option<PoolSaw>
     })
 }
 
-/// The values that a guest lets out in a step that was looked at before: the arguments of its call that came back, what it
-/// stores in a normal frame, all its registers where it leaves in normal memory, and nothing by any other step.
+/// The values that a guest lets out in a step that was looked at before: the arguments of its call that came back, the number of
+/// a hypercall that was answered at once, that and the row's inputs of one that leaves, what it stores in a normal frame, all its
+/// registers where it leaves in normal memory, and nothing by any other step.
 pub(crate) fn let_out(look: &Look, cmd: &Cmd, answer: Answer) -> Exposed
     ensures { result ≡ shown_of look.now.before look.now.gpr cmd.now answer look.now.frame }
 {
@@ -75,12 +79,24 @@ fn let_out_running(gpr: &[u64; 32], cmd: &Cmd, answer: Answer, frame: Option<u32
     ensures { result ≡ let_out_running gpr.now cmd.now answer frame }
 {
     match (cmd, answer, frame) {
+        (Cmd::GHcall, Answer::Ret(_), _) => Exposed::of(&[gpr[3]]),
+        (Cmd::GHcall, Answer::Exit(Exit::Hcall(_)), _) => let_out_calling(gpr),
+        (Cmd::GHcall | Cmd::GIrq, Answer::Exit(Exit::Normal), _) => Exposed::of(gpr),
         (_, Answer::Ret(_), _) => arguments(cmd),
         (Cmd::GSt { rs, .. }, Answer::Done, Some(_)) => {
             Exposed::of(&[registers::value_of(gpr, *rs)])
         }
-        (Cmd::GIrq, Answer::Exit(Exit::Normal), _) => Exposed::of(gpr),
         _ => Exposed::nothing(),
+    }
+}
+
+/// The values that leave with the hypercall whose number R3 has: R3, and the inputs of its row, from R4 on.
+fn let_out_calling(gpr: &[u64; 32]) -> Exposed
+    ensures { result ≡ let_out_calling gpr.now (row_of HCALLS (slice_index gpr.now 3)) }
+{
+    match hcalls().row(gpr[3]) {
+        Some(row) => Exposed::of(&gpr[3..4 + row.inputs as usize]),
+        None => Exposed::nothing(),
     }
 }
 

@@ -157,10 +157,14 @@ fn asked_by_call<S: Seal>(guest: &Guest<S>, cmd: &Cmd) -> bool
         Cmd::URegslot { .. } => false,
         Cmd::UUnregslot { .. } => false,
         Cmd::GLi { .. } => false,
+        Cmd::GAdd { .. } => false,
+        Cmd::GXor { .. } => false,
         Cmd::GLd { .. } => false,
         Cmd::GSt { .. } => false,
+        Cmd::GHcall => false,
         Cmd::GIrq => false,
         Cmd::Go => false,
+        Cmd::Dump { .. } => false,
     }
 }
 
@@ -185,7 +189,11 @@ fn asked_by_command<S: Seal>(guest: &Guest<S>, run: Run, cmd: &Cmd) -> bool
         Cmd::HSelect { .. } => false,
         Cmd::HEnter { .. } => false,
         Cmd::GLi { .. } => false,
+        Cmd::GAdd { .. } => false,
+        Cmd::GXor { .. } => false,
+        Cmd::GHcall => false,
         Cmd::GIrq => false,
         Cmd::Go => false,
+        Cmd::Dump { .. } => false,
     }
 }

@@ -9,8 +9,8 @@ use pef_guest::{Cpu, registers};
 use pef_model::{Answer, Cmd, Code, Ctx};
 
 /// A command that aims at nothing, in a machine with so many guests of so many vCPUs each: Hole for a load or store of the
-/// hypervisor that has no frame, U_PARAMETER for what it names that is no guest, its selection of a vCPU, and Context for every
-/// other.
+/// hypervisor that has no frame, U_PARAMETER for what it names that is no guest, its selection of a vCPU, the register that it
+/// shows, and Context for every other.
 pub fn apply_own(cpu: &mut Cpu, cmd: &Cmd, guests: u16, vcpus: u8) -> Answer
     requires { MayAimAtNone cpu.old.ctx cpu.old.lpid cmd.now }
     ensures { DoesOwn guests vcpus cmd.now cpu.old cpu.new result }
@@ -40,10 +40,14 @@ fn hypervisor(cpu: &mut Cpu, cmd: &Cmd, guests: u16, vcpus: u8) -> Answer
         | Cmd::UPageout { .. } => names_no_guest(cpu, cmd),
         Cmd::UReturn { .. } => unreachable!(),
         Cmd::GLi { .. } => Answer::Context,
+        Cmd::GAdd { .. } => Answer::Context,
+        Cmd::GXor { .. } => Answer::Context,
         Cmd::GLd { .. } => Answer::Context,
         Cmd::GSt { .. } => Answer::Context,
+        Cmd::GHcall => Answer::Context,
         Cmd::GIrq => Answer::Context,
         Cmd::Go => Answer::Context,
+        Cmd::Dump { reg } => cpu.show(*reg),
     }
 }
 

@@ -3,6 +3,7 @@ use Rattle.std.proofs.Common.{◌≡◌, ℕ, ◌<◌, Bool, true, false, nat_lt
 use Rattle.std.proofs.lemmas.Bool.Decides.{nat_tests}
 use Rattle.pef_model.specs.declared.state.Phase.{Phase}
 use Rattle.pef_model.specs.declared.state.Phase.TheVariants as phase
+use Rattle.pef_model.specs.declared.state.Regs.{Regs}
 use Rattle.pef_model.specs.declared.state.Run.{Run}
 use Rattle.pef_model.specs.declared.state.Tag.{Tag}
 use Rattle.pef_model.specs.declared.command.Cmd.TheVariants.{HEnter}
@@ -11,11 +12,10 @@ use Rattle.pef_model.specs.declared.command.Code.TheVariants.{UParameter, UP2}
 use Rattle.pef_model.specs.Plan.{Plan}
 use Rattle.pef_model.specs.Event.{Mark}
 use Rattle.pef_model.specs.Cpu.{CpuPart}
-use Rattle.pef_model.specs.GuestPart.{with_running_vcpu}
-use Rattle.pef_model.specs.Guest.{Guest as GuestWhole}
+use Rattle.pef_model.specs.GuestPart.{put, with_running_vcpu}
+use Rattle.pef_model.specs.Guest.{Guest as GuestWhole, answered_with, entered_at}
 use Rattle.pef_model.specs.Deed.{returning}
 use Rattle.pef_model.specs.Entry.{may_enter_in, can_be_entered, enter_code}
-use Rattle.pef_model.proofs.Puts.{put-same}
 use Rattle.pef_guest.specs.declared.guest.Guest.{Guest}
 use Rattle.pef_guest.specs.Ready.{may_run_in}
 use Rattle.pef_guest.specs.Rows.{ask_hypervisor}
@@ -27,6 +27,10 @@ use Rattle.pef_reflect.proofs.TakenUp.{entering, EntersAlso}
 -- whether a guest has a vCPU of a number that h.enter enters
 abbrev pub enters_at : {S : Type 0} → Guest S → ℕ → Bool
 enters_at guest vid = nat_lt vid (length guest.vcpus.items) && can_be_entered (vcpu_at guest vid).state
+
+-- what it makes of the registers of such a vCPU: it gives R3 the answer of a hypercall, where one is waited for
+abbrev pub answering_in : {S : Type 0} → Guest S → ℕ → ℕ → Regs → Regs
+answering_in guest vid value regs = entered_at (answered_with (vcpu_at guest vid).state regs value) 0
 
 -- the code with which it comes back, by whether the guest is in normal memory and has such a vCPU
 abbrev code_by : Bool → Bool → Option Code
@@ -77,11 +81,12 @@ module _ {S : Type 0} (stands : S → Tag → List ℕ → List ℕ → Type 0) 
   refused_vcpu may none = refused UP2 (same_code true false may none)
 
   -- and enters where the model's does
-  pub enters_also : may_enter_in old.phase ≡ true → enters_at old vid ≡ true → EntersAlso (HEnter lpid vid value) 0 (λ own. own) run plan g c mark
-  enters_also may waits = record {
-    at = at;
-    at_is = λ i. record { lpid = sym named i; vid = vid; generation = shows.generation i };
-    deed = λ any. ap (λ (o : Option Code). returning (ask_hypervisor c) o (entering c at)) (sym (same_code true true may waits));
-    guest = λ i. record g { part = with_running_vcpu g.part vid mark.cpu; registers = λ n. sym (put-same g.registers vid n) i; clean = g.clean && true };
-    cpu = refl;
-  }
+  pub enters_also : may_enter_in old.phase ≡ true → enters_at old vid ≡ true → EntersAlso (HEnter lpid vid value) (answering_in old vid value) (λ own. own) run plan g c mark
+  enters_also may waits =
+      let state = (shows_own stands image plan old g vid shows (is_there old vid waits)).state in record {
+        at = at;
+        at_is = λ i. record { lpid = sym named i; vid = vid; generation = shows.generation i };
+        deed = λ any. ap (λ (o : Option Code). returning (ask_hypervisor c) o (entering c at)) (sym (same_code true true may waits));
+        guest = λ i. record g { part = with_running_vcpu g.part vid mark.cpu; registers = put g.registers vid (answered_with (sym state i) (g.registers vid) value); clean = g.clean && true };
+        cpu = refl;
+      }

@@ -7,3 +7,5 @@ mod LeaveRow
 mod GoneRow
 mod ReturnRow
 mod EnterRow
+mod CallRow
+mod ShowRow

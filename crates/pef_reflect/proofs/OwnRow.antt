@@ -20,12 +20,13 @@ use Rattle.pef_model.specs.Deed.{refused_with}
 use Rattle.pef_frames.specs.Pool.{PoolState}
 use Rattle.pef_guest.specs.declared.cpu.Cpu.{Cpu}
 use Rattle.pef_model.specs.declared.command.Code.{Code}
-use Rattle.pef_guest.specs.declared.vcpu.Vcpu.{Vcpu}
+use Rattle.pef_regs.specs.declared.vcpu.Vcpu.{Vcpu}
 use Rattle.pef_guest.specs.declared.guest.Guest.{Guest}
-use Rattle.pef_guest.specs.Start.{start_vcpu}
+use Rattle.pef_regs.specs.Start.{start_vcpu}
 use Rattle.pef_guest.specs.Ready.{IsRunning}
 use Rattle.pef_guest.specs.Refused.{RefusesVcpu, RefusesGuest}
-use Rattle.pef_guest.specs.Rows.{RowWithPool, entry_running, with_registers}
+use Rattle.pef_regs.specs.Registers.{with_registers}
+use Rattle.pef_guest.specs.Rows.{RowWithPool, entry_running}
 use Rattle.pef_guest.specs.Shows.{ShowsCpu, Shows, vcpu_at}
 use Rattle.pef_guest.specs.Aims.{frame_running}
 use Rattle.pef_guest.proofs.OneVcpu.{with_step, is_at, shows_registers, shows_stays}

@@ -58,7 +58,7 @@ module _ {S : Type 0} (stands : S → Tag → List ℕ → List ℕ → Type 0) 
       let state = (shows_own stands image plan old g cpu.vid shows below).state ∙ ap (λ (n : ℕ). (g.part.vcpus n).state) shows_cpu.vid in
       λ i. may_return_in (shows.phase i) && is_waiting (state i)
 
-  pub returns_also : returns_to old cpu.vid ≡ true → EntersAlso call r2 load run plan g c mark
+  pub returns_also : returns_to old cpu.vid ≡ true → EntersAlso call (λ regs. entered_at regs r2) load run plan g c mark
   returns_also may = record {
     at = at;
     at_is = λ i. record { lpid = shows_cpu.lpid i; vid = shows_cpu.vid i; generation = shows.generation i };

@@ -1,6 +1,7 @@
 -- A vCPU that the hypervisor takes up: what UV_RETURN and h.enter have in common.
 use Rattle.std.proofs.Common.{◌≡◌, ℕ, ◌<◌, Bool, true, List, length, refl, ap, sym, subst, inl}
 use Rattle.pef_model.specs.declared.state.Tag.{Tag}
+use Rattle.pef_model.specs.declared.state.Regs.{Regs}
 use Rattle.pef_model.specs.declared.state.Run.{Run}
 use Rattle.pef_model.specs.declared.state.Ctx.TheVariants as ctx
 use Rattle.pef_model.specs.declared.state.VState.TheVariants.{Running}
@@ -10,13 +11,13 @@ use Rattle.pef_model.specs.Plan.{Plan}
 use Rattle.pef_model.specs.Event.{Event, Mark}
 use Rattle.pef_model.specs.Cpu.{CpuPart, next_cpu}
 use Rattle.pef_model.specs.GuestPart.{with_running_vcpu}
-use Rattle.pef_model.specs.Guest.{Guest as GuestWhole, entered_at, next_guest}
+use Rattle.pef_model.specs.Guest.{Guest as GuestWhole, next_guest}
 use Rattle.pef_model.specs.Deed.{Deed, answering, deed_hypervisor}
 use Rattle.pef_model.specs.History.{entry_of}
 use Rattle.pef_frames.specs.Pool.{PoolState}
 use Rattle.pef_guest.specs.declared.cpu.Cpu.{Cpu}
 use Rattle.pef_guest.specs.declared.guest.Guest.{Guest}
-use Rattle.pef_guest.specs.declared.vcpu.Vcpu.{Vcpu}
+use Rattle.pef_regs.specs.declared.vcpu.Vcpu.{Vcpu}
 use Rattle.pef_guest.specs.Does.{is_any_free, DoesRow}
 use Rattle.pef_guest.specs.Keeps.{KeepsGuest}
 use Rattle.pef_guest.specs.Ready.{may_run_in}
@@ -34,19 +35,19 @@ entering c at = record (answering (ask_hypervisor c) Enter) { after = ctx.Guest 
 abbrev pub entry_entering : Cmd → CpuPart → Mark → Run → Event
 entry_entering cmd c mark at = entry_of (ask_hypervisor c) mark cmd (entering c at)
 
--- in the model a command takes a vCPU up, at R2's address, where that isn't 0
-pub record EntersAlso (cmd : Cmd) (r2 : ℕ) (load : List ℕ → List ℕ) (run : Run) (plan : Plan) (g : GuestWhole) (c : CpuPart) (mark : Mark) : Type 0 where
+-- in the model a command takes a vCPU up, and changes its registers so
+pub record EntersAlso (cmd : Cmd) (change : Regs → Regs) (load : List ℕ → List ℕ) (run : Run) (plan : Plan) (g : GuestWhole) (c : CpuPart) (mark : Mark) : Type 0 where
   pub at : Run
   pub at_is : run ≡ at
   pub deed : (any : Bool) → deed_hypervisor plan g any (ask_hypervisor c) cmd ≡ entering c at
-  pub guest : next_guest plan g (entry_entering cmd c mark at) ≡ stepped g run.vid (with_running_vcpu g.part run.vid mark.cpu) g.content (entered_at (g.registers run.vid) r2) (next_guest plan g (entry_entering cmd c mark at)).clean
+  pub guest : next_guest plan g (entry_entering cmd c mark at) ≡ stepped g run.vid (with_running_vcpu g.part run.vid mark.cpu) g.content (change (g.registers run.vid)) (next_guest plan g (entry_entering cmd c mark at)).clean
   pub cpu : next_cpu c (entry_entering cmd c mark at) ≡ record c { ctx = ctx.Guest at; own = load c.own; last = Enter }
 
-module _ {S : Type 0} (takes : S → ℕ → ℕ → Type 0) (stands : S → Tag → List ℕ → List ℕ → Type 0) (image : S → Tag → List ℕ → List ℕ) (cmd : Cmd) (r2 : ℕ) (load : List ℕ → List ℕ) (old : Guest S) (cpu : Cpu) (pool : PoolState) (run : Run) (generation : run.generation ≡ old.generation)
+module _ {S : Type 0} (takes : S → ℕ → ℕ → Type 0) (stands : S → Tag → List ℕ → List ℕ → Type 0) (image : S → Tag → List ℕ → List ℕ) (cmd : Cmd) (change : Regs → Regs) (load : List ℕ → List ℕ) (old : Guest S) (cpu : Cpu) (pool : PoolState) (run : Run) (generation : run.generation ≡ old.generation)
     (below : run.vid < length old.vcpus.items) where
   -- the vCPU runs on the CPU
   abbrev vcpu : Vcpu
-  vcpu = record { state = Running cpu.number; generation = run.generation; regs = entered_at (vcpu_at old run.vid).regs r2 }
+  vcpu = record { state = Running cpu.number; generation = run.generation; regs = change (vcpu_at old run.vid).regs }
 
   -- the guest, and the CPU with the command's registers
   abbrev taken_up : Guest S
@@ -57,10 +58,10 @@ module _ {S : Type 0} (takes : S → ℕ → ℕ → Type 0) (stands : S → Tag
 
   -- the guest is that of the model
   shows_taken : {clean : Bool} (plan : Plan) (g : GuestWhole) (mark : Mark) → mark.cpu ≡ cpu.number → Shows stands image plan old g →
-      Shows stands image plan taken_up (stepped g run.vid (with_running_vcpu g.part run.vid mark.cpu) g.content (entered_at (g.registers run.vid) r2) clean)
-  shows_taken {clean = clean} plan g mark marked shows = rw (marked, generation) (shows_running stands image plan old g run.vid shows below cpu.number r2)
+      Shows stands image plan taken_up (stepped g run.vid (with_running_vcpu g.part run.vid mark.cpu) g.content (change (g.registers run.vid)) clean)
+  shows_taken {clean = clean} plan g mark marked shows = rw (marked, generation) (shows_running stands image plan old g run.vid shows below cpu.number change)
 
-  row : (plan : Plan) (g : GuestWhole) (any : Bool) (c : CpuPart) (mark : Mark) → mark.cpu ≡ cpu.number → Shows stands image plan old g → ShowsCpu cpu c → EntersAlso cmd r2 load run plan g c mark →
+  row : (plan : Plan) (g : GuestWhole) (any : Bool) (c : CpuPart) (mark : Mark) → mark.cpu ≡ cpu.number → Shows stands image plan old g → ShowsCpu cpu c → EntersAlso cmd change load run plan g c mark →
       RowWithPool stands image plan g c (entry_of (ask_hypervisor c) mark cmd (deed_hypervisor plan g any (ask_hypervisor c) cmd)) taken_up entered (length pool.free) (length pool.free) Enter
   row plan g any c mark marked shows shows_cpu also =
       subst (λ (deed : Deed). RowWithPool stands image plan g c (entry_of (ask_hypervisor c) mark cmd deed) taken_up entered (length pool.free) (length pool.free) Enter) (sym (also.deed any)) (record {
@@ -84,7 +85,7 @@ module _ {S : Type 0} (takes : S → ℕ → ℕ → Type 0) (stands : S → Tag
 
   -- such a command does its row
   pub takes_up : cpu.ctx ≡ ctx.Hv → run.lpid ≡ old.lpid → may_run_in old.phase ≡ true → IsWhole takes old →
-      ((plan : Plan) (g : GuestWhole) (c : CpuPart) (mark : Mark) → Shows stands image plan old g → ShowsCpu cpu c → EntersAlso cmd r2 load run plan g c mark) → DoesRow takes stands image cmd old taken_up cpu entered pool pool Enter
+      ((plan : Plan) (g : GuestWhole) (c : CpuPart) (mark : Mark) → Shows stands image plan old g → ShowsCpu cpu c → EntersAlso cmd change load run plan g c mark) → DoesRow takes stands image cmd old taken_up cpu entered pool pool Enter
   takes_up hv lpid may whole also = record {
     whole = whole_vcpu takes old run.vid vcpu whole;
     keeps = keeps;

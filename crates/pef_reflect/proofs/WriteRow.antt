@@ -24,7 +24,7 @@ use Rattle.pef_model.specs.History.{entry_of}
 use Rattle.pef_frames.specs.Pool.{PoolState}
 use Rattle.pef_pate.specs.declared.pate.Pate.{Pate}
 use Rattle.pef_guest.specs.declared.cpu.Cpu.{Cpu}
-use Rattle.pef_guest.specs.declared.vcpu.Vcpu.{Vcpu}
+use Rattle.pef_regs.specs.declared.vcpu.Vcpu.{Vcpu}
 use Rattle.pef_guest.specs.declared.guest.Guest.{Guest}
 use Rattle.pef_guest.specs.Aims.{changes_life}
 use Rattle.pef_guest.specs.Does.{DoesRow}
@@ -33,7 +33,7 @@ use Rattle.pef_guest.specs.Ready.{WorksAt}
 use Rattle.pef_guest.specs.Refused.{RefusesCpu}
 use Rattle.pef_guest.specs.Rows.{RowWithPool, ask_hypervisor}
 use Rattle.pef_guest.specs.Shows.{ShowsCpu, Shows, ShowsVcpu}
-use Rattle.pef_guest.specs.Start.{start_vcpu}
+use Rattle.pef_regs.specs.Start.{start_vcpu}
 use Rattle.pef_guest.specs.Whole.{IsOutside, IsWhole}
 use Rattle.pef_guest.proofs.Asked.{frames_stay, makes_hypervisor}
 use Rattle.pef_guest.proofs.OnePage.{shows_counted}

@@ -1,2 +1,3 @@
+pub mod Leave
 pub mod Write
 pub mod Slots

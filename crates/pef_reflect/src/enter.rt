@@ -51,16 +51,16 @@ pub fn uv_return<S: Seal>(
 }
 
 /// `h.enter` of the hypervisor: a vCPU, by its number from 0, of a guest in normal memory runs from now on, in the guest's
-/// generation. It keeps its registers, since the command's value is for R3 of one that asked for it, and none does; and the
-/// CPU keeps its selection. The guest is the one that the command names.
+/// generation. R3 of one that waits for the answer of a hypercall has the value from now on; every other register is as it was, and
+/// so is each of one that doesn't wait for it. The CPU keeps its selection. The guest is the one that the command names.
 ///
 /// U_PARAMETER where the guest isn't Normal; U_P2 where it has no such vCPU, or where the vCPU is neither Idle nor Parked. It
 /// is no ultracall, so it loads no register: one that comes back has its code in R3. This project's own.
-pub fn enter_normal<S: Seal>(guest: &mut Guest<S>, cpu: &mut Cpu, vid: u64) -> Answer
+pub fn enter_normal<S: Seal>(guest: &mut Guest<S>, cpu: &mut Cpu, vid: u64, value: u64) -> Answer
     requires hypervisor { cpu.old.ctx ≡ Ctx.Hv }
     requires whole { IsWhole S.takes guest.old }
     requires steps { guest.old.steps < 2 ^ 63 }
-    ensures { (pool : PoolState) (lpid value : ℕ) → lpid ≡ guest.old.lpid → DoesRow S.takes S.stands S.image (Cmd.HEnter lpid vid value) guest.old guest.new cpu.old cpu.new pool pool result }
+    ensures { (pool : PoolState) (lpid : ℕ) → lpid ≡ guest.old.lpid → DoesRow S.takes S.stands S.image (Cmd.HEnter lpid vid value) guest.old guest.new cpu.old cpu.new pool pool result }
 {
     guest.steps += 1;
     if !guest.may_enter() {
@@ -74,7 +74,10 @@ pub fn enter_normal<S: Seal>(guest: &mut Guest<S>, cpu: &mut Cpu, vid: u64) -> A
         vid: vid as u8,
         generation: guest.generation,
     };
-    take_up(guest, cpu, run, 0)
+    let vcpu = &mut guest.vcpus[run.vid as usize];
+    vcpu.give_answer(value);
+    vcpu.take_up(cpu.number, run.generation, 0);
+    cpu.enter(run)
 }
 
 /// Whether UV_RETURN takes up a vCPU of a guest.

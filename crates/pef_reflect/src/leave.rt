@@ -1,16 +1,16 @@
 //! A vCPU leaves its CPU at an interrupt, and a CPU leaves a guest that has ended.
 
-ghost use Rattle.std.specs.Prelude.{◌≡◌, ◌≢◌, ℕ, ◌^◌, ◌<◌, List};
+ghost use Rattle.std.specs.Prelude.{◌≡◌, ◌≢◌, ◌^◌, ◌<◌};
 ghost use Rattle.pef_model.specs.declared.command.Cmd.{Cmd};
-ghost use Rattle.pef_model.specs.Target.{Ask};
-ghost use Rattle.pef_model.specs.Deed.{deed_interrupt};
 ghost use Rattle.pef_frames.specs.Pool.{PoolState};
 ghost use Rattle.pef_guest.specs.Whole.{IsWhole};
+ghost use Rattle.pef_guest.specs.Leaves.{leaving};
 ghost use Rattle.pef_guest.specs.Ready.{IsRunning};
 ghost use Rattle.pef_guest.specs.Does.{DoesRow};
+ghost use Rattle.pef_reflect.specs.Leave.{exit_in};
 
 use pef_guest::{Cpu, Guest};
-use pef_model::{Answer, Ctx, Exit, Pending, Phase, Run};
+use pef_model::{Answer, Ctx, Pending, Phase, Run};
 use pef_seal::Seal;
 
 /// An external interrupt takes the vCPU from its CPU: it is parked. Where its guest is in normal memory the CPU shows all its
@@ -22,19 +22,22 @@ pub fn interrupt<S: Seal>(guest: &mut Guest<S>, cpu: &mut Cpu, run: Run) -> Answ
     ensures { (pool : PoolState) → DoesRow S.takes S.stands S.image Cmd.GIrq guest.old guest.new cpu.old cpu.new pool pool result }
 {
     guest.steps += 1;
-    let exit = exit_in(guest.phase);
+    let phase = guest.phase;
     let vcpu = &mut guest.vcpus[run.vid as usize];
     vcpu.park(Pending::Irq);
-    cpu.leave(run, exit, &vcpu.regs.gpr)
+    show_exit(cpu, run, phase, &vcpu.regs.gpr)
 }
 
-/// How an interrupt takes a vCPU of a guest in this phase from its CPU.
-fn exit_in(phase: Phase) -> Exit
-    ensures { (gpr : List ℕ) (ask : Ask) → (deed_interrupt phase gpr ask).answer ≡ Answer.Exit result }
+/// The CPU shows how an interrupt takes a vCPU of a guest in this phase from it.
+fn show_exit(cpu: &mut Cpu, run: Run, phase: Phase, gpr: &[u64; 32]) -> Answer
+    ensures answer { result ≡ Answer.Exit (exit_in phase) }
+    ensures cpu { cpu.new ≡ leaving cpu.old run (exit_in phase) gpr.now }
 {
     match phase {
-        Phase::Normal => Exit::Normal,
-        Phase::Absent | Phase::Starting | Phase::Secure | Phase::Aborting => Exit::Irq,
+        Phase::Normal => cpu.leave_normal(run, gpr),
+        Phase::Absent | Phase::Starting | Phase::Secure | Phase::Aborting => {
+            cpu.leave_interrupted(run)
+        }
     }
 }
 

@@ -15,7 +15,7 @@ returns-in-HEnter g c pool =
     let named : guest_aimed ctx.Hv c.args.cpu.now.lpid (HEnter c.in-HEnter.lpid c.in-HEnter.vid c.in-HEnter.value) ≡ Some c.args.guest.now.lpid =
     subst (λ (cmd : Cmd). guest_aimed ctx.Hv c.args.cpu.now.lpid cmd ≡ Some c.args.guest.now.lpid) c.in-HEnter.is (subst (λ (before : Ctx). guest_aimed before c.args.cpu.now.lpid c.args.cmd.now ≡ Some c.args.guest.now.lpid) c.requires.hypervisor c.requires.ready.aims) in
     cc in
-    rw c.in-HEnter.is (c.enter_normal.ensures pool c.in-HEnter.lpid c.in-HEnter.value is)
+    rw c.in-HEnter.is (c.enter_normal.ensures pool c.in-HEnter.lpid is)
 
 pub returns-in-UPate : goal.returns-in-UPate
 returns-in-UPate g c pool = rw c.in-UPate.is (c.write_entry.ensures pool)

@@ -4,11 +4,11 @@ use Rattle.pef_model.specs.declared.state.Ctx.TheVariants as ctx
 use Rattle.pef_model.specs.declared.state.Work.TheVariants.{Inward, Outward}
 use Rattle.pef_model.specs.declared.command.Cmd.TheVariants.{Go}
 use Rattle.pef_model.specs.Target.{Ask}
-use Rattle.pef_model.specs.Deed.{deed_guest}
+use Rattle.pef_model.specs.Deed.{Deed, deed_guest}
 use Rattle.pef_guest.specs.Aims.{guest_aimed}
 use Rattle.pef_guest.specs.Ready.{ReadyIn}
 use Rattle.pef_guest.specs.Rows.{ask_hypervisor, ask_outward}
-use Rattle.pef_guest.proofs.Asked.{ask_in_hypervisor}
+use Rattle.pef_guest.proofs.Asked.{ask_in_hypervisor, deed_in_hypervisor}
 use Rattle.pef_move.proofs.Bundle.{ask_in_inward, ask_in_outward, clean_end}
 use Rattle.pef_core.proofs.Touching.{ends_in, ends_out}
 use Rattle.pef_core.proofs.lent.touches_pool.Goals as goal
@@ -17,6 +17,7 @@ use Rattle.pef_core.proofs.lent.touches_pool.Goals as goal
 pub returns-in-Hv-clause-model : goal.returns-in-Hv-clause-model
 returns-in-Hv-clause-model g c plan guest found any part mark shows shows_cpu clean =
     ap (λ (ask : Ask). is_some (deed_guest plan guest found any ask c.args.cmd.now).pool) (ask_in_hypervisor part c.args.cmd.now (sym shows_cpu.ctx ∙ c.in-Hv.is))
+    ∙ ap (λ (deed : Deed). is_some deed.pool) (deed_in_hypervisor plan guest found any part c.args.cmd.now)
     ∙ c.asked_by_call.ensures.model plan guest any (ask_hypervisor part) shows
 
 -- the ends of a page's move

@@ -2,7 +2,7 @@ use Rattle.std.proofs.Common.{ap}
 use Rattle.std.specs.Vec.{with_item}
 use Rattle.pef_model.specs.declared.state.VState.TheVariants.{Running}
 use Rattle.pef_model.specs.Guest.{entered_at}
-use Rattle.pef_guest.specs.declared.vcpu.Vcpu.{Vcpu}
+use Rattle.pef_regs.specs.declared.vcpu.Vcpu.{Vcpu}
 use Rattle.pef_guest.proofs.OneVcpu.{is_at}
 use Rattle.pef_reflect.proofs.enter.take_up.Goals as goal
 

@@ -1,5 +1,5 @@
 use Rattle.std.proofs.Common.{rules, ◌-◌, ◌<◌, length, replicate, sym, subst, ◌∙◌}
-use Rattle.pef_guest.specs.declared.vcpu.Vcpu.{Vcpu}
+use Rattle.pef_regs.specs.declared.vcpu.Vcpu.{Vcpu}
 use Rattle.pef_guest.proofs.OneVcpu.{is_at}
 use Rattle.pef_core.specs.State.{State}
 use Rattle.pef_core.specs.Did.{HasRegisters}
