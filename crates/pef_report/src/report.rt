@@ -9,7 +9,7 @@ ghost use Rattle.pef_model.specs.Report.{answer_text, is_zero, frame_line, free_
 ghost use Rattle.pef_report.specs.Text.{line_text};
 
 use crate::line::LineText;
-use crate::names::{name_of, name_of_code};
+use crate::names::{name_of, name_of_code, name_of_hypercall};
 use pef_io::{Failed, Sink, put};
 use pef_model::{Answer, Cmd, Exit};
 use sha2::{Digest, Sha256};
@@ -34,6 +34,10 @@ fn push_answer(line: &mut LineText, answer: &Answer)
         Answer::Enter => line.push(b"enter"),
         Answer::Exit(Exit::Normal) => line.push(b"exit normal"),
         Answer::Exit(Exit::Irq) => line.push(b"exit irq"),
+        Answer::Exit(Exit::Hcall(number)) => {
+            line.push(b"exit ");
+            line.push(name_of_hypercall(*number));
+        }
         Answer::Again => line.push(b"again"),
         Answer::Gone => line.push(b"gone"),
         Answer::Hole => line.push(b"hole"),

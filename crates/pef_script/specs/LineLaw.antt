@@ -3,7 +3,7 @@ use Rattle.std.specs.Prelude.{◌≡◌, ℕ, ◌+◌, List, [], ◌∷◌, ◌+
 use Rattle.std.specs.List.{flat_map}
 use Rattle.pef_model.specs.declared.command.Directive.{Directive}
 use Rattle.pef_model.specs.declared.command.Directive.TheVariants.{Once, GoAll}
-use Rattle.pef_model.specs.declared.command.Cmd.TheVariants.{HLd, HSt, HSelect, HEnter, UPate, URegslot, UUnregslot, UPagein, UPageout, UReturn, GLi, GLd, GSt, GIrq, Go}
+use Rattle.pef_model.specs.declared.command.Cmd.TheVariants.{HLd, HSt, HSelect, HEnter, UPate, URegslot, UUnregslot, UPagein, UPageout, UReturn, GLi, GAdd, GXor, GLd, GSt, GHcall, GIrq, Go, Dump}
 use Rattle.pef_model.specs.Plan.{default_config}
 use Rattle.pef_model.specs.RunLaw.{store_script}
 use Rattle.pef_script.specs.declared.fault.Cause.{Cause}
@@ -47,11 +47,15 @@ pub record EachCommandIsRead : Type 0 where
   pub returns_nine : IsRead (codes "0 u.return 1 2 3 4 5 6 7 8 9 10 11\n") (Once (UReturn 1 2 (3 ∷ 4 ∷ 5 ∷ 6 ∷ 7 ∷ 8 ∷ 9 ∷ 10 ∷ 11 ∷ [])))
   pub immediate : IsReadWith (codes "0 g.li r2 7\n") 7 (Once (GLi 2 7))
   pub pair : IsReadWith (codes "0 g.li r2 7|9\n") 9 (Once (GLi 2 7))
+  pub add : IsRead (codes "0 g.add r2 r3 r4\n") (Once (GAdd 2 3 4))
+  pub exclusive : IsRead (codes "0 g.xor r31 r0 r9\n") (Once (GXor 31 0 9))
   pub guest_load : IsRead (codes "0 g.ld r2 8\n") (Once (GLd 2 8))
   pub guest_store : IsRead (codes "0 g.st r2 8\n") (Once (GSt 2 8))
+  pub hypercall : IsRead (codes "0 g.hcall\n") (Once GHcall)
   pub interrupt : IsRead (codes "0 g.irq\n") (Once GIrq)
   pub go : IsRead (codes "0 go\n") (Once Go)
   pub go_all : IsRead (codes "0 go*\n") GoAll
+  pub dump : IsRead (codes "0 dump r31\n") (Once (Dump 31))
   pub script : script_of (codes "pef 1\nborn 1\nbegin\n0 u.return 0 0\n0 g.li r20 7\n0 g.st r20 0x0\n0 g.ld r6 0x0\n") ≡ Some store_script
 
 -- spaces, ends of lines, and the CPU
@@ -107,11 +111,15 @@ commands =
     ∷ command (codes "u.pageout") (codes "0" ∷ codes "0" ∷ codes "0" ∷ codes "0" ∷ codes "0" ∷ [])
     ∷ record { name = codes "u.return"; operands = codes "0" ∷ codes "0" ∷ []; more = 9 }
     ∷ command (codes "g.li") (codes "r0" ∷ codes "0" ∷ [])
+    ∷ command (codes "g.add") (codes "r0" ∷ codes "r0" ∷ codes "r0" ∷ [])
+    ∷ command (codes "g.xor") (codes "r0" ∷ codes "r0" ∷ codes "r0" ∷ [])
     ∷ command (codes "g.ld") (codes "r0" ∷ codes "0" ∷ [])
     ∷ command (codes "g.st") (codes "r0" ∷ codes "0" ∷ [])
+    ∷ command (codes "g.hcall") []
     ∷ command (codes "g.irq") []
     ∷ command (codes "go") []
     ∷ command (codes "go*") []
+    ∷ command (codes "dump") (codes "r0" ∷ [])
     ∷ []
 
 -- those that have operands

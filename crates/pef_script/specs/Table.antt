@@ -2,7 +2,7 @@
 use Rattle.std.specs.Prelude.{ℕ, List, [], ◌∷◌, map, replicate, slice_index, codes, Option}
 use Rattle.std.specs.List.{find}
 use Rattle.std.specs.Str.{bytes_eq}
-use Rattle.pef_model.specs.declared.command.Cmd.TheVariants.{HLd, HSt, HSelect, HEnter, UPate, URegslot, UUnregslot, UPagein, UPageout, UReturn, GLi, GLd, GSt, GIrq, Go}
+use Rattle.pef_model.specs.declared.command.Cmd.TheVariants.{HLd, HSt, HSelect, HEnter, UPate, URegslot, UUnregslot, UPagein, UPageout, UReturn, GLi, GAdd, GXor, GLd, GSt, GHcall, GIrq, Go, Dump}
 use Rattle.pef_model.specs.declared.command.Directive.{Directive}
 use Rattle.pef_model.specs.declared.command.Directive.TheVariants.{Once, GoAll}
 use Rattle.pef_script.specs.declared.table.Kind.{Kind}
@@ -52,15 +52,19 @@ shape w.UPagein = row (codes "u.pagein") (Number ∷ Number ∷ Number ∷ Numbe
 shape w.UPageout = row (codes "u.pageout") (Number ∷ Number ∷ Number ∷ Number ∷ Number ∷ []) (λ o. Once (UPageout (at o 0) (at o 1) (at o 2) (at o 3) (at o 4)))
 shape w.UReturn = record (row (codes "u.return") (Number ∷ Number ∷ []) (λ o. Once (UReturn (at o 0) (at o 1) (outputs o)))) { more = 9 }
 shape w.GLi = row (codes "g.li") (Register ∷ Pair ∷ []) (λ o. Once (GLi (reg o 0) (at o 1)))
+shape w.GAdd = row (codes "g.add") (Register ∷ Register ∷ Register ∷ []) (λ o. Once (GAdd (reg o 0) (reg o 1) (reg o 2)))
+shape w.GXor = row (codes "g.xor") (Register ∷ Register ∷ Register ∷ []) (λ o. Once (GXor (reg o 0) (reg o 1) (reg o 2)))
 shape w.GLd = row (codes "g.ld") (Register ∷ Number ∷ []) (λ o. Once (GLd (reg o 0) (at o 1)))
 shape w.GSt = row (codes "g.st") (Register ∷ Number ∷ []) (λ o. Once (GSt (reg o 0) (at o 1)))
+shape w.GHcall = row (codes "g.hcall") [] (λ o. Once GHcall)
 shape w.GIrq = row (codes "g.irq") [] (λ o. Once GIrq)
 shape w.Go = row (codes "go") [] (λ o. Once Go)
 shape w.GoAll = row (codes "go*") [] (λ o. GoAll)
+shape w.Dump = row (codes "dump") (Register ∷ []) (λ o. Once (Dump (reg o 0)))
 
 -- the commands that there are
 abbrev pub words : List Word
-words = w.HLd ∷ w.HSt ∷ w.HSelect ∷ w.HEnter ∷ w.UPate ∷ w.URegslot ∷ w.UUnregslot ∷ w.UPagein ∷ w.UPageout ∷ w.UReturn ∷ w.GLi ∷ w.GLd ∷ w.GSt ∷ w.GIrq ∷ w.Go ∷ w.GoAll ∷ []
+words = w.HLd ∷ w.HSt ∷ w.HSelect ∷ w.HEnter ∷ w.UPate ∷ w.URegslot ∷ w.UUnregslot ∷ w.UPagein ∷ w.UPageout ∷ w.UReturn ∷ w.GLi ∷ w.GAdd ∷ w.GXor ∷ w.GLd ∷ w.GSt ∷ w.GHcall ∷ w.GIrq ∷ w.Go ∷ w.GoAll ∷ w.Dump ∷ []
 
 -- the command of a name
 unfoldable pub word_named : List ℕ → Option Word

@@ -8,7 +8,7 @@ use Rattle.pef_model.specs.declared.config.EntropyWord.{EntropyWord}
 use Rattle.pef_model.specs.declared.command.Directive.{Directive}
 use Rattle.pef_model.specs.declared.command.Directive.TheVariants.{Once, GoAll}
 use Rattle.pef_model.specs.declared.command.Cmd.{Cmd}
-use Rattle.pef_model.specs.declared.command.Cmd.TheVariants.{HLd, HSt, HSelect, HEnter, UPate, URegslot, UUnregslot, UPagein, UPageout, UReturn, GLi, GLd, GSt}
+use Rattle.pef_model.specs.declared.command.Cmd.TheVariants.{HLd, HSt, HSelect, HEnter, UPate, URegslot, UUnregslot, UPagein, UPageout, UReturn, GLi, GAdd, GXor, GLd, GSt, Dump}
 use Rattle.pef_model.specs.Plan.{IsInRange}
 use Rattle.pef_model.specs.Report.{command_name}
 use Rattle.pef_script.specs.Line.{ReadLine}
@@ -57,8 +57,11 @@ command_operands right (UPagein lpid src gpa flags order) = Number lpid ∷ Numb
 command_operands right (UPageout lpid dest gpa flags order) = Number lpid ∷ Number dest ∷ Number gpa ∷ Number flags ∷ Number order ∷ []
 command_operands right (UReturn r0 r2 outs) = Number r0 ∷ Number r2 ∷ map (λ out. Number out) outs
 command_operands right (GLi rd value) = Register rd ∷ Pair value right ∷ []
+command_operands right (GAdd rd ra rb) = Register rd ∷ Register ra ∷ Register rb ∷ []
+command_operands right (GXor rd ra rb) = Register rd ∷ Register ra ∷ Register rb ∷ []
 command_operands right (GLd rd gpa) = Register rd ∷ Number gpa ∷ []
 command_operands right (GSt rs gpa) = Register rs ∷ Number gpa ∷ []
+command_operands right (Dump reg) = Register reg ∷ []
 command_operands right cmd = []
 
 -- the name of what a line tells its CPU to do

@@ -32,11 +32,15 @@ pub enum Word {
     UPageout,
     UReturn,
     GLi,
+    GAdd,
+    GXor,
     GLd,
     GSt,
+    GHcall,
     GIrq,
     Go,
     GoAll,
+    Dump,
 }
 
 /// The operands of a line, each at its place: a number, or a pair's left number, in `numbers`, a register in `registers`,
@@ -75,7 +79,7 @@ macro_rules! row {
 }
 
 /// The commands of a script.
-pub static TABLE: [Row; 16] = [
+pub static TABLE: [Row; 20] = [
     row!(b"h.ld", [N], 0, HLd),
     row!(b"h.st", [N, N], 0, HSt),
     row!(b"h.select", [N, N], 0, HSelect),
@@ -87,11 +91,15 @@ pub static TABLE: [Row; 16] = [
     row!(b"u.pageout", [N, N, N, N, N], 0, UPageout),
     row!(b"u.return", [N, N], 9, UReturn),
     row!(b"g.li", [R, P], 0, GLi),
+    row!(b"g.add", [R, R, R], 0, GAdd),
+    row!(b"g.xor", [R, R, R], 0, GXor),
     row!(b"g.ld", [R, N], 0, GLd),
     row!(b"g.st", [R, N], 0, GSt),
+    row!(b"g.hcall", [], 0, GHcall),
     row!(b"g.irq", [], 0, GIrq),
     row!(b"go", [], 0, Go),
     row!(b"go*", [], 0, GoAll),
+    row!(b"dump", [R], 0, Dump),
 ];
 
 /// The first row of a name.
@@ -168,6 +176,16 @@ pub fn made(word: Word, o: &Operands) -> Directive
             rd: r[0],
             value: n[1],
         },
+        Word::GAdd => Cmd::GAdd {
+            rd: r[0],
+            ra: r[1],
+            rb: r[2],
+        },
+        Word::GXor => Cmd::GXor {
+            rd: r[0],
+            ra: r[1],
+            rb: r[2],
+        },
         Word::GLd => Cmd::GLd {
             rd: r[0],
             gpa: n[1],
@@ -176,9 +194,11 @@ pub fn made(word: Word, o: &Operands) -> Directive
             rs: r[0],
             gpa: n[1],
         },
+        Word::GHcall => Cmd::GHcall,
         Word::GIrq => Cmd::GIrq,
         Word::Go => Cmd::Go,
         Word::GoAll => return Directive::GoAll,
+        Word::Dump => Cmd::Dump { reg: r[0] },
     })
 }
 

@@ -21,7 +21,13 @@ fn an_answer_that_few_scripts_get_has_its_words(rt: HostRuntime) -> Result<(), F
         &Answer::Exit(Exit::Normal),
         "12 3 g.irq exit normal\n",
     )?;
-    prints(&rt, rt.alloc(), &Answer::Nothing, "12 3 g.irq nothing\n")
+    prints(&rt, rt.alloc(), &Answer::Nothing, "12 3 g.irq nothing\n")?;
+    prints(
+        &rt,
+        rt.alloc(),
+        &Answer::Exit(Exit::Hcall(3)),
+        "12 3 g.irq exit H_SVM_INIT_ABORT\n",
+    )
 }
 
 #[test]
