@@ -11,6 +11,7 @@ use Rattle.pef_model.specs.declared.command.Cmd.{Cmd}
 use Rattle.pef_model.specs.declared.command.Cmd.TheVariants.{HLd, UPate, URegslot, UUnregslot, UPagein, UPageout, UReturn}
 use Rattle.pef_model.specs.Registers.{Call, number_of, call_of, with_call, with_return, loaded, with_code, value_of_call, value_loaded, value_returned}
 use Rattle.pef_model.specs.Commands.{IsCommand}
+use Rattle.pef_model.proofs.Folds.{test_same}
 
 -- a call's operands are registers from R4 on
 abbrev HasRoom : Option Call → Type 0
@@ -40,51 +41,63 @@ length_return gpr cmd full = full
 pub length_loaded : (gpr : List ℕ) (cmd : Cmd) → IsCommand cmd → length gpr ≡ 32 → length (loaded gpr cmd) ≡ 32
 length_loaded gpr cmd k full = length_call (with_return gpr cmd) (call_of cmd) (has_room cmd k) (length_return gpr cmd full)
 
--- each register after a number and operands were loaded
-module _ (gpr operands : List ℕ) (number r : ℕ) (full : length gpr ≡ 32) (room : 4 + length operands ≤ 32) where
-  abbrev numbered : List ℕ
-  numbered = slice_set gpr 3 number
+-- each register after one was set
+pub set_value : (gpr : List ℕ) (rd value r : ℕ) → length gpr ≡ 32 → rd < 32 → get_or (slice_set gpr rd value) r 0 ≡ unwrap_or (if r == rd then Some value else None) (get_or gpr r 0)
+set_value gpr rd value r h k = by_test (r == rd) refl where
+  by_test : (b : Bool) → (r == rd) ≡ b → get_or (slice_set gpr rd value) r 0 ≡ unwrap_or (if b then Some value else None) (get_or gpr r 0)
+  by_test true t = let same : r ≡ rd = test_same r rd t in grind (arith, common_steps)
+  by_test false t = let other : rd ≢ r = grind (arith, nat_tests) in grind (arith, common_steps)
 
-  front : length (take 4 (slice_set gpr 3 number)) ≡ 4
-  front = simp (length-take, length-set) (omega arith)
+-- each register after values were put into R4 and the registers after it
+module _ (gpr values : List ℕ) (r : ℕ) (full : length gpr ≡ 32) (room : 4 + length values ≤ 32) where
+  front : length (take 4 gpr) ≡ 4
+  front = simp length-take (omega (arith, full))
 
   abbrev now : ℕ
-  now = get_or (take 4 numbered ++ (operands ++ drop (4 + length operands) numbered)) r 0
+  now = get_or (take 4 gpr ++ (values ++ drop (4 + length values) gpr)) r 0
 
-  below : r < 4 → now ≡ get_or numbered r 0
-  below h = get_or_append_left (take 4 numbered) (operands ++ drop (4 + length operands) numbered) 0 r (omega (arith, front)) ∙ get_or-take 4 numbered r 0 h
+  behind : 4 ≤ r → now ≡ get_or (values ++ drop (4 + length values) gpr) (r - 4) 0
+  behind h = get_or-append_right (take 4 gpr) (values ++ drop (4 + length values) gpr) 4 r 0 front h
 
-  behind : 4 ≤ r → now ≡ get_or (operands ++ drop (4 + length operands) numbered) (r - 4) 0
-  behind h = get_or-append_right (take 4 numbered) (operands ++ drop (4 + length operands) numbered) 4 r 0 front h
-
-  past : 4 + length operands ≤ r → get_or (operands ++ drop (4 + length operands) numbered) (r - 4) 0 ≡ get_or gpr r 0
+  past : 4 + length values ≤ r → get_or (values ++ drop (4 + length values) gpr) (r - 4) 0 ≡ get_or gpr r 0
   past h =
-      get_or-append_right operands (drop (4 + length operands) numbered) (length operands) (r - 4) 0 refl (omega arith)
-      ∙ get_or-drop (4 + length operands) numbered (r - 4 - length operands) 0
-      ∙ ap (λ (i : ℕ). get_or numbered i 0) (omega arith)
-      ∙ get_or-set_other gpr 3 r number 0 (λ same. absurd (omega arith))
+      get_or-append_right values (drop (4 + length values) gpr) (length values) (r - 4) 0 refl (omega arith)
+      ∙ get_or-drop (4 + length values) gpr (r - 4 - length values) 0
+      ∙ ap (λ (i : ℕ). get_or gpr i 0) (omega arith)
 
-  by_operand : 4 ≤ r → (b : Bool) → nat_le (4 + length operands) r ≡ b → now ≡ unwrap_or (slice_get operands (r - 4)) (get_or gpr r 0)
-  by_operand h true t =
-      let high : 4 + length operands ≤ r = grind (arith, nat_tests) in
-      behind h ∙ past high ∙ ap (λ (o : Option ℕ). unwrap_or o (get_or gpr r 0)) (sym (slice_get_past operands (r - 4) (omega arith)))
-  by_operand h false t =
-      let low : r - 4 < length operands = grind (arith, nat_tests) in
-      behind h ∙ get_or_append_left operands (drop (4 + length operands) numbered) 0 (r - 4) low
-      ∙ ap (λ (o : Option ℕ). unwrap_or o (get_or gpr r 0)) (sym (slice_get-get_or operands (r - 4) 0 low))
+  by_value : 4 ≤ r → (b : Bool) → nat_le (4 + length values) r ≡ b → now ≡ unwrap_or (slice_get values (r - 4)) (get_or gpr r 0)
+  by_value h true t =
+      let high : 4 + length values ≤ r = grind (arith, nat_tests) in
+      behind h ∙ past high ∙ ap (λ (o : Option ℕ). unwrap_or o (get_or gpr r 0)) (sym (slice_get_past values (r - 4) (omega arith)))
+  by_value h false t =
+      let low : r - 4 < length values = grind (arith, nat_tests) in
+      behind h ∙ get_or_append_left values (drop (4 + length values) gpr) 0 (r - 4) low
+      ∙ ap (λ (o : Option ℕ). unwrap_or o (get_or gpr r 0)) (sym (slice_get-get_or values (r - 4) 0 low))
 
-  by_place : r ≢ 3 → (b : Bool) → nat_le 4 r ≡ b → now ≡ unwrap_or (if b then slice_get operands (r - 4) else None) (get_or gpr r 0)
-  by_place other true t = by_operand (grind (arith, nat_tests)) (nat_le (4 + length operands) r) refl
-  by_place other false t = below (grind (arith, nat_tests)) ∙ get_or-set_other gpr 3 r number 0 other
+  by_place : (b : Bool) → nat_le 4 r ≡ b → now ≡ unwrap_or (if b then slice_get values (r - 4) else None) (get_or gpr r 0)
+  by_place true t = by_value (grind (arith, nat_tests)) (nat_le (4 + length values) r) refl
+  by_place false t =
+      let low : r < 4 = grind (arith, nat_tests) in
+      get_or_append_left (take 4 gpr) (values ++ drop (4 + length values) gpr) 0 r (omega (arith, front, low)) ∙ get_or-take 4 gpr r 0 low
 
-  pub by_number : (b : Bool) → (r == 3) ≡ b → now ≡ unwrap_or (if b then Some number else (if nat_le 4 r then slice_get operands (r - 4) else None)) (get_or gpr r 0)
-  by_number true t = let three : r ≡ 3 = grind (arith, nat_tests) in below (omega (arith, three)) ∙ grind (arith, common_steps)
-  by_number false t = by_place (grind (arith, nat_tests)) (nat_le 4 r) refl
+  pub placed_value : now ≡ unwrap_or (if nat_le 4 r then slice_get values (r - 4) else None) (get_or gpr r 0)
+  placed_value = by_place (nat_le 4 r) refl
+
+-- and a number into R3
+number_value : (gpr operands : List ℕ) (number r : ℕ) → length gpr ≡ 32 → 4 + length operands ≤ 32 → (b : Bool) → (r == 3) ≡ b →
+    get_or (with_call gpr (Some (record { number = number; operands = operands }))) r 0 ≡ unwrap_or (if b then Some number else (if nat_le 4 r then slice_get operands (r - 4) else None)) (get_or gpr r 0)
+number_value gpr operands number r full room b t = placed_value (slice_set gpr 3 number) operands r (simp length-set full) room ∙ by_number b t where
+  given : Option ℕ
+  given = if nat_le 4 r then slice_get operands (r - 4) else None
+
+  by_number : (b : Bool) → (r == 3) ≡ b → unwrap_or given (get_or (slice_set gpr 3 number) r 0) ≡ unwrap_or (if b then Some number else given) (get_or gpr r 0)
+  by_number true t = let three : r ≡ 3 = grind (arith, nat_tests) in rw three (grind (arith, common_steps))
+  by_number false t = let other : r ≢ 3 = grind (arith, nat_tests) in ap (unwrap_or given) (get_or-set_other gpr 3 r number 0 other)
 
 -- each register after a call was loaded
 call_value : (gpr : List ℕ) (call : Option Call) (r : ℕ) → HasRoom call → length gpr ≡ 32 → get_or (with_call gpr call) r 0 ≡ unwrap_or (value_of_call call r) (get_or gpr r 0)
 call_value gpr None r room full = refl
-call_value gpr (Some call) r room full = by_number gpr call.operands call.number r full room (r == 3) refl
+call_value gpr (Some call) r room full = number_value gpr call.operands call.number r full room (r == 3) refl
 
 -- each register after a command's call was loaded
 pub loads_value : (gpr : List ℕ) (cmd : Cmd) (r : ℕ) → IsCommand cmd → length gpr ≡ 32 → get_or (loaded gpr cmd) r 0 ≡ unwrap_or (value_loaded cmd r) (get_or gpr r 0)

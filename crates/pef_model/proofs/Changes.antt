@@ -155,12 +155,13 @@ pub record WritesEntry (plan : Plan) (past : List Event) (cpu : CpuPart) (e : Ev
   pub parts : PutsPart plan past e lpid (with_entry (part_after plan past lpid) base length_)
   pub pool : pool_after plan (e ∷ past) ≡ pool_after plan past
 
--- the memory slots of a guest change, and nothing else of it
+-- the memory slots of a guest change, or the number of its entropy words, and nothing else of it
 pub record ChangesSlots (plan : Plan) (past : List Event) (cpu : CpuPart) (e : Event) : Type 0 where
   pub lpid : ℕ
   pub slots : List Slot
+  pub words : ℕ
   pub cpu_is : LeavesCpu cpu e cpu.ctx cpu.hand cpu.lpid
-  pub parts : PutsPart plan past e lpid (record (part_after plan past lpid) { slots = slots })
+  pub parts : PutsPart plan past e lpid (record (part_after plan past lpid) { slots = slots; words = words })
   pub pool : pool_after plan (e ∷ past) ≡ pool_after plan past
 
 -- a vCPU is selected

@@ -75,29 +75,29 @@ interrupt_agrees run ask gpr gpr_too p = same_deed (ctx.Guest run) GIrq (deed_in
 first_same : {x y : ℕ} {xs ys : List ℕ} → ◌≡◌ {A = List ℕ} (x ∷ xs) (y ∷ ys) → x ≡ y
 first_same h = cc
 
-number_of_call : (ask : Ask) (gpr : List ℕ) (row : Option Row) → (tail : List ℕ) × ((deed_by_row ask gpr row).shown ≡ slice_index gpr 3 ∷ tail)
-number_of_call ask gpr None = ([], refl)
-number_of_call ask gpr (Some row) = by_kind row.kind where
-  by_kind : (kind : RowKind) → (tail : List ℕ) × ((deed_by_kind kind ask gpr row).shown ≡ slice_index gpr 3 ∷ tail)
+number_of_call : (words : ℕ) (ask : Ask) (gpr : List ℕ) (row : Option Row) → (tail : List ℕ) × ((deed_by_row words ask gpr row).shown ≡ slice_index gpr 3 ∷ tail)
+number_of_call words ask gpr None = ([], refl)
+number_of_call words ask gpr (Some row) = by_kind row.kind where
+  by_kind : (kind : RowKind) → (tail : List ℕ) × ((deed_by_kind words kind ask gpr row).shown ≡ slice_index gpr 3 ∷ tail)
   by_kind Reflected = (_, refl)
   by_kind Local = ([], refl)
   by_kind Svm = ([], refl)
 
-row_agrees : (run : Run) (ask : Ask) (gpr gpr_too : List ℕ) (row : Option Row) → AgreeButValue (ctx.Guest run) GHcall (deed_by_row ask gpr row) (deed_by_row ask gpr_too row)
-row_agrees run ask gpr gpr_too None = record { answer = refl; after = refl; pool = refl; frame = refl; bytes = λ unsealed. refl }
-row_agrees run ask gpr gpr_too (Some row) = by_kind row.kind where
-  by_kind : (kind : RowKind) → AgreeButValue (ctx.Guest run) GHcall (deed_by_kind kind ask gpr row) (deed_by_kind kind ask gpr_too row)
+row_agrees : (words : ℕ) (run : Run) (ask : Ask) (gpr gpr_too : List ℕ) (row : Option Row) → AgreeButValue (ctx.Guest run) GHcall (deed_by_row words ask gpr row) (deed_by_row words ask gpr_too row)
+row_agrees words run ask gpr gpr_too None = record { answer = refl; after = refl; pool = refl; frame = refl; bytes = λ unsealed. refl }
+row_agrees words run ask gpr gpr_too (Some row) = by_kind row.kind where
+  by_kind : (kind : RowKind) → AgreeButValue (ctx.Guest run) GHcall (deed_by_kind words kind ask gpr row) (deed_by_kind words kind ask gpr_too row)
   by_kind Reflected = record { answer = refl; after = refl; pool = refl; frame = refl; bytes = λ unsealed. refl }
   by_kind Local = record { answer = refl; after = refl; pool = refl; frame = refl; bytes = λ unsealed. refl }
   by_kind Svm = record { answer = refl; after = refl; pool = refl; frame = refl; bytes = λ unsealed. refl }
 
-call_agrees : (run : Run) (ask : Ask) (gpr gpr_too : List ℕ) (p : Phase) → (deed_hypercall p gpr ask).shown ≡ (deed_hypercall p gpr_too ask).shown → AgreeButValue (ctx.Guest run) GHcall (deed_hypercall p gpr ask) (deed_hypercall p gpr_too ask)
-call_agrees run ask gpr gpr_too phase.Normal shown = record { answer = refl; after = refl; pool = refl; frame = refl; bytes = λ unsealed. refl }
-call_agrees run ask gpr gpr_too p shown =
-    let one = number_of_call ask gpr (row_of HCALLS (slice_index gpr 3)) in
-    let two = number_of_call ask gpr_too (row_of HCALLS (slice_index gpr_too 3)) in
-    subst (λ (n : ℕ). AgreeButValue (ctx.Guest run) GHcall (deed_by_row ask gpr (row_of HCALLS (slice_index gpr 3))) (deed_by_row ask gpr_too (row_of HCALLS n)))
-    (first_same (sym one.1 ∙ shown ∙ two.1)) (row_agrees run ask gpr gpr_too (row_of HCALLS (slice_index gpr 3)))
+call_agrees : (words : ℕ) (run : Run) (ask : Ask) (gpr gpr_too : List ℕ) (p : Phase) → (deed_hypercall words p gpr ask).shown ≡ (deed_hypercall words p gpr_too ask).shown → AgreeButValue (ctx.Guest run) GHcall (deed_hypercall words p gpr ask) (deed_hypercall words p gpr_too ask)
+call_agrees words run ask gpr gpr_too phase.Normal shown = record { answer = refl; after = refl; pool = refl; frame = refl; bytes = λ unsealed. refl }
+call_agrees words run ask gpr gpr_too p shown =
+    let one = number_of_call words ask gpr (row_of HCALLS (slice_index gpr 3)) in
+    let two = number_of_call words ask gpr_too (row_of HCALLS (slice_index gpr_too 3)) in
+    subst (λ (n : ℕ). AgreeButValue (ctx.Guest run) GHcall (deed_by_row words ask gpr (row_of HCALLS (slice_index gpr 3))) (deed_by_row words ask gpr_too (row_of HCALLS n)))
+    (first_same (sym one.1 ∙ shown ∙ two.1)) (row_agrees words run ask gpr gpr_too (row_of HCALLS (slice_index gpr 3)))
 
 running_agrees : (plan : Plan) (run : Run) (g h : Guest) (found : ℕ → ℕ → ℕ) (any : Bool) (ask : Ask) (cmd : Cmd) →
     (deed_running plan run g found any ask cmd).shown ≡ (deed_running plan run (like g h) found any ask (open_cmd cmd)).shown →
@@ -107,7 +107,7 @@ running_agrees plan run g h found any ask (GLd rd gpa) shown =
 running_agrees plan run g h found any ask (GSt rs gpa) shown =
     access_agrees run ask (GSt rs gpa) Done Done (λ n. Done) (λ n. Done) (slice_index (g.registers run.vid).gpr rs ∷ []) (slice_index (h.registers run.vid).gpr rs ∷ []) any (meets plan g.part gpa) refl (λ n. refl) shown
 running_agrees plan run g h found any ask GIrq shown = interrupt_agrees run ask (g.registers run.vid).gpr (h.registers run.vid).gpr g.part.phase
-running_agrees plan run g h found any ask GHcall shown = call_agrees run ask (g.registers run.vid).gpr (h.registers run.vid).gpr g.part.phase shown
+running_agrees plan run g h found any ask GHcall shown = call_agrees g.part.words run ask (g.registers run.vid).gpr (h.registers run.vid).gpr g.part.phase shown
 running_agrees plan run g h found any ask (Dump reg) shown = record { answer = refl; after = refl; pool = refl; frame = refl; bytes = λ unsealed. refl }
 running_agrees plan run g h found any ask cmd shown = same_deed (ctx.Guest run) cmd (deed_running plan run g found any ask cmd)
 

@@ -120,6 +120,7 @@ module _ (plan : Plan) (past : List Event) (cpu : CpuPart) (mark : Mark) (h : cp
       let g : GuestPart = part_after plan past lpid in
       Slots (record {
         lpid = lpid;
+        words = g.words;
         slots = registered_by (register_code plan g start size flags id) g.slots (slot_asked plan start size id);
         cpu_is = record { ctx_is = sym h; hand_is = refl; lpid_is = refl };
         parts = at_guest plan past (entry cpu ctx.Hv mark (URegslot lpid start size flags id) (deed_after plan past (asked cpu ctx.Hv (URegslot lpid start size flags id)) (URegslot lpid start size flags id) (AtGuest lpid))) lpid _ target refl;
@@ -132,6 +133,7 @@ module _ (plan : Plan) (past : List Event) (cpu : CpuPart) (mark : Mark) (h : cp
       let g : GuestPart = part_after plan past lpid in
       Slots (record {
         lpid = lpid;
+        words = g.words;
         slots = unregistered_by (unregister_code g id) g.slots id;
         cpu_is = record { ctx_is = sym h; hand_is = refl; lpid_is = refl };
         parts = at_guest plan past (entry cpu ctx.Hv mark (UUnregslot lpid id) (deed_after plan past (asked cpu ctx.Hv (UUnregslot lpid id)) (UUnregslot lpid id) (AtGuest lpid))) lpid _ target refl;

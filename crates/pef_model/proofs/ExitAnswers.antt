@@ -1,5 +1,5 @@
 -- Where a guest leaves, and with what.
-use Rattle.std.proofs.Common.{◌≡◌, ◌≢◌, ◌⊎◌, ℕ, nat_lt, List, Bool, true, false, ◌==◌, if◌then◌else◌, refl, ap, sym, ◌∙◌, Option, Some, None, slice_index, inl, inr, arith}
+use Rattle.std.proofs.Common.{◌≡◌, ◌≢◌, ◌⊎◌, ℕ, List, Bool, true, false, ◌==◌, if◌then◌else◌, refl, ap, sym, ◌∙◌, Option, Some, None, slice_index, inl, inr, arith}
 use Rattle.std.proofs.lemmas.Grind.{common_steps}
 use Rattle.pef_model.specs.declared.state.Phase.{Phase}
 use Rattle.pef_model.specs.declared.state.Phase.TheVariants as phase
@@ -14,16 +14,15 @@ use Rattle.pef_model.specs.declared.hypercall.RowKind.{RowKind}
 use Rattle.pef_model.specs.declared.hypercall.RowKind.TheVariants.{Reflected, Local, Svm}
 use Rattle.pef_model.specs.declared.entry.Exit.{Exit}
 use Rattle.pef_model.specs.declared.entry.Exit.TheVariants as exit
-use Rattle.pef_model.specs.declared.entry.Answer.{Answer}
 use Rattle.pef_model.specs.declared.entry.Answer.TheVariants as answer
 use Rattle.pef_model.specs.Plan.{Plan}
 use Rattle.pef_model.specs.Event.{Event}
 use Rattle.pef_model.specs.Target.{Ask}
 use Rattle.pef_model.specs.Guest.{Guest}
 use Rattle.pef_model.specs.Hypercalls.{row_of}
-use Rattle.pef_model.specs.Deed.{Deed, deed_interrupt, deed_by_kind, deed_by_row, deed_hypercall, deed_running, deed_gone}
+use Rattle.pef_model.specs.Deed.{Deed, deed_interrupt, deed_by_kind, deed_by_row, deed_hypercall, deed_gone}
 use Rattle.pef_model.specs.AnswerLaw.{can_answer}
-use Rattle.pef_model.specs.History.{cpu_after, guest_after, pool_after, found_after, reg, Extends, part_after}
+use Rattle.pef_model.specs.History.{cpu_after, guest_after, Extends}
 use Rattle.pef_model.specs.CauseLaw.{IsBy, Reflects, ExitsExactlyWhere}
 use Rattle.pef_model.proofs.Folds.{same_test, test_same}
 use Rattle.pef_model.proofs.AnswerRows.{each_answer_is_of_its_row}
@@ -67,46 +66,46 @@ record Calls (gpr : List ℕ) (n : ℕ) : Type 0 where
   kind_is : row.kind ≡ Reflected
   number : row.number ≡ n
 
-row_leaves : (gpr : List ℕ) (ask : Ask) (x : Exit) (o : Option Row) → row_of HCALLS (slice_index gpr 3) ≡ o → (deed_by_row ask gpr o).answer ≡ answer.Exit x → (row : Row) × (o ≡ Some row) × (row.kind ≡ Reflected) × (x ≡ exit.Hcall row.number)
-row_leaves gpr ask x None is h = cc
-row_leaves gpr ask x (Some row) is h = by_kind row.kind refl h where
+row_leaves : (words : ℕ) (gpr : List ℕ) (ask : Ask) (x : Exit) (o : Option Row) → row_of HCALLS (slice_index gpr 3) ≡ o → (deed_by_row words ask gpr o).answer ≡ answer.Exit x → (row : Row) × (o ≡ Some row) × (row.kind ≡ Reflected) × (x ≡ exit.Hcall row.number)
+row_leaves words gpr ask x None is h = cc
+row_leaves words gpr ask x (Some row) is h = by_kind row.kind refl h where
   exit_in : {a b : Exit} → answer.Exit a ≡ answer.Exit b → b ≡ a
   exit_in k = cc
 
-  by_kind : (kind : RowKind) → row.kind ≡ kind → (deed_by_kind kind ask gpr row).answer ≡ answer.Exit x → (one : Row) × (◌≡◌ {A = Option Row} (Some row) (Some one)) × (one.kind ≡ Reflected) × (x ≡ exit.Hcall one.number)
+  by_kind : (kind : RowKind) → row.kind ≡ kind → (deed_by_kind words kind ask gpr row).answer ≡ answer.Exit x → (one : Row) × (◌≡◌ {A = Option Row} (Some row) (Some one)) × (one.kind ≡ Reflected) × (x ≡ exit.Hcall one.number)
   by_kind Reflected is k = (row, refl, is, exit_in k)
   by_kind Local is k = cc
   by_kind Svm is k = cc
 
-call_normal : (p : Phase) (gpr : List ℕ) (ask : Ask) → ((deed_hypercall p gpr ask).answer ≡ answer.Exit exit.Normal) ↔ (p ≡ phase.Normal)
-call_normal phase.Normal gpr ask = (λ h. refl, λ is. refl)
-call_normal p gpr ask = (λ h. absurd (let leaves = row_leaves gpr ask exit.Normal (row_of HCALLS (slice_index gpr 3)) refl h in cc), λ is. cc)
+call_normal : (words : ℕ) (p : Phase) (gpr : List ℕ) (ask : Ask) → ((deed_hypercall words p gpr ask).answer ≡ answer.Exit exit.Normal) ↔ (p ≡ phase.Normal)
+call_normal words phase.Normal gpr ask = (λ h. refl, λ is. refl)
+call_normal words p gpr ask = (λ h. absurd (let leaves = row_leaves words gpr ask exit.Normal (row_of HCALLS (slice_index gpr 3)) refl h in cc), λ is. cc)
 
-call_no_interrupt : (p : Phase) (gpr : List ℕ) (ask : Ask) → (deed_hypercall p gpr ask).answer ≡ answer.Exit exit.Irq → ⊥
-call_no_interrupt phase.Normal gpr ask h = cc
-call_no_interrupt p gpr ask h = let leaves = row_leaves gpr ask exit.Irq (row_of HCALLS (slice_index gpr 3)) refl h in cc
+call_no_interrupt : (words : ℕ) (p : Phase) (gpr : List ℕ) (ask : Ask) → (deed_hypercall words p gpr ask).answer ≡ answer.Exit exit.Irq → ⊥
+call_no_interrupt words phase.Normal gpr ask h = cc
+call_no_interrupt words p gpr ask h = let leaves = row_leaves words gpr ask exit.Irq (row_of HCALLS (slice_index gpr 3)) refl h in cc
 
-call_other : (p : Phase) (gpr : List ℕ) (ask : Ask) (n : ℕ) → ((deed_hypercall p gpr ask).answer ≡ answer.Exit (exit.Hcall n)) ↔ ((p ≢ phase.Normal) × Calls gpr n)
-call_other phase.Normal gpr ask n = (λ h. cc, λ calls. absurd (calls.0 refl))
-call_other p gpr ask n = (
+call_other : (words : ℕ) (p : Phase) (gpr : List ℕ) (ask : Ask) (n : ℕ) → ((deed_hypercall words p gpr ask).answer ≡ answer.Exit (exit.Hcall n)) ↔ ((p ≢ phase.Normal) × Calls gpr n)
+call_other words phase.Normal gpr ask n = (λ h. cc, λ calls. absurd (calls.0 refl))
+call_other words p gpr ask n = (
   λ h. (
-      let leaves = row_leaves gpr ask (exit.Hcall n) (row_of HCALLS (slice_index gpr 3)) refl h in
+      let leaves = row_leaves words gpr ask (exit.Hcall n) (row_of HCALLS (slice_index gpr 3)) refl h in
       (λ is. cc, record { row = leaves.0; row_is = leaves.1; kind_is = leaves.2; number = (let same = leaves.3 in cc) })
       ),
   λ (other, calls).
-      ap (λ (o : Option Row). (deed_by_row ask gpr o).answer) calls.row_is
-      ∙ ap (λ (kind : RowKind). (deed_by_kind kind ask gpr calls.row).answer) calls.kind_is
+      ap (λ (o : Option Row). (deed_by_row words ask gpr o).answer) calls.row_is
+      ∙ ap (λ (kind : RowKind). (deed_by_kind words kind ask gpr calls.row).answer) calls.kind_is
       ∙ ap (λ (number : ℕ). answer.Exit (exit.Hcall number)) calls.number,
 )
 
 module _ (plan : Plan) (past : List Event) (e : Event) (extends : Extends plan past e) where
-  abbrev guest : Run → Guest
+  abbrev pub guest : Run → Guest
   guest run = guest_after plan run.lpid past
 
-  abbrev gpr_of : Run → List ℕ
+  abbrev pub gpr_of : Run → List ℕ
   gpr_of run = ((guest run).registers run.vid).gpr
 
-  abbrev ask_of : Run → Cmd → Ask
+  abbrev pub ask_of : Run → Cmd → Ask
   ask_of run cmd = ask_in (cpu_after plan e.trace.cpu past) (ctx.Guest run) cmd
 
   -- what such a command answers under its guest's generation, and under another
@@ -114,8 +113,8 @@ module _ (plan : Plan) (past : List Event) (e : Event) (extends : Extends plan p
       e.trace.answer ≡ (if run.generation == (guest run).part.generation then deed_interrupt (guest run).part.phase (gpr_of run) (ask_of run GIrq) else deed_gone (ask_of run GIrq)).answer
   interrupt_is run before cmd_is = ap (λ (d : Deed). d.answer) (deed_is plan past e (ctx.Guest run) GIrq extends before cmd_is)
 
-  call_is : (run : Run) → e.saw.before ≡ ctx.Guest run → e.trace.cmd ≡ GHcall →
-      e.trace.answer ≡ (if run.generation == (guest run).part.generation then deed_hypercall (guest run).part.phase (gpr_of run) (ask_of run GHcall) else deed_gone (ask_of run GHcall)).answer
+  pub call_is : (run : Run) → e.saw.before ≡ ctx.Guest run → e.trace.cmd ≡ GHcall →
+      e.trace.answer ≡ (if run.generation == (guest run).part.generation then deed_hypercall (guest run).part.words (guest run).part.phase (gpr_of run) (ask_of run GHcall) else deed_gone (ask_of run GHcall)).answer
   call_is run before cmd_is = ap (λ (d : Deed). d.answer) (deed_is plan past e (ctx.Guest run) GHcall extends before cmd_is)
 
   -- one that leaves with an exit does so under its guest's generation
@@ -123,12 +122,12 @@ module _ (plan : Plan) (past : List Event) (e : Event) (extends : Extends plan p
   lives run x deed ask true t h = (test_same run.generation (guest run).part.generation t, h)
   lives run x deed ask false t h = cc
 
-  alive : (run : Run) (deed : Deed) (ask : Ask) → run.generation ≡ (guest run).part.generation → (if run.generation == (guest run).part.generation then deed else deed_gone ask).answer ≡ deed.answer
+  pub alive : (run : Run) (deed : Deed) (ask : Ask) → run.generation ≡ (guest run).part.generation → (if run.generation == (guest run).part.generation then deed else deed_gone ask).answer ≡ deed.answer
   alive run deed ask same = ap (λ (b : Bool). (if b then deed else deed_gone ask).answer) (ap (λ (k : ℕ). run.generation == k) (sym same) ∙ same_test run.generation)
 
   -- an exit comes from a vCPU's hypercall or interrupt, with what these give
   from_vcpu : (A : Type 0) (x : Exit) → e.trace.answer ≡ answer.Exit x →
-      ((run : Run) → e.saw.before ≡ ctx.Guest run → e.trace.cmd ≡ GHcall → run.generation ≡ (guest run).part.generation → (deed_hypercall (guest run).part.phase (gpr_of run) (ask_of run GHcall)).answer ≡ answer.Exit x → A) →
+      ((run : Run) → e.saw.before ≡ ctx.Guest run → e.trace.cmd ≡ GHcall → run.generation ≡ (guest run).part.generation → (deed_hypercall (guest run).part.words (guest run).part.phase (gpr_of run) (ask_of run GHcall)).answer ≡ answer.Exit x → A) →
       ((run : Run) → e.saw.before ≡ ctx.Guest run → e.trace.cmd ≡ GIrq → run.generation ≡ (guest run).part.generation → (deed_interrupt (guest run).part.phase (gpr_of run) (ask_of run GIrq)).answer ≡ answer.Exit x → A) → A
   from_vcpu A x is by_call by_interrupt = exit_context e.saw.before e.trace.cmd x can A by_run where
     can : can_answer e.saw.before e.trace.cmd (answer.Exit x) ≡ true
@@ -137,7 +136,7 @@ module _ (plan : Plan) (past : List Event) (e : Event) (extends : Extends plan p
     by_run : (run : Run) → e.saw.before ≡ ctx.Guest run → A
     by_run run before = elim (exit_command run e.trace.cmd x (ap (λ (c : Ctx). can_answer c e.trace.cmd (answer.Exit x)) (sym before) ∙ can)) [
       | inl cmd_is ↦
-          let alive_is = lives run x (deed_hypercall (guest run).part.phase (gpr_of run) (ask_of run GHcall)) (ask_of run GHcall) (run.generation == (guest run).part.generation) refl (sym (call_is run before cmd_is) ∙ is) in
+          let alive_is = lives run x (deed_hypercall (guest run).part.words (guest run).part.phase (gpr_of run) (ask_of run GHcall)) (ask_of run GHcall) (run.generation == (guest run).part.generation) refl (sym (call_is run before cmd_is) ∙ is) in
           by_call run before cmd_is alive_is.0 alive_is.1
       | inr cmd_is ↦
           let alive_is = lives run x (deed_interrupt (guest run).part.phase (gpr_of run) (ask_of run GIrq)) (ask_of run GIrq) (run.generation == (guest run).part.generation) refl (sym (interrupt_is run before cmd_is) ∙ is) in
@@ -146,18 +145,18 @@ module _ (plan : Plan) (past : List Event) (e : Event) (extends : Extends plan p
 
   normal_from : e.trace.answer ≡ answer.Exit exit.Normal → IsBy (λ cmd. (cmd ≡ GHcall) ⊎ (cmd ≡ GIrq)) (λ p. p ≡ phase.Normal) plan past e
   normal_from is = from_vcpu (IsBy (λ cmd. (cmd ≡ GHcall) ⊎ (cmd ≡ GIrq)) (λ p. p ≡ phase.Normal) plan past e) exit.Normal is
-      (λ run before cmd_is same h. record { run = run; before = before; cmd_is = inl cmd_is; generation = same; phase = (call_normal (guest run).part.phase (gpr_of run) (ask_of run GHcall)).0 h })
+      (λ run before cmd_is same h. record { run = run; before = before; cmd_is = inl cmd_is; generation = same; phase = (call_normal (guest run).part.words (guest run).part.phase (gpr_of run) (ask_of run GHcall)).0 h })
       (λ run before cmd_is same h. record { run = run; before = before; cmd_is = inr cmd_is; generation = same; phase = (interrupt_normal (guest run).part.phase (gpr_of run) (ask_of run GIrq)).0 h })
 
   normal_to : IsBy (λ cmd. (cmd ≡ GHcall) ⊎ (cmd ≡ GIrq)) (λ p. p ≡ phase.Normal) plan past e → e.trace.answer ≡ answer.Exit exit.Normal
   normal_to by = elim by.cmd_is [
-    | inl cmd_is ↦ call_is by.run by.before cmd_is ∙ alive by.run (deed_hypercall (guest by.run).part.phase (gpr_of by.run) (ask_of by.run GHcall)) (ask_of by.run GHcall) by.generation ∙ (call_normal (guest by.run).part.phase (gpr_of by.run) (ask_of by.run GHcall)).1 by.phase
+    | inl cmd_is ↦ call_is by.run by.before cmd_is ∙ alive by.run (deed_hypercall (guest by.run).part.words (guest by.run).part.phase (gpr_of by.run) (ask_of by.run GHcall)) (ask_of by.run GHcall) by.generation ∙ (call_normal (guest by.run).part.words (guest by.run).part.phase (gpr_of by.run) (ask_of by.run GHcall)).1 by.phase
     | inr cmd_is ↦ interrupt_is by.run by.before cmd_is ∙ alive by.run (deed_interrupt (guest by.run).part.phase (gpr_of by.run) (ask_of by.run GIrq)) (ask_of by.run GIrq) by.generation ∙ (interrupt_normal (guest by.run).part.phase (gpr_of by.run) (ask_of by.run GIrq)).1 by.phase
   ]
 
   irq_from : e.trace.answer ≡ answer.Exit exit.Irq → IsBy (λ cmd. cmd ≡ GIrq) (λ p. p ≢ phase.Normal) plan past e
   irq_from is = from_vcpu (IsBy (λ cmd. cmd ≡ GIrq) (λ p. p ≢ phase.Normal) plan past e) exit.Irq is
-      (λ run before cmd_is same h. absurd (call_no_interrupt (guest run).part.phase (gpr_of run) (ask_of run GHcall) h))
+      (λ run before cmd_is same h. absurd (call_no_interrupt (guest run).part.words (guest run).part.phase (gpr_of run) (ask_of run GHcall) h))
       (λ run before cmd_is same h. record { run = run; before = before; cmd_is = cmd_is; generation = same; phase = (interrupt_other (guest run).part.phase (gpr_of run) (ask_of run GIrq)).0 h })
 
   irq_to : IsBy (λ cmd. cmd ≡ GIrq) (λ p. p ≢ phase.Normal) plan past e → e.trace.answer ≡ answer.Exit exit.Irq
@@ -166,15 +165,15 @@ module _ (plan : Plan) (past : List Event) (e : Event) (extends : Extends plan p
   call_from : (n : ℕ) → e.trace.answer ≡ answer.Exit (exit.Hcall n) → Reflects n plan past e
   call_from n is = from_vcpu (Reflects n plan past e) (exit.Hcall n) is
       (λ run before cmd_is same h.
-      let calls = (call_other (guest run).part.phase (gpr_of run) (ask_of run GHcall) n).0 h in
+      let calls = (call_other (guest run).part.words (guest run).part.phase (gpr_of run) (ask_of run GHcall) n).0 h in
       record { call = record { run = run; before = before; cmd_is = cmd_is; generation = same; phase = calls.0 }; row = calls.1.row; row_is = calls.1.row_is; kind_is = calls.1.kind_is; number = calls.1.number })
       (λ run before cmd_is same h. absurd (interrupt_no_call (guest run).part.phase (gpr_of run) (ask_of run GIrq) n h))
 
   call_to : (n : ℕ) → Reflects n plan past e → e.trace.answer ≡ answer.Exit (exit.Hcall n)
   call_to n reflects =
       let run = reflects.call.run in
-      call_is run reflects.call.before reflects.call.cmd_is ∙ alive run (deed_hypercall (guest run).part.phase (gpr_of run) (ask_of run GHcall)) (ask_of run GHcall) reflects.call.generation
-      ∙ (call_other (guest run).part.phase (gpr_of run) (ask_of run GHcall) n).1 (reflects.call.phase, record { row = reflects.row; row_is = reflects.row_is; kind_is = reflects.kind_is; number = reflects.number })
+      call_is run reflects.call.before reflects.call.cmd_is ∙ alive run (deed_hypercall (guest run).part.words (guest run).part.phase (gpr_of run) (ask_of run GHcall)) (ask_of run GHcall) reflects.call.generation
+      ∙ (call_other (guest run).part.words (guest run).part.phase (gpr_of run) (ask_of run GHcall) n).1 (reflects.call.phase, record { row = reflects.row; row_is = reflects.row_is; kind_is = reflects.kind_is; number = reflects.number })
 
 pub exits_exactly_where : ExitsExactlyWhere
 exits_exactly_where plan past e extends = record {

@@ -52,6 +52,7 @@ listed_kept g h = record {
   ];
   written = λ dw0 dw1. entry_gives IsListed g dw0 dw1 h h;
   slots = λ slots. h;
+  drawn = λ words. h;
 }
 
 -- so they are after each history
@@ -87,6 +88,7 @@ grows_kept g h = record {
       (take-append_seam g.order (at ∷ []));
   written = λ dw0 dw1. entry_gives (Grows g) g dw0 dw1 (all_still g refl (λ gfn secure. secure)) (all_still g refl (λ gfn secure. secure));
   slots = λ slots. all_still (record g { slots = slots }) refl (λ gfn secure. secure);
+  drawn = λ words. all_still (record g { words = words }) refl (λ gfn secure. secure);
 } where
   all_still : (new : GuestPart) → new.order ≡ g.order → ((gfn : ℕ) → is_secure (g.pages gfn) ≡ true → is_secure (new.pages gfn) ≡ true) → Grows g new
   all_still new same still = grows_by g new g.order (filter_all (λ gfn. is_secure (new.pages gfn)) g.order (λ gfn some. still gfn (h gfn some)))

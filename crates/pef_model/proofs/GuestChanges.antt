@@ -1,5 +1,5 @@
 -- Which change a step of a guest makes.
-use Rattle.std.proofs.Common.{◌≡◌, ℕ, ◌%◌, ◌<◌, nat_lt, List, [], Bool, true, false, refl, ap, ◌==◌, if◌then◌else◌, Option, Some, None, is_some, arith, sym, ◌+◌, slice_index, ◌∷◌}
+use Rattle.std.proofs.Common.{◌≡◌, ℕ, ◌%◌, ◌<◌, nat_lt, List, [], Bool, true, false, refl, ap, ◌==◌, if◌then◌else◌, Option, Some, None, is_some, arith, sym, ◌+◌, slice_index, ◌∷◌, ◌-◌}
 use Rattle.std.proofs.lemmas.Bool.{and_parts}
 use Rattle.std.proofs.lemmas.Bool.Decides.{nat_tests}
 use Rattle.pef_model.specs.declared.entry.PoolSaw.{PoolSaw}
@@ -25,16 +25,16 @@ use Rattle.pef_model.specs.GuestPart.{Page, GuestPart, Meeting, NoPlace, Moves, 
 use Rattle.pef_model.specs.Guest.{Guest}
 use Rattle.pef_model.specs.Seal.{doublewords}
 use Rattle.pef_model.proofs.Folds.{test_same}
-use Rattle.pef_model.specs.Deed.{Deed, answering, deed_access, deed_interrupt, deed_running, deed_gone, deed_hypercall, deed_by_row, deed_by_kind}
+use Rattle.pef_model.specs.Deed.{Deed, answering, deed_access, deed_interrupt, deed_running, deed_gone, deed_hypercall, deed_by_row, deed_by_kind, random_code}
 use Rattle.pef_model.specs.History.{guest_after, pool_after, deed_after, found_after}
 use Rattle.pef_model.proofs.Changes as change
-use Rattle.pef_model.proofs.Changes.{Change, is_backed_in, asked, entry, at_guest, at_guest_same, at_one}
+use Rattle.pef_model.proofs.Changes.{Change, Slots, is_backed_in, asked, entry, at_guest, at_guest_same, at_one}
 use Rattle.pef_model.specs.declared.hypercall.Row.{Row}
 use Rattle.pef_model.specs.declared.hypercall.RowKind.{RowKind}
 use Rattle.pef_model.specs.declared.hypercall.RowKind.TheVariants.{Reflected, Local, Svm}
 use Rattle.pef_model.specs.declared.hypercall.TheConstants.{HCALLS}
 use Rattle.pef_model.specs.Hypercalls.{row_of, let_out_by}
-use Rattle.pef_model.specs.declared.command.Code.TheVariants.{HUnsupported, HFunction, HHardware}
+use Rattle.pef_model.specs.declared.command.Code.TheVariants.{HSuccess, HUnsupported, HFunction}
 use Rattle.pef_model.specs.declared.command.Code.{Code}
 use Rattle.pef_model.specs.declared.state.Pending.TheVariants as pending
 
@@ -141,7 +141,7 @@ module _ (plan : Plan) (past : List Event) (cpu : CpuPart) (mark : Mark) (run : 
   interrupted same phase.Normal = parked same exit.Normal (g.registers run.vid).gpr
   interrupted same p = parked same exit.Irq []
 
-  -- a hypercall that leaves parks it too, and one that is answered changes nothing
+  -- a hypercall that leaves parks it too, and one that is answered changes nothing but how many words are left
   called : run.generation ≡ g.part.generation → (why : Exit) (shown : List ℕ) →
       Change plan past cpu (entry_of GHcall (record (answering (ask_of GHcall) (answer.Exit why)) { after = ctx.Hv; shown = shown }))
   called same why shown = change.Parked (record {
@@ -155,17 +155,25 @@ module _ (plan : Plan) (past : List Event) (cpu : CpuPart) (mark : Mark) (run : 
   })
 
   answered : (code : Code) (shown : List ℕ) → Change plan past cpu (entry_of GHcall (record (answering (ask_of GHcall) (answer.Ret code)) { shown = shown }))
+  answered HSuccess shown = Slots (record {
+    lpid = run.lpid;
+    slots = g.part.slots;
+    words = g.part.words - 1;
+    cpu_is = record { ctx_is = sym h; hand_is = refl; lpid_is = refl };
+    parts = at_guest plan past (entry_of GHcall (record (answering (ask_of GHcall) (answer.Ret HSuccess)) { shown = shown })) run.lpid _ refl refl;
+    pool = refl;
+  })
   answered code shown = at_one plan past cpu _ run.lpid (record { ctx_is = sym h; hand_is = refl; lpid_is = refl }) refl refl refl
 
-  calls : run.generation ≡ g.part.generation → (p : Phase) → Change plan past cpu (entry_of GHcall (deed_hypercall p (g.registers run.vid).gpr (ask_of GHcall)))
+  calls : run.generation ≡ g.part.generation → (p : Phase) → Change plan past cpu (entry_of GHcall (deed_hypercall g.part.words p (g.registers run.vid).gpr (ask_of GHcall)))
   calls same phase.Normal = called same exit.Normal (g.registers run.vid).gpr
   calls same p = by_row (row_of HCALLS (slice_index (g.registers run.vid).gpr 3)) where
-    by_kind : (kind : RowKind) (row : Row) → Change plan past cpu (entry_of GHcall (deed_by_kind kind (ask_of GHcall) (g.registers run.vid).gpr row))
+    by_kind : (kind : RowKind) (row : Row) → Change plan past cpu (entry_of GHcall (deed_by_kind g.part.words kind (ask_of GHcall) (g.registers run.vid).gpr row))
     by_kind Reflected row = called same (exit.Hcall row.number) (let_out_by row (g.registers run.vid).gpr)
-    by_kind Local row = answered HHardware _
+    by_kind Local row = answered (random_code g.part.words) _
     by_kind Svm row = answered HUnsupported _
 
-    by_row : (row : Option Row) → Change plan past cpu (entry_of GHcall (deed_by_row (ask_of GHcall) (g.registers run.vid).gpr row))
+    by_row : (row : Option Row) → Change plan past cpu (entry_of GHcall (deed_by_row g.part.words (ask_of GHcall) (g.registers run.vid).gpr row))
     by_row (Some row) = by_kind row.kind row
     by_row None = answered HFunction _
 

@@ -1,47 +1,17 @@
 -- What a guest keeps over a history.
-use Rattle.std.proofs.Common.{◌≡◌, ℕ, List, [], ◌∷◌, length, Bool, true, false, not, ◌==◌, ◌&&◌, if◌then◌else◌, refl, ap, sym, ◌∙◌}
+use Rattle.std.proofs.Common.{◌≡◌, ℕ, List, [], ◌∷◌, Bool, true, false, not, ◌&&◌, if◌then◌else◌, refl, ap, sym, ◌∙◌}
 use Rattle.std.proofs.lemmas.Bool.{and_parts}
 use Rattle.pef_model.specs.Plan.{Plan}
 use Rattle.pef_model.specs.Event.{Event}
 use Rattle.pef_model.specs.Target.{Target, Alone, AtGuest, AtFrame, is_guest, target_of, touches_guest}
-use Rattle.pef_model.specs.GuestPart.{GuestPart}
 use Rattle.pef_model.specs.Guest.{Guest, start_guest, next_guest}
 use Rattle.pef_model.specs.History.{guest_after, part_after}
 use Rattle.pef_model.proofs.Folds.{same_test, test_same, skips, counts, value_after-filter}
 use Rattle.std.specs.List.{filter}
-use Rattle.std.proofs.lemmas.List.{length-map}
-use Rattle.std.proofs.lemmas.List.Sums.{length-filter}
-use Rattle.pef_model.specs.declared.config.EntropyWord.{EntropyWord}
 use Rattle.pef_model.specs.Clash.{clashes}
 use Rattle.pef_model.specs.Sound.{clashes_at, is_clash, is_clean}
-use Rattle.pef_model.specs.GuestLaw.{WordsAreCounted, CleanIsEachGuests}
+use Rattle.pef_model.specs.GuestLaw.{CleanIsEachGuests}
 use Rattle.pef_model.proofs.Folds.{keeps, leaves}
-use Rattle.pef_model.proofs.Changes.{entry_gives}
-use Rattle.pef_model.proofs.Parts.{holds_after, life_kept}
-
--- no entry changes how many entropy words a guest has left
-words_stay : (plan : Plan) (past : List Event) (lpid : ℕ) → ((part_after plan past lpid).words ≡ plan.words lpid) × ((guest_after plan lpid past).words ≡ plan.entropy lpid)
-words_stay plan [] lpid = (refl, refl)
-words_stay plan (e ∷ past) lpid =
-    let before = words_stay plan past lpid in (
-      holds_after (λ (new : GuestPart). new.words ≡ plan.words lpid) plan past e lpid
-          (life_kept (λ (new : GuestPart). new.words ≡ plan.words lpid) (part_after plan past lpid) (λ pages vcpus order slots. before.0)
-          (λ dw0 dw1. entry_gives (λ (new : GuestPart). new.words ≡ plan.words lpid) (part_after plan past lpid) dw0 dw1 before.0 before.0)),
-      by_test (touches_guest plan lpid e) before.1,
-    ) where
-      by_test : (b : Bool) → (guest_after plan lpid past).words ≡ plan.entropy lpid → (if b then next_guest plan (guest_after plan lpid past) e else guest_after plan lpid past).words ≡ plan.entropy lpid
-      by_test true h = h
-      by_test false h = h
-
-pub words_are_counted : WordsAreCounted
-words_are_counted lpid = record {
-  start = λ config.
-      let own : EntropyWord → Bool = (λ word. word.lpid == lpid) in
-      length-map (filter own config.entropy) (λ (word : EntropyWord). word.left) ∙ length-filter own config.entropy;
-  left = λ plan past counted.
-      let stays = words_stay plan past lpid in
-      stays.0 ∙ sym counted ∙ sym (ap (λ (words : List ℕ). length words) stays.1);
-}
 
 -- a target that is a guest's
 is_at : (lpid : ℕ) (t : Target) → is_guest lpid t ≡ true → t ≡ AtGuest lpid

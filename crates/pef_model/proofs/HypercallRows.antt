@@ -9,7 +9,8 @@ use Rattle.std.proofs.lemmas.List.Kept.{AllPairs-from_increasing}
 use Rattle.pef_model.specs.declared.hypercall.Row.{Row}
 use Rattle.pef_model.specs.Hypercalls.{IsRow, IsTable, row_of}
 use Rattle.pef_model.specs.TableLaw.{NumbersHaveTheirRows, OtherNumbersHaveNone}
-use Rattle.pef_model.proofs.HypercallTables.{IsRow-within, number_at}
+use Rattle.pef_model.specs.declared.hypercall.TheConstants.{HCALLS}
+use Rattle.pef_model.proofs.HypercallTables.{IsRow-within, IsTable-from_test, number_at}
 
 -- what stands behind the first row stands in all
 Contains-behind : (x : Row) (rows : List Row) (row : Row) → Contains rows row → Contains (x ∷ rows) row
@@ -45,6 +46,10 @@ row_of-none (x ∷ rows) number is row within = by_test (row_of-none rows number
 pub row_whole : (rows : List Row) (number : ℕ) (o : Option Row) → IsTable rows → o ≡ row_of rows number → IfSome o IsRow
 row_whole rows number None table is = tt
 row_whole rows number (Some row) table is = IsRow-within rows row table (row_of-found rows number row (sym is)).0
+
+-- the row of a hypercall's number is whole
+pub row_is_whole : (n : ℕ) (row : Row) → row_of HCALLS n ≡ Some row → IsRow row
+row_is_whole n row is = row_whole HCALLS n (Some row) (IsTable-from_test 0 HCALLS refl) (sym is)
 
 -- two rows of a table that have one number are one
 same_row : (rows : List Row) (row other : Row) → IsTable rows → Contains rows row → Contains rows other → row.number ≡ other.number → row ≡ other

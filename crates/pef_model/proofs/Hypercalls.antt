@@ -28,16 +28,11 @@ use Rattle.pef_model.specs.StepLaw.{let_out, let_out_running, let_out_calling}
 use Rattle.pef_model.specs.HypercallLaw.{LeavesScrubbed, EachHypercallIsScrubbed}
 use Rattle.pef_model.proofs.Assigned.{full_registers}
 use Rattle.pef_model.proofs.ExitAnswers.{exits_exactly_where}
-use Rattle.pef_model.proofs.HypercallRows.{row_whole, row_of-found}
-use Rattle.pef_model.proofs.HypercallTables.{IsTable-from_test}
+use Rattle.pef_model.proofs.HypercallRows.{row_is_whole, row_of-found}
 use Rattle.pef_model.proofs.LetOut.{shown_is}
 use Rattle.pef_model.proofs.Scrubs.{scrubbed-from_registers}
 use Rattle.pef_model.proofs.OwnRegisters.{length_called}
 use Rattle.pef_model.proofs.Steps.{own_cpu, call_shows}
-
--- the row of a number has it, and is whole
-row_is_whole : (n : ℕ) (row : Row) → row_of HCALLS n ≡ Some row → IsRow row
-row_is_whole n row is = row_whole HCALLS n (Some row) (IsTable-from_test 0 HCALLS refl) (sym is)
 
 -- each register of those that leave has its value
 each_register : (row : Row) (gpr : List ℕ) (r : ℕ) → IsRow row → row.number ≡ slice_index gpr 3 → length gpr ≡ 32 → r < 32 → get_or (call_registers (let_out_by row gpr)) r 0 ≡ value_scrubbed row gpr r

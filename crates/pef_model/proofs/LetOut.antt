@@ -56,15 +56,15 @@ interrupt_lets_out : (gpr : List ℕ) (ask : Ask) (p : Phase) → LetsOut gpr GI
 interrupt_lets_out gpr ask phase.Normal = refl
 interrupt_lets_out gpr ask p = refl
 
-call_lets_out : (gpr : List ℕ) (ask : Ask) (p : Phase) → LetsOut gpr GHcall (deed_hypercall p gpr ask)
-call_lets_out gpr ask phase.Normal = refl
-call_lets_out gpr ask p = by_row (row_of HCALLS (slice_index gpr 3)) refl where
-  by_kind : (kind : RowKind) (row : Row) → row_of HCALLS (slice_index gpr 3) ≡ Some row → LetsOut gpr GHcall (deed_by_kind kind ask gpr row)
+call_lets_out : (words : ℕ) (gpr : List ℕ) (ask : Ask) (p : Phase) → LetsOut gpr GHcall (deed_hypercall words p gpr ask)
+call_lets_out words gpr ask phase.Normal = refl
+call_lets_out words gpr ask p = by_row (row_of HCALLS (slice_index gpr 3)) refl where
+  by_kind : (kind : RowKind) (row : Row) → row_of HCALLS (slice_index gpr 3) ≡ Some row → LetsOut gpr GHcall (deed_by_kind words kind ask gpr row)
   by_kind Reflected row is = ap (let_out_calling gpr) (sym is)
   by_kind Local row is = refl
   by_kind Svm row is = refl
 
-  by_row : (row : Option Row) → row_of HCALLS (slice_index gpr 3) ≡ row → LetsOut gpr GHcall (deed_by_row ask gpr row)
+  by_row : (row : Option Row) → row_of HCALLS (slice_index gpr 3) ≡ row → LetsOut gpr GHcall (deed_by_row words ask gpr row)
   by_row (Some row) is = by_kind row.kind row is
   by_row None is = refl
 
@@ -72,7 +72,7 @@ running_lets_out : (plan : Plan) (g : Guest) (found : ℕ → ℕ → ℕ) (any 
 running_lets_out plan g found any run ask (GLd rd gpa) = load_lets_out (g.registers run.vid).gpr rd gpa ask (g.content gpa) (λ n. found n (offset_of plan gpa)) any (meets plan g.part gpa)
 running_lets_out plan g found any run ask (GSt rs gpa) = store_lets_out (g.registers run.vid).gpr rs gpa ask any (meets plan g.part gpa)
 running_lets_out plan g found any run ask GIrq = interrupt_lets_out (g.registers run.vid).gpr ask g.part.phase
-running_lets_out plan g found any run ask GHcall = call_lets_out (g.registers run.vid).gpr ask g.part.phase
+running_lets_out plan g found any run ask GHcall = call_lets_out g.part.words (g.registers run.vid).gpr ask g.part.phase
 running_lets_out plan g found any run ask cmd = refl
 
 deed_lets_out : (plan : Plan) (past : List Event) (run : Run) (asked : Ask) (cmd : Cmd) →

@@ -16,6 +16,8 @@ pub mod Hypercalls
 pub mod Stores
 pub mod Loads
 pub mod Called
+pub mod Returned
+pub mod ReturnRows
 pub mod Assigned
 pub mod Touched
 pub mod Clashes
@@ -26,6 +28,7 @@ pub mod Outcomes
 pub mod LetOut
 pub mod Steps
 pub mod Moves
+mod Newest
 pub mod Puts
 pub mod Changes
 pub mod HypervisorChanges
@@ -83,6 +86,7 @@ pub mod InvalidPages
 pub mod TagBytes
 pub mod ToldEntries
 pub mod GuestsKeep
+pub mod WordsLeft
 pub mod PageCalls
 pub mod BusyAnswers
 mod Unworded
@@ -96,3 +100,6 @@ mod SlotAnswers
 mod SlotChanges
 pub mod SlotsApart
 mod ExitAnswers
+mod CallAnswers
+mod ComesBack
+mod RandomWords

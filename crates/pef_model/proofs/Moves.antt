@@ -9,7 +9,7 @@ use Rattle.pef_model.specs.declared.state.Ctx.TheVariants as ctx
 use Rattle.pef_model.specs.declared.command.Code.{Code}
 use Rattle.pef_model.specs.declared.command.Code.TheVariants.{USuccess}
 use Rattle.pef_model.specs.declared.command.Cmd.{Cmd}
-use Rattle.pef_model.specs.declared.command.Cmd.TheVariants.{HLd, HSt, HSelect, HEnter, UPate, UReturn, Go, Dump}
+use Rattle.pef_model.specs.declared.command.Cmd.TheVariants.{HLd, HSt, HSelect, HEnter, UPate, UReturn, Go}
 use Rattle.pef_model.specs.declared.entry.Answer.{Answer}
 use Rattle.pef_model.specs.declared.entry.Answer.TheVariants.{Ret, Enter}
 use Rattle.pef_model.specs.declared.state.Work.TheVariants.{Inward, Outward}
@@ -18,11 +18,12 @@ use Rattle.pef_model.specs.Event.{Event}
 use Rattle.pef_model.specs.Target.{target_in, is_guest, touches_guest, vcpu_in, AtGuest, Alone}
 use Rattle.pef_model.specs.GuestPart.{ends_guest, part_of_write, part_of_hypervisor, part_in, ended_normal}
 use Rattle.pef_model.specs.Registers.{fresh_registers}
-use Rattle.pef_model.specs.Guest.{Guest, start_guest, next_guest, registers_after_command, registers_in, entered_at, answered_with}
+use Rattle.pef_model.specs.Guest.{Guest, start_guest, next_guest, registers_after_command, registers_in, entered_at, returned_to, answered_with}
 use Rattle.pef_model.specs.History.{guest_after}
-use Rattle.pef_model.specs.StepLaw.{Steps, IsInterrupted, IsStepOf, TakesUp, KeepsRegisters, registers_of, EachEntryLeavesRegisters}
+use Rattle.pef_model.specs.StepLaw.{Steps, IsInterrupted, IsStepOf, TakesUp, goes_on_at, takes_nothing, registers_of, EachEntryLeavesRegisters}
 use Rattle.pef_model.proofs.Folds.{either_same, same_test, test_same, counts}
 use Rattle.pef_model.proofs.Assigned.{ends_by, waits_for_answer, answers_by, same_answered, gpr_in_hypervisor}
+use Rattle.pef_model.proofs.Returned.{waits_for_call}
 use Rattle.pef_model.proofs.Aims.{own_guest}
 use Rattle.pef_model.proofs.Outcomes.{Outcome, outcome}
 use Rattle.pef_model.proofs.Taken.{IsThereIn, there_is}
@@ -32,10 +33,10 @@ use Rattle.pef_model.specs.declared.state.VState.TheVariants as vstate
 use Rattle.pef_model.specs.declared.state.VState.{VState}
 
 -- a vCPU's registers after an entry, by the fields of the entry
-abbrev registers_by : Plan → Ctx → ℕ → ℕ → Cmd → Answer → Guest → ℕ → ℕ → Regs
+abbrev pub registers_by : Plan → Ctx → ℕ → ℕ → Cmd → Answer → Guest → ℕ → ℕ → Regs
 registers_by plan c l v cmd a g lpid vid = if is_guest lpid (target_in plan c l cmd) then registers_in c g v cmd a vid else g.registers vid
 
-registers_by_is : (plan : Plan) (past : List Event) (e : Event) (lpid vid : ℕ) →
+pub registers_by_is : (plan : Plan) (past : List Event) (e : Event) (lpid vid : ℕ) →
     registers_of plan (e ∷ past) lpid vid
     ≡ registers_by plan e.saw.before e.saw.lpid e.saw.vid e.trace.cmd e.trace.answer (guest_after plan lpid past) lpid vid
 registers_by_is plan past e lpid vid = by_test (touches_guest plan lpid e) where
@@ -46,7 +47,7 @@ registers_by_is plan past e lpid vid = by_test (touches_guest plan lpid e) where
   by_test true = refl
   by_test false = refl
 
-steps : (g : Guest) (regs : Regs) (run : Run) (cmd : Cmd) (a : Answer) (after : Ctx) (shown : List ℕ) → Outcome (ctx.Guest run) cmd a after shown →
+pub steps : (g : Guest) (regs : Regs) (run : Run) (cmd : Cmd) (a : Answer) (after : Ctx) (shown : List ℕ) → Outcome (ctx.Guest run) cmd a after shown →
     Steps cmd a regs (registers_after_command g regs cmd a)
 steps g regs run cmd a after shown h = record { nip = grind (arith, common_steps); srr0 = grind (arith, common_steps) }
 
@@ -59,7 +60,7 @@ aimed_registers run v cmd a g lpid vid here this =
     (rw (same_test run.lpid, same_test run.vid) refl))
 
 -- so does one that aims at nothing
-own_registers : (plan : Plan) (run : Run) (l v : ℕ) (cmd : Cmd) (a : Answer) (g : Guest) (lpid vid : ℕ) → run.lpid ≡ lpid → run.vid ≡ vid →
+pub own_registers : (plan : Plan) (run : Run) (l v : ℕ) (cmd : Cmd) (a : Answer) (g : Guest) (lpid vid : ℕ) → run.lpid ≡ lpid → run.vid ≡ vid →
     registers_by plan (ctx.Guest run) l v cmd a g lpid vid ≡ registers_after_command g (g.registers vid) cmd a
 own_registers plan run l v (HLd ra) a g lpid vid here this = refl
 own_registers plan run l v (HSt ra value) a g lpid vid here this = refl
@@ -68,23 +69,39 @@ own_registers plan run l v (HEnter named entered value) a g lpid vid here this =
 own_registers plan run l v Go a g lpid vid here this = refl
 own_registers plan run l v cmd a g lpid vid here this = aimed_registers run v cmd a g lpid vid here this
 
-taken_registers : (plan : Plan) (r0 r2 : ℕ) (outs : List ℕ) (g : Guest) (lpid vid : ℕ) →
-    registers_by plan ctx.Hv lpid vid (UReturn r0 r2 outs) Enter g lpid vid ≡ entered_at (g.registers vid) r2
+pub taken_registers : (plan : Plan) (r0 r2 : ℕ) (outs : List ℕ) (g : Guest) (lpid vid : ℕ) →
+    registers_by plan ctx.Hv lpid vid (UReturn r0 r2 outs) Enter g lpid vid ≡ entered_at (returned_to (g.part.vcpus vid).state (g.registers vid) r0 outs) r2
 taken_registers plan r0 r2 outs g lpid vid = rw (same_test lpid, same_test vid) refl
 
 -- one that ends a guest of the machine leaves each vCPU of it zero registers
 ended_registers : (plan : Plan) (l v : ℕ) (dw0 : ℕ) (g : Guest) (lpid vid : ℕ) → (nat_le 1 lpid && nat_le lpid plan.guests) ≡ true → registers_by plan ctx.Hv l v (UPate lpid dw0 0) (Ret USuccess) g lpid vid ≡ fresh_registers
 ended_registers plan l v dw0 g lpid vid there = rw (there, same_test lpid) refl
 
-is_interrupted : (regs : Regs) (r2 : ℕ) → IsInterrupted r2 regs (entered_at regs r2)
-is_interrupted regs r2 = record { nip = nip (r2 == 0); srr0 = srr0 (r2 == 0) } where
-  nip : (b : Bool) → (if b then regs else record regs { nip = r2; srr0 = regs.nip }).nip ≡ (if b then regs.nip else r2)
-  nip true = refl
+-- where UV_RETURN lets a vCPU go on, or interrupts it
+pub is_interrupted : (state : VState) (regs : Regs) (r0 r2 : ℕ) (outs : List ℕ) → IsInterrupted r2 (goes_on_at state regs.nip) regs (entered_at (returned_to state regs r0 outs) r2)
+is_interrupted state regs r0 r2 outs = record { nip = nip (r2 == 0); srr0 = srr0 (r2 == 0) } where
+  brought : Regs
+  brought = returned_to state regs r0 outs
+
+  brought_nip : (state : VState) → (returned_to state regs r0 outs).nip ≡ goes_on_at state regs.nip
+  brought_nip (vstate.Parked (pending.Hcall n)) = refl
+  brought_nip (vstate.Parked pending.Exit) = refl
+  brought_nip (vstate.Parked pending.Irq) = refl
+  brought_nip state = refl
+
+  brought_srr0 : (state : VState) → (returned_to state regs r0 outs).srr0 ≡ regs.srr0
+  brought_srr0 (vstate.Parked (pending.Hcall n)) = refl
+  brought_srr0 (vstate.Parked pending.Exit) = refl
+  brought_srr0 (vstate.Parked pending.Irq) = refl
+  brought_srr0 state = refl
+
+  nip : (b : Bool) → (if b then brought else record brought { nip = r2; srr0 = brought.nip }).nip ≡ (if b then goes_on_at state regs.nip else r2)
+  nip true = brought_nip state
   nip false = refl
 
-  srr0 : (b : Bool) → (if b then regs else record regs { nip = r2; srr0 = regs.nip }).srr0 ≡ (if b then regs.srr0 else regs.nip)
-  srr0 true = refl
-  srr0 false = refl
+  srr0 : (b : Bool) → (if b then brought else record brought { nip = r2; srr0 = brought.nip }).srr0 ≡ (if b then regs.srr0 else goes_on_at state regs.nip)
+  srr0 true = brought_srr0 state
+  srr0 false = brought_nip state
 
 -- h.enter of a vCPU that waits for the answer of a hypercall
 answered_registers : (plan : Plan) (l v : ℕ) (value : ℕ) (g : Guest) (lpid vid : ℕ) → (nat_le 1 lpid && nat_le lpid plan.guests) ≡ true → (g.part.vcpus vid).state ≡ vstate.Parked pending.Exit →
@@ -101,7 +118,7 @@ put_elsewhere true registers regs lpid vid v h = by_test (vid == v) refl where
   by_test false t = refl
 
 -- a step of the hypervisor doesn't end this guest
-abbrev GoesOn : Plan → Ctx → ℕ → Cmd → Answer → ℕ → Type 0
+abbrev pub GoesOn : Plan → Ctx → ℕ → Cmd → Answer → ℕ → Type 0
 GoesOn plan ctx.Hv l cmd a lpid = is_guest lpid (target_in plan ctx.Hv l cmd) ≡ true → ends_by cmd a ≡ false
 GoesOn plan c l cmd a lpid = Unit {0}
 
@@ -111,7 +128,7 @@ unended true ends registers vid goes_on = ap (λ (x : Bool). (if x then (λ n. f
 unended false ends registers vid goes_on = refl
 
 -- an entry isn't h.enter that gives this vCPU the answer of its hypercall
-abbrev IsUnanswered : Guest → ℕ → ℕ → Ctx → Cmd → Answer → Type 0
+abbrev pub IsUnanswered : Guest → ℕ → ℕ → Ctx → Cmd → Answer → Type 0
 IsUnanswered g lpid vid c cmd a = (value : ℕ) → c ≡ ctx.Hv → cmd ≡ HEnter lpid vid value → a ≡ Enter → (g.part.vcpus vid).state ≡ vstate.Parked pending.Exit → ⊥
 
 waits_is : (state : VState) → waits_for_answer state ≡ true → state ≡ vstate.Parked pending.Exit
@@ -120,9 +137,24 @@ waits_is (vstate.Parked (pending.Hcall n)) h = cc
 waits_is (vstate.Parked pending.Irq) h = cc
 waits_is state h = cc
 
+-- nor UV_RETURN that does
+abbrev IsUnreturned : Guest → ℕ → ℕ → Ctx → ℕ → ℕ → Cmd → Answer → Type 0
+IsUnreturned g lpid vid c l v cmd a = (r0 r2 : ℕ) (outs : List ℕ) → c ≡ ctx.Hv → cmd ≡ UReturn r0 r2 outs → a ≡ Enter → l ≡ lpid → v ≡ vid → takes_nothing (g.part.vcpus vid).state ≡ true
+
+takes_none : (state : VState) → takes_nothing state ≡ true → waits_for_call state ≡ false
+takes_none (vstate.Parked (pending.Hcall n)) h = cc
+takes_none (vstate.Parked pending.Exit) h = refl
+takes_none (vstate.Parked pending.Irq) h = refl
+takes_none state h = refl
+
 -- so it answers none where it aims at the guest
-unanswered : (plan : Plan) (l v : ℕ) (cmd : Cmd) (a : Answer) (g : Guest) (lpid vid : ℕ) → IsUnanswered g lpid vid ctx.Hv cmd a → is_guest lpid (target_in plan ctx.Hv l cmd) ≡ true → answers_by g vid cmd a ≡ false
-unanswered plan l v (HEnter named entered value) Enter g lpid vid none aims = by_test (vid == entered) (waits_for_answer (g.part.vcpus vid).state) refl refl where
+unanswered : (plan : Plan) (l v : ℕ) (cmd : Cmd) (a : Answer) (g : Guest) (lpid vid : ℕ) → IsUnanswered g lpid vid ctx.Hv cmd a → IsUnreturned g lpid vid ctx.Hv l v cmd a → is_guest lpid (target_in plan ctx.Hv l cmd) ≡ true →
+    answers_by g v vid cmd a ≡ false
+unanswered plan l v (UReturn r0 r2 outs) Enter g lpid vid none returned aims = by_test (vid == v) refl where
+  by_test : (b : Bool) → (vid == v) ≡ b → (b && waits_for_call (g.part.vcpus vid).state) ≡ false
+  by_test true t = takes_none (g.part.vcpus vid).state (returned r0 r2 outs refl refl refl (test_same l lpid aims) (sym (test_same vid v t)))
+  by_test false t = refl
+unanswered plan l v (HEnter named entered value) Enter g lpid vid none returned aims = by_test (vid == entered) (waits_for_answer (g.part.vcpus vid).state) refl refl where
   here : (named == lpid) ≡ true
   here = by_place (nat_le 1 named && nat_le named plan.guests) aims where
     by_place : (b : Bool) → is_guest lpid (if b then AtGuest named else Alone) ≡ true → (named == lpid) ≡ true
@@ -133,16 +165,16 @@ unanswered plan l v (HEnter named entered value) Enter g lpid vid none aims = by
   by_test true true t u = absurd (none value refl (λ i. HEnter (test_same named lpid here i) (sym (test_same vid entered t) i) value) refl (waits_is (g.part.vcpus vid).state u))
   by_test true false t u = refl
   by_test false w t u = refl
-unanswered plan l v cmd a g lpid vid none aims = refl
+unanswered plan l v cmd a g lpid vid none returned aims = refl
 
 -- an entry that neither runs a vCPU nor takes it up, and gives it no answer, and doesn't end the guest, leaves its registers
-others_stay : (plan : Plan) (c : Ctx) (l v : ℕ) (cmd : Cmd) (a : Answer) (g : Guest) (lpid vid : ℕ) → GoesOn plan c l cmd a lpid →
+pub others_stay : (plan : Plan) (c : Ctx) (l v : ℕ) (cmd : Cmd) (a : Answer) (g : Guest) (lpid vid : ℕ) → GoesOn plan c l cmd a lpid →
     ((run : Run) → c ≡ ctx.Guest run → run.lpid ≡ lpid → run.vid ≡ vid → ⊥) →
     ((r0 r2 : ℕ) (outs : List ℕ) → c ≡ ctx.Hv → cmd ≡ UReturn r0 r2 outs → a ≡ Enter → l ≡ lpid → v ≡ vid → ⊥) →
     IsUnanswered g lpid vid c cmd a →
     registers_by plan c l v cmd a g lpid vid ≡ g.registers vid
 others_stay plan ctx.Hv l v (UReturn r0 r2 outs) Enter g lpid vid goes_on own taken none =
-    put_elsewhere (l == lpid) g.registers (entered_at (g.registers v) r2) lpid vid v
+    put_elsewhere (l == lpid) g.registers (entered_at (returned_to (g.part.vcpus v).state (g.registers v) r0 outs) r2) lpid vid v
     (λ t u. absurd (taken r0 r2 outs refl refl refl (test_same l lpid u) (sym (test_same vid v t))))
 others_stay plan ctx.Hv l v (HEnter named entered value) Enter g lpid vid goes_on own taken none = by_aim (is_guest lpid (target_in plan ctx.Hv l (HEnter named entered value))) refl where
   by_vcpu : (b : Bool) → (vid == entered) ≡ b → (b && waits_for_answer (g.part.vcpus vid).state) ≡ false → (if b then answered_with (g.part.vcpus entered).state (g.registers entered) value else g.registers vid) ≡ g.registers vid
@@ -150,7 +182,7 @@ others_stay plan ctx.Hv l v (HEnter named entered value) Enter g lpid vid goes_o
   by_vcpu false t other = refl
 
   by_aim : (b : Bool) → is_guest lpid (target_in plan ctx.Hv l (HEnter named entered value)) ≡ b → (if b then registers_in ctx.Hv g v (HEnter named entered value) Enter vid else g.registers vid) ≡ g.registers vid
-  by_aim true t = by_vcpu (vid == entered) refl (unanswered plan l v (HEnter named entered value) Enter g lpid vid none t)
+  by_aim true t = by_vcpu (vid == entered) refl (unanswered plan l v (HEnter named entered value) Enter g lpid vid none (λ r0 r2 outs h cmd_is. let no : ⊥ = cc in absurd no) t)
   by_aim false t = refl
 others_stay plan ctx.Hv l v cmd Enter g lpid vid goes_on own taken none = either_same (is_guest lpid (target_in plan ctx.Hv l cmd)) (g.registers vid)
 others_stay plan ctx.Hv l v (UPate named dw0 dw1) (Ret code) g lpid vid goes_on own taken none =
@@ -163,14 +195,14 @@ others_stay plan (ctx.Guest run) l v cmd a g lpid vid goes_on own taken none =
     (λ t u. absurd (own run refl (own_guest plan run l lpid cmd u) (sym (test_same vid run.vid t))))
 
 gpr_stays : (plan : Plan) (c : Ctx) (l v : ℕ) (cmd : Cmd) (a : Answer) (g : Guest) (lpid vid : ℕ) → GoesOn plan c l cmd a lpid →
-    ((run : Run) → c ≡ ctx.Guest run → run.lpid ≡ lpid → run.vid ≡ vid → ⊥) → IsUnanswered g lpid vid c cmd a → (registers_by plan c l v cmd a g lpid vid).gpr ≡ (g.registers vid).gpr
-gpr_stays plan ctx.Hv l v cmd a g lpid vid goes_on own none = by_test (is_guest lpid (target_in plan ctx.Hv l cmd)) refl where
+    ((run : Run) → c ≡ ctx.Guest run → run.lpid ≡ lpid → run.vid ≡ vid → ⊥) → IsUnanswered g lpid vid c cmd a → IsUnreturned g lpid vid c l v cmd a → (registers_by plan c l v cmd a g lpid vid).gpr ≡ (g.registers vid).gpr
+gpr_stays plan ctx.Hv l v cmd a g lpid vid goes_on own none returned = by_test (is_guest lpid (target_in plan ctx.Hv l cmd)) refl where
   by_test : (b : Bool) → is_guest lpid (target_in plan ctx.Hv l cmd) ≡ b → (if b then registers_in ctx.Hv g v cmd a vid else g.registers vid).gpr ≡ (g.registers vid).gpr
-  by_test true t = gpr_in_hypervisor g v a cmd vid (goes_on t) (unanswered plan l v cmd a g lpid vid none t)
+  by_test true t = gpr_in_hypervisor g v a cmd vid (goes_on t) (unanswered plan l v cmd a g lpid vid none returned t)
   by_test false t = refl
-gpr_stays plan (ctx.Uv work) l v cmd a g lpid vid goes_on own none =
+gpr_stays plan (ctx.Uv work) l v cmd a g lpid vid goes_on own none returned =
     ap (λ (x : Regs). x.gpr) (others_stay plan (ctx.Uv work) l v cmd a g lpid vid tt own (λ r0 r2 outs h cmd_is answer_is here this. let no : ⊥ = cc in no) none)
-gpr_stays plan (ctx.Guest run) l v cmd a g lpid vid goes_on own none =
+gpr_stays plan (ctx.Guest run) l v cmd a g lpid vid goes_on own none returned =
     ap (λ (x : Regs). x.gpr) (others_stay plan (ctx.Guest run) l v cmd a g lpid vid tt own (λ r0 r2 outs h cmd_is answer_is here this. let no : ⊥ = cc in no) none)
 
 -- the hypervisor's calls alone are in progress
@@ -181,7 +213,7 @@ runs_alone (ctx.Uv (Outward move)) run h = cc
 runs_alone (ctx.Guest other) run h = ap ctx.Guest (ap (λ (o : Option Run). unwrap_or o other) h)
 
 -- a guest that keeps its generation doesn't end
-goes_on_is : (plan : Plan) (past : List Event) (e : Event) (lpid : ℕ) → KeepsRegisters plan past e lpid → GoesOn plan e.saw.before e.saw.lpid e.trace.cmd e.trace.answer lpid
+pub goes_on_is : (plan : Plan) (past : List Event) (e : Event) (lpid : ℕ) → (guest_after plan lpid (e ∷ past)).part.generation ≡ (guest_after plan lpid past).part.generation → GoesOn plan e.saw.before e.saw.lpid e.trace.cmd e.trace.answer lpid
 goes_on_is plan past e lpid keeps = by_ctx e.saw.before refl where
   g : Guest
   g = guest_after plan lpid past
@@ -202,7 +234,7 @@ goes_on_is plan past e lpid keeps = by_ctx e.saw.before refl where
       by_end e.trace.cmd e.trace.answer
       (ap (λ (c : Ctx). (part_in plan g.part c e.trace.answer e.trace.cmd e.saw.pool e.saw.vid e.trace.cpu e.bytes).generation) (sym before)
       ∙ ap (λ (x : Guest). x.part.generation) (sym (counts (touches_guest plan lpid) (next_guest plan) (start_guest plan lpid) e past (ap (λ (c : Ctx). is_guest lpid (target_in plan c e.saw.lpid e.trace.cmd)) before ∙ aims)))
-      ∙ keeps.generation)
+      ∙ keeps)
   by_ctx (ctx.Uv work) before = tt
   by_ctx (ctx.Guest run) before = tt
 
@@ -218,15 +250,15 @@ each_entry_leaves_registers plan past e lpid vid extends =
           ∙ own_registers plan run e.saw.lpid e.saw.vid e.trace.cmd e.trace.answer g lpid vid step.guest_is step.vcpu_is))
           (steps g (registers vid) run e.trace.cmd e.trace.answer e.saw.after e.saw.shown
           (subst (λ (c : Ctx). Outcome c e.trace.cmd e.trace.answer e.saw.after e.saw.shown) (runs_alone e.saw.before run step.before) (outcome plan past e extends)));
-      taken = λ (r0 r2 : ℕ) (outs : List ℕ) (takes : TakesUp lpid vid r0 r2 outs e) nothing.
-          subst (λ (x : Regs). IsInterrupted r2 (registers vid) x)
+      taken = λ (r0 r2 : ℕ) (outs : List ℕ) (takes : TakesUp lpid vid r0 r2 outs e).
+          subst (λ (x : Regs). IsInterrupted r2 (goes_on_at (g.part.vcpus vid).state (registers vid).nip) (registers vid) x)
           (sym (is ∙ ap (λ (c : Ctx). registers_by plan c e.saw.lpid e.saw.vid e.trace.cmd e.trace.answer g lpid vid) takes.before
           ∙ ap (λ (cmd : Cmd). registers_by plan ctx.Hv e.saw.lpid e.saw.vid cmd e.trace.answer g lpid vid) takes.cmd_is
           ∙ ap (λ (a : Answer). registers_by plan ctx.Hv e.saw.lpid e.saw.vid (UReturn r0 r2 outs) a g lpid vid) takes.answer_is
           ∙ ap (λ (l : ℕ). registers_by plan ctx.Hv l e.saw.vid (UReturn r0 r2 outs) Enter g lpid vid) takes.guest_is
           ∙ ap (λ (v : ℕ). registers_by plan ctx.Hv lpid v (UReturn r0 r2 outs) Enter g lpid vid) takes.vcpu_is
           ∙ taken_registers plan r0 r2 outs g lpid vid))
-          (is_interrupted (registers vid) r2);
+          (is_interrupted (g.part.vcpus vid).state (registers vid) r0 r2 outs);
       ended = λ dw0 before cmd_is answer_is.
           let there : IsThereIn ctx.Hv plan (UPate lpid dw0 0) (Ret USuccess) =
           subst (λ (a : Answer). IsThereIn ctx.Hv plan (UPate lpid dw0 0) a) answer_is
@@ -244,12 +276,13 @@ each_entry_leaves_registers plan past e lpid vid extends =
           ∙ ap (λ (a : Answer). registers_by plan ctx.Hv e.saw.lpid e.saw.vid (HEnter lpid vid value) a g lpid vid) answers.0.answer_is
           ∙ answered_registers plan e.saw.lpid e.saw.vid value g lpid vid there answers.1;
       others = λ keeps own taken none.
-          is ∙ others_stay plan e.saw.before e.saw.lpid e.saw.vid e.trace.cmd e.trace.answer g lpid vid (goes_on_is plan past e lpid keeps)
+          is ∙ others_stay plan e.saw.before e.saw.lpid e.saw.vid e.trace.cmd e.trace.answer g lpid vid (goes_on_is plan past e lpid keeps.generation)
           (λ run before here this. own run (record { before = ap vcpu_in before; guest_is = here; vcpu_is = this }))
           (λ r0 r2 outs before cmd_is answer_is here this. taken r0 r2 outs (record { before = before; cmd_is = cmd_is; answer_is = answer_is; guest_is = here; vcpu_is = this }))
           (λ value before cmd_is answer_is waits. none value (record { before = before; cmd_is = cmd_is; answer_is = answer_is }, waits));
       gpr = λ keeps own none taken.
-          ap (λ (x : Regs). x.gpr) is ∙ gpr_stays plan e.saw.before e.saw.lpid e.saw.vid e.trace.cmd e.trace.answer g lpid vid (goes_on_is plan past e lpid keeps)
+          ap (λ (x : Regs). x.gpr) is ∙ gpr_stays plan e.saw.before e.saw.lpid e.saw.vid e.trace.cmd e.trace.answer g lpid vid (goes_on_is plan past e lpid keeps.generation)
           (λ run before here this. own run (record { before = ap vcpu_in before; guest_is = here; vcpu_is = this }))
-          (λ value before cmd_is answer_is waits. none value (record { before = before; cmd_is = cmd_is; answer_is = answer_is }, waits));
+          (λ value before cmd_is answer_is waits. none value (record { before = before; cmd_is = cmd_is; answer_is = answer_is }, waits))
+          (λ r0 r2 outs before cmd_is answer_is here this. taken r0 r2 outs (record { before = before; cmd_is = cmd_is; answer_is = answer_is; guest_is = here; vcpu_is = this }));
     }

@@ -1,5 +1,5 @@
 -- What an object's value reads.
-use Rattle.std.proofs.Common.{◌&&◌, not, ◌≡◌, ℕ, List, Bool, true, false, Option, Some, None, [], ◌∷◌, if◌then◌else◌, refl, ap, ◌∙◌, slice_index}
+use Rattle.std.proofs.Common.{◌&&◌, not, ◌≡◌, ℕ, List, drop, Bool, true, false, Option, Some, None, [], ◌∷◌, if◌then◌else◌, refl, ap, ◌∙◌, slice_index}
 use Rattle.pef_model.specs.declared.state.Work.TheVariants.{Inward, Outward}
 use Rattle.pef_model.specs.declared.state.Ctx.{Ctx}
 use Rattle.pef_model.specs.declared.state.Ctx.TheVariants as ctx
@@ -14,7 +14,7 @@ use Rattle.pef_model.specs.Target.{touches_cpu, touches_guest, touches_pool, tou
 use Rattle.pef_model.specs.Cpu.{CpuPart, start_cpu, next_cpu, cpu_in, cpu_by}
 use Rattle.pef_model.specs.GuestPart.{GuestPart, part_in, page_of, next_part, with_running_vcpu, with_page_coming, with_page_leaving}
 use Rattle.pef_model.specs.Clash.{clashes, clashes_in, ends_in_clash}
-use Rattle.pef_model.specs.Guest.{Guest, start_guest, next_guest, next_registers, registers_of_hypervisor, registers_in, stored_by, stored_in}
+use Rattle.pef_model.specs.Guest.{Guest, start_guest, is_drawing, next_guest, next_registers, registers_of_hypervisor, registers_in, stored_by, stored_in}
 use Rattle.pef_model.specs.Memory.{start_pool, next_pool, pool_with, start_frame, next_frame, after_writes, writes_of, writes_in, write_in, offset_by}
 use Rattle.pef_model.specs.ReadLaw.{EachOwnEntriesDecide, AgreeForCpu, AgreeForGuest, AgreeForFrame, IsReturn, GivesCpu, TheseFieldsDecide, tells_guest, tells_frame}
 use Rattle.pef_model.proofs.Folds.{value_after-filter}
@@ -105,7 +105,8 @@ guest_agrees plan e f g h =
     clash_reads g.part e.saw.before e.trace.cmd e.trace.answer e.bytes f.bytes h.bytes ∙ λ i. clashes_in g.part (h.before i) (h.cmd i) f.bytes in
     let stored : (gpa : ℕ) → stored_by plan g e gpa ≡ stored_by plan g f gpa =
     (λ gpa. stored_reads plan g e.saw.before e.trace.cmd e.trace.answer e.saw.frame e.bytes f.bytes gpa h.bytes ∙ λ i. stored_in (h.before i) plan g (h.cmd i) (h.answer i) (h.frame i) f.bytes gpa) in
-    (λ i. record g { part = part i; content = λ gpa. unwrap_or (stored gpa i) (g.content gpa); registers = registers i; clean = g.clean && not (clash i) })
+    let drawing : is_drawing e.saw.before e.trace.answer e.trace.cmd ≡ is_drawing f.saw.before f.trace.answer f.trace.cmd = (λ i. is_drawing (h.before i) (h.answer i) (h.cmd i)) in
+    (λ i. record g { part = part i; content = λ gpa. unwrap_or (stored gpa i) (g.content gpa); registers = registers i; words = if drawing i then drop 1 g.words else g.words; clean = g.clean && not (clash i) })
 
 -- the bytes count for a normal frame where they tell it something
 frame_reads : (shift : ℕ) (c : Ctx) (cmd : Cmd) (a : Answer) (x y : List ℕ) (frame : Option ℕ) → (tells_frame c cmd a ≡ true → x ≡ y) → writes_in shift c cmd a x frame ≡ writes_in shift c cmd a y frame

@@ -133,14 +133,14 @@ interrupt_comes : (run : Run) (ask : Ask) (p : Phase) (gpr : List ℕ) → Comes
 interrupt_comes run ask p gpr = grind (arith, common_steps)
 
 -- a hypercall leaves, or is answered
-call_comes : (run : Run) (ask : Ask) (p : Phase) (gpr : List ℕ) → ask.before ≡ ctx.Guest run → Comes (ctx.Guest run) GHcall (deed_hypercall p gpr ask)
-call_comes run ask phase.Normal gpr h = refl
-call_comes run ask p gpr h = by_row (row_of HCALLS (slice_index gpr 3)) where
-  by_kind : (kind : RowKind) (row : Row) → Comes (ctx.Guest run) GHcall (deed_by_kind kind ask gpr row)
+call_comes : (words : ℕ) (run : Run) (ask : Ask) (p : Phase) (gpr : List ℕ) → ask.before ≡ ctx.Guest run → Comes (ctx.Guest run) GHcall (deed_hypercall words p gpr ask)
+call_comes words run ask phase.Normal gpr h = refl
+call_comes words run ask p gpr h = by_row (row_of HCALLS (slice_index gpr 3)) where
+  by_kind : (kind : RowKind) (row : Row) → Comes (ctx.Guest run) GHcall (deed_by_kind words kind ask gpr row)
   by_kind Reflected row = refl
   by_kind kind row = h
 
-  by_row : (row : Option Row) → Comes (ctx.Guest run) GHcall (deed_by_row ask gpr row)
+  by_row : (row : Option Row) → Comes (ctx.Guest run) GHcall (deed_by_row words ask gpr row)
   by_row (Some row) = by_kind row.kind row
   by_row None = h
 
@@ -149,7 +149,7 @@ running_comes : (plan : Plan) (g : Guest) (found : ℕ → ℕ → ℕ) (any : B
 running_comes plan g found any run ask (GLd rd gpa) h = access_comes run ask (GLd rd gpa) (Val (g.content gpa)) (λ n. Val (found n (offset_of plan gpa))) [] any (meets plan g.part gpa) h (λ n. h) h h
 running_comes plan g found any run ask (GSt rs gpa) h = access_comes run ask (GSt rs gpa) Done (λ n. Done) (slice_index (g.registers run.vid).gpr rs ∷ []) any (meets plan g.part gpa) h (λ n. h) h h
 running_comes plan g found any run ask GIrq h = interrupt_comes run ask g.part.phase (g.registers run.vid).gpr
-running_comes plan g found any run ask GHcall h = call_comes run ask g.part.phase (g.registers run.vid).gpr h
+running_comes plan g found any run ask GHcall h = call_comes g.part.words run ask g.part.phase (g.registers run.vid).gpr h
 running_comes plan g found any run ask cmd h = h
 
 return_comes : (g : GuestPart) (asked : Ask) (r0 r2 : ℕ) (outs : List ℕ) → Comes ctx.Hv (UReturn r0 r2 outs) (deed_return g (record asked { before = ctx.Hv }))

@@ -1,5 +1,5 @@
 -- What any entry, of a legal history or not, can make of a guest's public part.
-use Rattle.std.proofs.Common.{◌≡◌, ◌≢◌, ◌≤◌, arith, Option, Some, None, ℕ, List, [], ◌∷◌, Bool, true, false, if◌then◌else◌, refl}
+use Rattle.std.proofs.Common.{◌≡◌, ◌≢◌, ◌-◌, ◌≤◌, arith, Option, Some, None, ℕ, List, [], ◌∷◌, Bool, true, false, if◌then◌else◌, refl}
 use Rattle.pef_model.specs.declared.state.Phase.{Phase}
 use Rattle.pef_model.specs.declared.state.Phase.TheVariants as phase
 use Rattle.pef_model.specs.declared.state.Pending.{Pending}
@@ -20,7 +20,7 @@ use Rattle.pef_model.specs.declared.entry.PoolSaw.{PoolSaw}
 use Rattle.pef_model.specs.declared.entry.Answer.{Answer}
 use Rattle.pef_model.specs.declared.entry.Answer.TheVariants.{Done, Val, Ret, Step, Enter, Exit}
 use Rattle.pef_model.specs.Slots.{registered_by, unregistered_by}
-use Rattle.pef_model.specs.GuestPart.{GuestPart, Page, VcpuPart, part_of_write, part_of_hypervisor, part_of_work, part_of_access, part_of_guest, part_in, page_of, slot_asked, waits_for, start_phase, with_secure_page, with_running_vcpu, with_parked_vcpu, with_page_leaving, with_page_out, with_page_coming, with_page_refused, with_entry}
+use Rattle.pef_model.specs.GuestPart.{GuestPart, Page, VcpuPart, part_of_write, part_of_hypervisor, part_of_work, part_of_access, part_of_guest, part_in, page_of, slot_asked, waits_for, start_phase, with_secure_page, with_running_vcpu, with_parked_vcpu, with_page_leaving, with_page_out, with_page_coming, with_page_refused, has_word, with_entry}
 use Rattle.pef_model.specs.Guest.{Guest, next_guest}
 use Rattle.pef_model.specs.History.{guest_after, part_after}
 use Rattle.pef_model.proofs.Changes.{entry_gives, may_run_in}
@@ -37,6 +37,7 @@ pub record IsKept (P : GuestPart → Type 0) (g : GuestPart) : Type 0 where
   pub secure : (gfn : ℕ) → P (with_secure_page g gfn)
   pub written : (dw0 dw1 : ℕ) → P (with_entry g dw0 dw1)
   pub slots : (slots : List Slot) → P (record g { slots = slots })
+  pub drawn : (words : ℕ) → P (record g { words = words })
 
 module _ (P : GuestPart → Type 0) (plan : Plan) (g : GuestPart) (k : IsKept P g) where
   by_write : (code : Code) (dw0 dw1 : ℕ) → P (part_of_write g code dw0 dw1)
@@ -67,6 +68,7 @@ module _ (P : GuestPart → Type 0) (plan : Plan) (g : GuestPart) (k : IsKept P 
   by_guest vid (Val value) (GLd rd gpa) pool = by_access (page_of plan gpa) pool
   by_guest vid Done (GSt rs gpa) pool = by_access (page_of plan gpa) pool
   by_guest vid (Exit why) GIrq pool = k.parked vid pending.Irq
+  by_guest vid (Ret code) GHcall pool = k.drawn (if has_word code then g.words - 1 else g.words)
   by_guest vid (Exit why) GHcall pool = k.parked vid (waits_for why)
   by_guest vid a cmd pool = k.same
 
@@ -85,20 +87,21 @@ holds_after P plan past e lpid kept = by_test (touches_guest plan lpid e) where
   by_test true = by_ctx P plan g.part kept e.saw.before e.trace.answer e.trace.cmd e.saw.pool e.saw.vid e.trace.cpu e.bytes
   by_test false = kept.same
 
--- a fact that no change of pages, vCPUs, order and slots touches is kept, if it is where a partition entry is set
-pub life_kept : (P : GuestPart → Type 0) (g : GuestPart) → ((pages : ℕ → Page) (vcpus : ℕ → VcpuPart) (order : List ℕ) (slots : List Slot) → P (record g { pages = pages; vcpus = vcpus; order = order; slots = slots })) →
+-- a fact that no change of pages, vCPUs, order, slots and words touches is kept, if it is where a partition entry is set
+pub life_kept : (P : GuestPart → Type 0) (g : GuestPart) → ((pages : ℕ → Page) (vcpus : ℕ → VcpuPart) (order : List ℕ) (slots : List Slot) (words : ℕ) → P (record g { pages = pages; vcpus = vcpus; order = order; slots = slots; words = words })) →
     ((dw0 dw1 : ℕ) → P (with_entry g dw0 dw1)) → IsKept P g
 life_kept P g h written = record {
-  same = h g.pages g.vcpus g.order g.slots;
-  running = λ vid cpu. h g.pages (with_running_vcpu g vid cpu).vcpus g.order g.slots;
-  parked = λ vid pending. h g.pages (with_parked_vcpu g vid pending).vcpus g.order g.slots;
-  leaving = λ gfn cpu bytes. h (with_page_leaving g gfn cpu bytes).pages g.vcpus g.order g.slots;
-  out = λ gfn. h (with_page_out g gfn).pages g.vcpus (with_page_out g gfn).order g.slots;
-  coming = λ gfn cpu. h (with_page_coming g gfn cpu).pages g.vcpus g.order g.slots;
-  refused = λ gfn. h (with_page_refused g gfn).pages g.vcpus g.order g.slots;
-  secure = λ gfn. h (with_secure_page g gfn).pages g.vcpus (with_secure_page g gfn).order g.slots;
+  same = h g.pages g.vcpus g.order g.slots g.words;
+  running = λ vid cpu. h g.pages (with_running_vcpu g vid cpu).vcpus g.order g.slots g.words;
+  parked = λ vid pending. h g.pages (with_parked_vcpu g vid pending).vcpus g.order g.slots g.words;
+  leaving = λ gfn cpu bytes. h (with_page_leaving g gfn cpu bytes).pages g.vcpus g.order g.slots g.words;
+  out = λ gfn. h (with_page_out g gfn).pages g.vcpus (with_page_out g gfn).order g.slots g.words;
+  coming = λ gfn cpu. h (with_page_coming g gfn cpu).pages g.vcpus g.order g.slots g.words;
+  refused = λ gfn. h (with_page_refused g gfn).pages g.vcpus g.order g.slots g.words;
+  secure = λ gfn. h (with_secure_page g gfn).pages g.vcpus (with_secure_page g gfn).order g.slots g.words;
   written = written;
-  slots = λ slots. h g.pages g.vcpus g.order slots;
+  slots = λ slots. h g.pages g.vcpus g.order slots g.words;
+  drawn = λ words. h g.pages g.vcpus g.order g.slots words;
 }
 
 -- a guest's generation never falls
@@ -106,7 +109,7 @@ pub generation_grows : (plan : Plan) (past : List Event) (e : Event) (lpid : ℕ
 generation_grows plan past e lpid =
     let g : GuestPart = part_after plan past lpid in
     holds_after (λ (new : GuestPart). g.generation ≤ new.generation) plan past e lpid
-    (life_kept (λ (new : GuestPart). g.generation ≤ new.generation) g (λ pages vcpus order slots. omega arith) (λ dw0 dw1. entry_gives (λ (new : GuestPart). g.generation ≤ new.generation) g dw0 dw1 (omega arith) (omega arith)))
+    (life_kept (λ (new : GuestPart). g.generation ≤ new.generation) g (λ pages vcpus order slots words. omega arith) (λ dw0 dw1. entry_gives (λ (new : GuestPart). g.generation ≤ new.generation) g dw0 dw1 (omega arith) (omega arith)))
 
 -- no guest is on its way to become secure, or back
 abbrev pub IsSettled : Phase → Type 0
@@ -123,7 +126,7 @@ settled plan (e ∷ past) lpid =
     let g : GuestPart = part_after plan past lpid in
     let is = settled plan past lpid in
     holds_after (λ (new : GuestPart). IsSettled new.phase) plan past e lpid
-    (life_kept (λ (new : GuestPart). IsSettled new.phase) g (λ pages vcpus order slots. is) (λ dw0 dw1. entry_gives (λ (new : GuestPart). IsSettled new.phase) g dw0 dw1 tt tt))
+    (life_kept (λ (new : GuestPart). IsSettled new.phase) g (λ pages vcpus order slots words. is) (λ dw0 dw1. entry_gives (λ (new : GuestPart). IsSettled new.phase) g dw0 dw1 tt tt))
 
 -- so a guest that runs is Secure, or in normal memory
 pub secure_where_runs : (p : Phase) → IsSettled p → may_run_in p ≡ true → p ≢ phase.Normal → p ≡ phase.Secure

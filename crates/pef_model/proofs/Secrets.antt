@@ -63,6 +63,7 @@ effect_open plan g cpu bytes ctx.Hv a cmd pool vid = refl
 effect_open plan g cpu bytes (ctx.Uv work) a cmd pool vid = refl
 effect_open plan g cpu bytes (ctx.Guest run) Done (GLi rd value) pool vid = refl
 effect_open plan g cpu bytes (ctx.Guest run) (Val value) (GLd rd gpa) pool vid = refl
+effect_open plan g cpu bytes (ctx.Guest run) (Ret code) (GLi rd value) pool vid = refl
 effect_open plan g cpu bytes (ctx.Guest run) (Exit exit) (GLi rd value) pool vid = refl
 effect_open plan g cpu bytes (ctx.Guest run) a cmd pool vid = refl
 

@@ -25,7 +25,7 @@ use Rattle.pef_model.specs.History.{cpu_after}
 use Rattle.pef_model.specs.Commands.{IsCommand}
 use Rattle.pef_model.specs.StepLaw.{given_by_coming_back, given_by_load, given_by_ultracall, given_by_command, own_given_in, selected_lpid, selected_vid, EachEntryLeavesCpu, is_kept, given_by_work}
 use Rattle.pef_model.proofs.Folds.{same_test, test_same, counts}
-use Rattle.pef_model.proofs.Assigned.{set_value}
+use Rattle.pef_model.proofs.Called.{set_value}
 use Rattle.pef_model.proofs.Called.{loads_value, returns_value}
 use Rattle.pef_model.proofs.OwnRegisters.{own_registers, IsFullExit, full_exit}
 use Rattle.pef_model.proofs.Outcomes.{Outcome, outcome, Moving, moving}

@@ -79,14 +79,14 @@ there_is plan past e extends =
     (deed_there plan past (cpu_after plan e.trace.cpu past).ctx (ask_of (cpu_after plan e.trace.cpu past) e.trace.cmd) e.trace.cmd)
 
 -- a vCPU that is taken up, and one that leaves
-abbrev taken_up : GuestPart → ℕ → VcpuPart
+abbrev pub taken_up : GuestPart → ℕ → VcpuPart
 taken_up g cpu = record { state = vstate.Running cpu; generation = g.generation }
 
-abbrev parked : GuestPart → ℕ → Pending → VcpuPart
+abbrev pub parked : GuestPart → ℕ → Pending → VcpuPart
 parked g vid waits = record (g.vcpus vid) { state = vstate.Parked waits }
 
 -- what a step makes of this vCPU of the guest at which it aims, by the one that is selected; None where it stays as it was
-abbrev vcpu_given : GuestPart → ℕ → ℕ → ℕ → Ctx → Cmd → Answer → Option VcpuPart
+abbrev pub vcpu_given : GuestPart → ℕ → ℕ → ℕ → Ctx → Cmd → Answer → Option VcpuPart
 vcpu_given g vid selected cpu ctx.Hv (UReturn r0 r2 outs) Enter = if selected == vid then Some (taken_up g cpu) else None
 vcpu_given g vid selected cpu ctx.Hv (HEnter lpid entered value) Enter = if entered == vid then Some (taken_up g cpu) else None
 vcpu_given g vid selected cpu ctx.Hv (UPate lpid dw0 dw1) (Ret code) = if ends_guest code dw1 then Some (new_vcpu vstate.Idle) else None
@@ -139,10 +139,10 @@ module _ (plan : Plan) (g : GuestPart) (pool : Option PoolSaw) (v cpu : ℕ) (by
   vcpu_by (ctx.Guest run) cmd a = refl
 
 -- what is given to a vCPU counts where an entry aims at its guest
-abbrev given_at : Bool → Option VcpuPart → VcpuPart → VcpuPart
+abbrev pub given_at : Bool → Option VcpuPart → VcpuPart → VcpuPart
 given_at aims given old = unwrap_or (if aims then given else None) old
 
-vcpu_after : (plan : Plan) (past : List Event) (e : Event) (lpid vid : ℕ) →
+pub vcpu_after : (plan : Plan) (past : List Event) (e : Event) (lpid vid : ℕ) →
     let g : GuestPart = (guest_after plan lpid past).part in
     (guest_after plan lpid (e ∷ past)).part.vcpus vid ≡ given_at (touches_guest plan lpid e) (vcpu_given g vid e.saw.vid e.trace.cpu e.saw.before e.trace.cmd e.trace.answer) (g.vcpus vid)
 vcpu_after plan past e lpid vid = by_test (touches_guest plan lpid e) where

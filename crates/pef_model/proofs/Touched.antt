@@ -145,15 +145,15 @@ running_tells plan run g found any ask GIrq saw h = by_phase g.part.phase h wher
   by_phase phase.Normal k = cc
   by_phase p k = cc
 running_tells plan run g found any ask GHcall saw h = by_phase g.part.phase h where
-  by_kind : (kind : RowKind) (row : Row) → (deed_by_kind kind ask (g.registers run.vid).gpr row).pool ≡ Some saw → IsTold any saw
+  by_kind : (kind : RowKind) (row : Row) → (deed_by_kind g.part.words kind ask (g.registers run.vid).gpr row).pool ≡ Some saw → IsTold any saw
   by_kind Reflected row k = cc
   by_kind kind row k = cc
 
-  by_row : (row : Option Row) → (deed_by_row ask (g.registers run.vid).gpr row).pool ≡ Some saw → IsTold any saw
+  by_row : (row : Option Row) → (deed_by_row g.part.words ask (g.registers run.vid).gpr row).pool ≡ Some saw → IsTold any saw
   by_row (Some row) k = by_kind row.kind row k
   by_row None k = cc
 
-  by_phase : (p : Phase) → (deed_hypercall p (g.registers run.vid).gpr ask).pool ≡ Some saw → IsTold any saw
+  by_phase : (p : Phase) → (deed_hypercall g.part.words p (g.registers run.vid).gpr ask).pool ≡ Some saw → IsTold any saw
   by_phase phase.Normal k = cc
   by_phase p k = by_row (row_of HCALLS (slice_index (g.registers run.vid).gpr 3)) k
 running_tells plan run g found any ask cmd saw h = cc

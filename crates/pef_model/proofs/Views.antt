@@ -61,14 +61,14 @@ running_gives_none plan past run l v last hand register cmd = by_command cmd whe
   by_interrupt gpr Normal = refl
   by_interrupt gpr p = refl
 
-  by_call : (gpr : List ℕ) (p : Phase) → (deed_hypercall p gpr ask).after ≡ ctx.Hv → open_answer_of_guest (deed_hypercall p gpr ask).answer ≡ (deed_hypercall p gpr ask).answer
+  by_call : (gpr : List ℕ) (p : Phase) → (deed_hypercall g.part.words p gpr ask).after ≡ ctx.Hv → open_answer_of_guest (deed_hypercall g.part.words p gpr ask).answer ≡ (deed_hypercall g.part.words p gpr ask).answer
   by_call gpr Normal h = refl
   by_call gpr p h = by_row (row_of HCALLS (slice_index gpr 3)) h where
-    by_kind : (kind : RowKind) (row : Row) → open_answer_of_guest (deed_by_kind kind ask gpr row).answer ≡ (deed_by_kind kind ask gpr row).answer
+    by_kind : (kind : RowKind) (row : Row) → open_answer_of_guest (deed_by_kind g.part.words kind ask gpr row).answer ≡ (deed_by_kind g.part.words kind ask gpr row).answer
     by_kind Reflected row = refl
     by_kind kind row = refl
 
-    by_row : (row : Option Row) → (deed_by_row ask gpr row).after ≡ ctx.Hv → open_answer_of_guest (deed_by_row ask gpr row).answer ≡ (deed_by_row ask gpr row).answer
+    by_row : (row : Option Row) → (deed_by_row g.part.words ask gpr row).after ≡ ctx.Hv → open_answer_of_guest (deed_by_row g.part.words ask gpr row).answer ≡ (deed_by_row g.part.words ask gpr row).answer
     by_row (Some row) h = by_kind row.kind row
     by_row None h = refl
 

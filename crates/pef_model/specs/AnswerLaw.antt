@@ -5,7 +5,7 @@ use Rattle.pef_model.specs.declared.state.Work.TheVariants.{Inward, Outward}
 use Rattle.pef_model.specs.declared.state.Ctx.{Ctx}
 use Rattle.pef_model.specs.declared.state.Ctx.TheVariants as ctx
 use Rattle.pef_model.specs.declared.command.Code.{Code}
-use Rattle.pef_model.specs.declared.command.Code.TheVariants.{USuccess, UParameter, UP2, UP3, UP4, UP5, UFunction, UBusy, UPermission, UInvalid, HUnsupported, HFunction, HHardware}
+use Rattle.pef_model.specs.declared.command.Code.TheVariants.{USuccess, UParameter, UP2, UP3, UP4, UP5, UFunction, UBusy, UPermission, UInvalid, HSuccess, HUnsupported, HFunction, HHardware}
 use Rattle.pef_model.specs.declared.command.Cmd.{Cmd}
 use Rattle.pef_model.specs.declared.command.Cmd.TheVariants.{HLd, HSt, HSelect, HEnter, UPate, URegslot, UUnregslot, UPagein, UPageout, UReturn, GLi, GAdd, GXor, GLd, GSt, GHcall, GIrq, Dump}
 use Rattle.pef_model.specs.declared.entry.Exit.TheVariants.{Normal, Irq, Hcall}
@@ -111,6 +111,7 @@ can_answer_vcpu (GLd rd gpa) Again = true
 can_answer_vcpu (GSt rs gpa) Done = true
 can_answer_vcpu (GSt rs gpa) Hole = true
 can_answer_vcpu (GSt rs gpa) Again = true
+can_answer_vcpu GHcall (Ret HSuccess) = true
 can_answer_vcpu GHcall (Ret HUnsupported) = true
 can_answer_vcpu GHcall (Ret HFunction) = true
 can_answer_vcpu GHcall (Ret HHardware) = true

@@ -12,7 +12,7 @@ use Rattle.pef_model.specs.declared.state.Work.TheVariants.{Inward, Outward}
 use Rattle.pef_model.specs.declared.state.Ctx.{Ctx}
 use Rattle.pef_model.specs.declared.state.Ctx.TheVariants as ctx
 use Rattle.pef_model.specs.declared.command.Code.{Code}
-use Rattle.pef_model.specs.declared.command.Code.TheVariants.{USuccess, UParameter, UP2, UBusy, UPermission, UInvalid, HUnsupported, HFunction, HHardware}
+use Rattle.pef_model.specs.declared.command.Code.TheVariants.{USuccess, UParameter, UP2, UBusy, UPermission, UInvalid, HSuccess, HUnsupported, HFunction, HHardware}
 use Rattle.pef_model.specs.declared.command.Cmd.{Cmd}
 use Rattle.pef_model.specs.declared.command.Cmd.TheVariants.{HLd, HSt, HSelect, HEnter, UPate, URegslot, UUnregslot, UPagein, UPageout, UReturn, GLi, GAdd, GXor, GLd, GSt, GHcall, GIrq, Dump}
 use Rattle.pef_model.specs.declared.hypercall.TheConstants.{HCALLS}
@@ -181,13 +181,13 @@ may_return_in phase.Starting = true
 may_return_in phase.Secure = true
 may_return_in phase.Aborting = false
 
--- whether UV_RETURN takes up a vCPU in this state: one that waits for the answer of a hypercall not yet
+-- whether UV_RETURN takes up a vCPU in this state: one that hasn't run, or has left a secure guest
 abbrev pub is_waiting : VState → Bool
 is_waiting vstate.Idle = false
 is_waiting vstate.Fresh = true
 is_waiting (vstate.Running cpu) = false
 is_waiting (vstate.Parked pending.Exit) = false
-is_waiting (vstate.Parked (pending.Hcall n)) = false
+is_waiting (vstate.Parked (pending.Hcall n)) = true
 is_waiting (vstate.Parked pending.Irq) = true
 
 -- UV_RETURN of the hypervisor: the selected vCPU runs, if it waits in a Secure or Starting guest
@@ -232,21 +232,25 @@ deed_interrupt other gpr ask = record (answering ask (answer.Exit exit.Irq)) { a
 abbrev pub deed_answered : Ask → List ℕ → Code → Deed
 deed_answered ask gpr code = record (answering ask (answer.Ret code)) { shown = slice_index gpr 3 ∷ [] }
 
--- a hypercall of a row, by who answers it: one that the hypervisor answers leaves with its number and its inputs; H_RANDOM has no word yet
-abbrev pub deed_by_kind : RowKind → Ask → List ℕ → Row → Deed
-deed_by_kind Reflected ask gpr row = record (answering ask (answer.Exit (exit.Hcall row.number))) { after = ctx.Hv; shown = let_out_by row gpr }
-deed_by_kind Local ask gpr row = deed_answered ask gpr HHardware
-deed_by_kind Svm ask gpr row = deed_answered ask gpr HUnsupported
+-- the code with which H_RANDOM comes back, by the number of entropy words that the guest has left
+abbrev pub random_code : ℕ → Code
+random_code words = if words == 0 then HHardware else HSuccess
+
+-- a hypercall of a row, by who answers it: one that the hypervisor answers leaves with its number and its inputs, and H_RANDOM lets no word out
+abbrev pub deed_by_kind : ℕ → RowKind → Ask → List ℕ → Row → Deed
+deed_by_kind words Reflected ask gpr row = record (answering ask (answer.Exit (exit.Hcall row.number))) { after = ctx.Hv; shown = let_out_by row gpr }
+deed_by_kind words Local ask gpr row = deed_answered ask gpr (random_code words)
+deed_by_kind words Svm ask gpr row = deed_answered ask gpr HUnsupported
 
 -- a hypercall of a number that has a row, or none
-abbrev pub deed_by_row : Ask → List ℕ → Option Row → Deed
-deed_by_row ask gpr (Some row) = deed_by_kind row.kind ask gpr row
-deed_by_row ask gpr None = deed_answered ask gpr HFunction
+abbrev pub deed_by_row : ℕ → Ask → List ℕ → Option Row → Deed
+deed_by_row words ask gpr (Some row) = deed_by_kind words row.kind ask gpr row
+deed_by_row words ask gpr None = deed_answered ask gpr HFunction
 
 -- a hypercall by the guest's phase: of one in normal memory all registers leave, and of every other what the row of the number in R3 says
-abbrev pub deed_hypercall : Phase → List ℕ → Ask → Deed
-deed_hypercall phase.Normal gpr ask = record (answering ask (answer.Exit exit.Normal)) { after = ctx.Hv; shown = gpr }
-deed_hypercall other gpr ask = deed_by_row ask gpr (row_of HCALLS (slice_index gpr 3))
+abbrev pub deed_hypercall : ℕ → Phase → List ℕ → Ask → Deed
+deed_hypercall words phase.Normal gpr ask = record (answering ask (answer.Exit exit.Normal)) { after = ctx.Hv; shown = gpr }
+deed_hypercall words other gpr ask = deed_by_row words ask gpr (row_of HCALLS (slice_index gpr 3))
 
 -- the code with which a call of a guest is refused that is the hypervisor's: UV_RETURN takes up no vCPU there, and a guest has no right to the others
 abbrev pub refused_with : Cmd → Code
@@ -265,7 +269,7 @@ deed_running plan run g found any ask (GAdd rd ra rb) = answering ask answer.Don
 deed_running plan run g found any ask (GXor rd ra rb) = answering ask answer.Done
 deed_running plan run g found any ask (GLd rd gpa) = deed_access ask (answer.Val (g.content gpa)) (λ n. answer.Val (found n (offset_of plan gpa))) [] any (meets plan g.part gpa)
 deed_running plan run g found any ask (GSt rs gpa) = deed_access ask answer.Done (λ n. answer.Done) (slice_index (g.registers run.vid).gpr rs ∷ []) any (meets plan g.part gpa)
-deed_running plan run g found any ask GHcall = deed_hypercall g.part.phase (g.registers run.vid).gpr ask
+deed_running plan run g found any ask GHcall = deed_hypercall g.part.words g.part.phase (g.registers run.vid).gpr ask
 deed_running plan run g found any ask GIrq = deed_interrupt g.part.phase (g.registers run.vid).gpr ask
 deed_running plan run g found any ask (Dump reg) = answering ask (answer.Val (slice_index (g.registers run.vid).gpr reg))
 deed_running plan run g found any ask cmd = deed_refused ask cmd (call_of cmd)

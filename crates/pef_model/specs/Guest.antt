@@ -1,5 +1,5 @@
 -- A guest whole: its public part, the doublewords of its pages and the registers of its vCPUs.
-use Rattle.std.specs.Prelude.{ℕ, ◌+◌, ◌%◌, ◌^◌, ◌==◌, Bool, true, not, ◌&&◌, if◌then◌else◌, List, Option, Some, None, unwrap_or, slice_index, slice_set, bit_xor}
+use Rattle.std.specs.Prelude.{ℕ, ◌+◌, ◌%◌, ◌^◌, ◌==◌, Bool, true, false, not, ◌&&◌, if◌then◌else◌, List, drop, Option, Some, None, unwrap_or, slice_index, slice_set, bit_xor}
 use Rattle.pef_model.specs.declared.state.Run.{Run}
 use Rattle.pef_model.specs.declared.state.Ctx.{Ctx}
 use Rattle.pef_model.specs.declared.state.Ctx.TheVariants as ctx
@@ -7,16 +7,20 @@ use Rattle.pef_model.specs.declared.state.Pending.TheVariants as pending
 use Rattle.pef_model.specs.declared.state.VState.{VState}
 use Rattle.pef_model.specs.declared.state.VState.TheVariants as vstate
 use Rattle.pef_model.specs.declared.state.Regs.{Regs}
+use Rattle.pef_model.specs.declared.command.Code.TheVariants.{HSuccess}
 use Rattle.pef_model.specs.declared.command.Cmd.{Cmd}
 use Rattle.pef_model.specs.declared.command.Cmd.TheVariants.{HEnter, UPate, UReturn, GLi, GAdd, GXor, GLd, GSt, GHcall}
+use Rattle.pef_model.specs.declared.hypercall.TheConstants.{HCALLS}
+use Rattle.pef_model.specs.declared.hypercall.Row.{Row}
 use Rattle.pef_model.specs.declared.entry.Exit.TheVariants as exit
 use Rattle.pef_model.specs.declared.entry.Answer.{Answer}
 use Rattle.pef_model.specs.declared.entry.Answer.TheVariants as answer
 use Rattle.pef_model.specs.Plan.{Plan}
 use Rattle.pef_model.specs.Event.{Event}
 use Rattle.pef_model.specs.Target.{caller}
-use Rattle.pef_model.specs.Registers.{Call, fresh_registers, call_of, loaded, with_code}
-use Rattle.pef_model.specs.GuestPart.{GuestPart, start_part, put, ends_guest, next_part}
+use Rattle.pef_model.specs.Registers.{Call, fresh_registers, call_of, loaded, with_code, with_outputs}
+use Rattle.pef_model.specs.Hypercalls.{row_of}
+use Rattle.pef_model.specs.GuestPart.{GuestPart, start_part, put, ends_guest, has_word, next_part}
 use Rattle.pef_model.specs.Clash.{clashes}
 
 -- a guest whole: its public part, the doubleword at each address, the registers of each vCPU, the entropy words that are left, and whether none of its entries was a digest collision
@@ -49,6 +53,15 @@ abbrev pub registers_after_call : Option Call → Regs → Cmd → Answer → Re
 registers_after_call (Some call) regs cmd (answer.Ret code) = at_next_instruction regs (with_code (loaded regs.gpr cmd) code)
 registers_after_call call regs cmd a = regs
 
+-- the entropy word that a guest's vCPU is given next
+abbrev pub next_word : Guest → ℕ
+next_word g = slice_index g.words 0
+
+-- whether a step gives its vCPU an entropy word
+abbrev pub is_drawing : Ctx → Answer → Cmd → Bool
+is_drawing (ctx.Guest run) (answer.Ret code) GHcall = has_word code
+is_drawing before a cmd = false
+
 -- the registers of a guest's vCPU after a command of its own, by its answer: one that met a hole, a page on the move or an interrupt, that waits for the answer of a hypercall of a secure guest, or whose guest has ended, keeps them
 abbrev pub registers_after_command : Guest → Regs → Cmd → Answer → Regs
 registers_after_command g regs (GLi rd value) answer.Done = at_next_instruction regs (slice_set regs.gpr rd value)
@@ -56,6 +69,7 @@ registers_after_command g regs (GAdd rd ra rb) answer.Done = at_next_instruction
 registers_after_command g regs (GXor rd ra rb) answer.Done = at_next_instruction regs (slice_set regs.gpr rd (bit_xor (slice_index regs.gpr ra) (slice_index regs.gpr rb)))
 registers_after_command g regs (GLd rd gpa) (answer.Val value) = at_next_instruction regs (slice_set regs.gpr rd value)
 registers_after_command g regs (GSt rs gpa) answer.Done = at_next_instruction regs regs.gpr
+registers_after_command g regs GHcall (answer.Ret HSuccess) = at_next_instruction regs (with_code (slice_set regs.gpr 4 (next_word g)) HSuccess)
 registers_after_command g regs GHcall (answer.Ret code) = at_next_instruction regs (with_code regs.gpr code)
 registers_after_command g regs GHcall (answer.Exit exit.Normal) = at_next_instruction regs regs.gpr
 registers_after_command g regs cmd a = registers_after_call (call_of cmd) regs cmd a
@@ -64,6 +78,20 @@ registers_after_command g regs cmd a = registers_after_call (call_of cmd) regs c
 abbrev pub entered_at : Regs → ℕ → Regs
 entered_at regs r2 = if r2 == 0 then regs else record regs { nip = r2; srr0 = regs.nip }
 
+-- the outputs of a hypercall of this row are the first of outs
+abbrev pub with_outputs_of : Option Row → List ℕ → List ℕ → List ℕ
+with_outputs_of (Some row) gpr outs = with_outputs gpr row.outputs outs
+with_outputs_of None gpr outs = gpr
+
+-- a hypercall of this row is answered: R3 has r0, the outputs are there, and the next instruction is the one after the call
+abbrev pub answered_by : Option Row → Regs → ℕ → List ℕ → Regs
+answered_by row regs r0 outs = at_next_instruction regs (slice_set (with_outputs_of row regs.gpr outs) 3 r0)
+
+-- what UV_RETURN brings a vCPU in this state: to a hypercall its answer, and nothing where an interrupt took the vCPU from its CPU or it hasn't run
+abbrev pub returned_to : VState → Regs → ℕ → List ℕ → Regs
+returned_to (vstate.Parked (pending.Hcall n)) regs r0 outs = answered_by (row_of HCALLS n) regs r0 outs
+returned_to state regs r0 outs = regs
+
 -- h.enter gives R3 its value where the vCPU waits for the answer of a hypercall
 abbrev pub answered_with : VState → Regs → ℕ → Regs
 answered_with (vstate.Parked pending.Exit) regs value = record regs { gpr = slice_set regs.gpr 3 value }
@@ -71,7 +99,7 @@ answered_with other regs value = regs
 
 -- the registers of a guest's vCPUs after a step of the hypervisor that has this vCPU selected
 abbrev pub registers_of_hypervisor : Guest → ℕ → Answer → Cmd → ℕ → Regs
-registers_of_hypervisor g vid answer.Enter (UReturn r0 r2 outs) = put g.registers vid (entered_at (g.registers vid) r2)
+registers_of_hypervisor g vid answer.Enter (UReturn r0 r2 outs) = put g.registers vid (entered_at (returned_to (g.part.vcpus vid).state (g.registers vid) r0 outs) r2)
 registers_of_hypervisor g vid answer.Enter (HEnter lpid named value) = put g.registers named (answered_with (g.part.vcpus named).state (g.registers named) value)
 registers_of_hypervisor g vid (answer.Ret code) (UPate lpid dw0 dw1) = if ends_guest code dw1 then (λ n. fresh_registers) else g.registers
 registers_of_hypervisor g vid a cmd = g.registers
@@ -97,5 +125,6 @@ next_guest plan g e = record g {
   part = next_part plan g.part e;
   content = λ gpa. unwrap_or (stored_by plan g e gpa) (g.content gpa);
   registers = next_registers plan g e;
+  words = if is_drawing e.saw.before e.trace.answer e.trace.cmd then drop 1 g.words else g.words;
   clean = g.clean && not (clashes g.part e);
 }

@@ -1,5 +1,5 @@
 -- A guest's public part, and what an entry makes of it.
-use Rattle.std.specs.Prelude.{ℕ, zero, suc, ◌+◌, ◌/◌, ◌%◌, ◌^◌, ◌==◌, nat_lt, Bool, true, false, not, ◌&&◌, ◌||◌, if◌then◌else◌, List, [], ◌∷◌, ◌++◌, filter, Option, Some, None, is_some}
+use Rattle.std.specs.Prelude.{ℕ, zero, suc, ◌+◌, ◌-◌, ◌/◌, ◌%◌, ◌^◌, ◌==◌, nat_lt, Bool, true, false, not, ◌&&◌, ◌||◌, if◌then◌else◌, List, [], ◌∷◌, ◌++◌, filter, Option, Some, None, is_some}
 use Rattle.pef_model.specs.declared.state.Phase.{Phase}
 use Rattle.pef_model.specs.declared.state.Phase.TheVariants as phase
 use Rattle.pef_model.specs.declared.state.Kind.{Kind}
@@ -18,7 +18,7 @@ use Rattle.pef_model.specs.declared.state.Ctx.TheVariants as ctx
 use Rattle.pef_model.specs.declared.command.Cmd.{Cmd}
 use Rattle.pef_model.specs.declared.command.Cmd.TheVariants.{HEnter, UPate, URegslot, UUnregslot, UPagein, UPageout, UReturn, GLd, GSt, GHcall, GIrq}
 use Rattle.pef_model.specs.declared.command.Code.{Code}
-use Rattle.pef_model.specs.declared.command.Code.TheVariants.{USuccess, UP2}
+use Rattle.pef_model.specs.declared.command.Code.TheVariants.{USuccess, UP2, HSuccess}
 use Rattle.pef_model.specs.declared.entry.Exit.{Exit}
 use Rattle.pef_model.specs.declared.entry.Exit.TheVariants as exit
 use Rattle.pef_model.specs.declared.entry.Answer.{Answer}
@@ -298,10 +298,16 @@ waits_for exit.Normal = pending.Exit
 waits_for exit.Irq = pending.Irq
 waits_for (exit.Hcall n) = pending.Hcall n
 
+-- whether a hypercall that comes back with this code has the guest's next entropy word
+abbrev pub has_word : Code → Bool
+has_word HSuccess = true
+has_word code = false
+
 -- after a step of a guest's vCPU
 abbrev pub part_of_guest : Plan → GuestPart → ℕ → Answer → Cmd → Option PoolSaw → GuestPart
 part_of_guest plan g vid (answer.Val value) (GLd rd gpa) pool = part_of_access g (page_of plan gpa) pool
 part_of_guest plan g vid answer.Done (GSt rs gpa) pool = part_of_access g (page_of plan gpa) pool
+part_of_guest plan g vid (answer.Ret code) GHcall pool = record g { words = if has_word code then g.words - 1 else g.words }
 part_of_guest plan g vid (answer.Exit why) GHcall pool = with_parked_vcpu g vid (waits_for why)
 part_of_guest plan g vid (answer.Exit why) GIrq pool = with_parked_vcpu g vid pending.Irq
 part_of_guest plan g vid a cmd pool = g

@@ -46,6 +46,9 @@ pub mod SlotLaw
 pub mod TableLaw
 pub mod ScrubLaw
 pub mod HypercallLaw
+pub mod ReturnLaw
+pub mod RandomLaw
+pub mod CallLaw
 pub mod CauseLaw
 pub mod OldMoveLaw
 pub mod ToldLaw

@@ -29,12 +29,12 @@ use Rattle.pef_model.specs.RefusalLaw.{page_out_to, page_in_from}
 abbrev pub small_plan : Plan
 small_plan = plan_of (record small_config { vault = true })
 
--- each phase, and states of a vCPU: it runs or doesn't, or waits for what an interrupt or a hypercall of normal memory wants
+-- each phase, and states of a vCPU: it runs or doesn't, or waits after an interrupt, for the answer of a hypercall of normal memory, or of one of a secure guest
 abbrev pub phases : List Phase
 phases = phase.Absent ∷ phase.Normal ∷ phase.Starting ∷ phase.Secure ∷ phase.Aborting ∷ []
 
 abbrev pub states : List VState
-states = Idle ∷ Fresh ∷ Running 1 ∷ Parked Irq ∷ Parked pending.Exit ∷ []
+states = Idle ∷ Fresh ∷ Running 1 ∷ Parked Irq ∷ Parked pending.Exit ∷ Parked (pending.Hcall 8) ∷ []
 
 -- a page at rest, and one on the move
 abbrev pub at_rest : Kind → Page
@@ -69,11 +69,11 @@ answer_at before g free cmd = answer_selecting before 0 g free cmd
 abbrev pub ReturnsByPhase : Type 0
 ReturnsByPhase =
     map (λ phase. map (λ state. answer_at ctx.Hv (guest_in phase invalid_page state) true (return_with 0)) states) phases
-    ≡ replicate 5 (Ret UInvalid)
-    ∷ replicate 5 (Ret UInvalid)
-    ∷ (Ret UInvalid ∷ Enter ∷ Ret UInvalid ∷ Enter ∷ Ret UInvalid ∷ [])
-    ∷ (Ret UInvalid ∷ Enter ∷ Ret UInvalid ∷ Enter ∷ Ret UInvalid ∷ [])
-    ∷ replicate 5 (Ret UInvalid)
+    ≡ replicate 6 (Ret UInvalid)
+    ∷ replicate 6 (Ret UInvalid)
+    ∷ (Ret UInvalid ∷ Enter ∷ Ret UInvalid ∷ Enter ∷ Ret UInvalid ∷ Enter ∷ [])
+    ∷ (Ret UInvalid ∷ Enter ∷ Ret UInvalid ∷ Enter ∷ Ret UInvalid ∷ Enter ∷ [])
+    ∷ replicate 6 (Ret UInvalid)
     ∷ []
 
 -- a guest that is Secure, whose vCPU 1 alone waits
@@ -119,7 +119,6 @@ pub record PageInByPhase : Type 0 where
 pub record NotHereYet : Type 0 where
   pub aborting_page_out : answers_in phase.Aborting pages true (page_out_to 0x0) ≡ replicate 7 (Ret UParameter)
   pub starting_page_in : map (λ free. answers_in phase.Starting (at_rest Invalid ∷ []) free (page_in_from 0x0)) (true ∷ false ∷ []) ≡ replicate 2 (Ret UP3 ∷ [])
-  pub call_return : answer_at ctx.Hv (guest_in phase.Secure invalid_page (Parked (pending.Hcall 8))) true (return_with 0) ≡ Ret UInvalid
   pub shared_page_in : map (λ free. map (λ phase. answers_in phase shared_pages free (page_in_from 0x0)) (phase.Starting ∷ phase.Secure ∷ [])) (true ∷ false ∷ []) ≡ replicate 2 (replicate 2 (replicate 2 (Ret UP3)))
 
 -- what an access to the second doubleword of page 1 meets in a guest of this phase
@@ -156,7 +155,7 @@ pub record NormalByPhase : Type 0 where
   -- h.enter: a row for each phase, a column for each state
   pub enters :
       map (λ phase. map (λ state. answer_at ctx.Hv (guest_in phase invalid_page state) true (HEnter 1 0 0)) states) phases
-      ≡ replicate 5 (Ret UParameter) ∷ (Enter ∷ Ret UP2 ∷ Ret UP2 ∷ Enter ∷ Enter ∷ []) ∷ replicate 3 (replicate 5 (Ret UParameter))
+      ≡ replicate 6 (Ret UParameter) ∷ (Enter ∷ Ret UP2 ∷ Ret UP2 ∷ Enter ∷ Enter ∷ Enter ∷ []) ∷ replicate 3 (replicate 6 (Ret UParameter))
   -- UV_WRITE_PATE, with pages and with none
   pub writes :
       map (λ dw1. map (λ phase. answer_at ctx.Hv (guest_in phase invalid_page Idle) true (UPate 1 0x100 dw1)) phases) (2 ∷ 0 ∷ [])

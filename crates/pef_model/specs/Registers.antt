@@ -2,7 +2,7 @@
 use Rattle.std.specs.Prelude.{ℕ, ◌+◌, ◌-◌, ◌==◌, nat_le, if◌then◌else◌, List, [], ◌∷◌, ◌++◌, length, take, drop, slice_get, slice_set, replicate, Option, Some, None}
 use Rattle.pef_model.specs.declared.command.TheConstants.{UV_WRITE_PATE, UV_REGISTER_MEM_SLOT, UV_UNREGISTER_MEM_SLOT, UV_PAGE_IN, UV_PAGE_OUT, UV_RETURN, EXTERNAL_INTERRUPT}
 use Rattle.pef_model.specs.declared.command.Code.{Code}
-use Rattle.pef_model.specs.declared.command.Code.TheVariants.{USuccess, UParameter, UP2, UP3, UP4, UP5, UFunction, UBusy, UPermission, UInvalid, HUnsupported, HFunction, HHardware}
+use Rattle.pef_model.specs.declared.command.Code.TheVariants.{USuccess, UParameter, UP2, UP3, UP4, UP5, UFunction, UBusy, UPermission, UInvalid, HSuccess, HUnsupported, HFunction, HHardware}
 use Rattle.pef_model.specs.declared.command.Cmd.{Cmd}
 use Rattle.pef_model.specs.declared.command.Cmd.TheVariants.{UPate, URegslot, UUnregslot, UPagein, UPageout, UReturn}
 use Rattle.pef_model.specs.declared.state.Regs.{Regs}
@@ -19,6 +19,7 @@ number_of UFunction = 6
 number_of UBusy = 7
 number_of UPermission = 8
 number_of UInvalid = 9
+number_of HSuccess = 0
 number_of HUnsupported = 37
 number_of HFunction = 38
 number_of HHardware = 39
@@ -81,6 +82,10 @@ arguments cmd = operands_of (call_of cmd) where
 -- a code comes back in R3
 abbrev pub with_code : List ℕ → Code → List ℕ
 with_code gpr code = slice_set gpr 3 (number_of code)
+
+-- so many of a list's values: they are in R4 and the registers after it
+abbrev pub with_outputs : List ℕ → ℕ → List ℕ → List ℕ
+with_outputs gpr count outs = take 4 gpr ++ (take count outs ++ drop (4 + count) gpr)
 
 -- the value that a call gives a register: R3 has its number, R4 and the registers after it its operands
 abbrev pub value_of_call : Option Call → ℕ → Option ℕ

@@ -167,12 +167,17 @@ pub record Steps (cmd : Cmd) (a : Answer) (old new : Regs) : Type 0 where
   -- SRR0 stays
   pub srr0 : new.srr0 ≡ old.srr0
 
--- what R2 of UV_RETURN makes of the registers of the vCPU that it takes up, beside R0 to R31
-pub record IsInterrupted (r2 : ℕ) (old new : Regs) : Type 0 where
-  -- the next instruction is at the address in R2 where that isn't 0, and else the same
-  pub nip : new.nip ≡ (if r2 == 0 then old.nip else r2)
-  -- SRR0 has the old next instruction where R2 isn't 0, and else stays
-  pub srr0 : new.srr0 ≡ (if r2 == 0 then old.srr0 else old.nip)
+-- where a vCPU in this state goes on that was at this address: after its hypercall where that has its answer, and else where it was
+abbrev pub goes_on_at : VState → ℕ → ℕ
+goes_on_at (vstate.Parked (pending.Hcall n)) nip = (nip + 4) % 2 ^ 64
+goes_on_at state nip = nip
+
+-- what R2 of UV_RETURN makes of the registers of a vCPU that goes on at an address, beside R0 to R31
+pub record IsInterrupted (r2 address : ℕ) (old new : Regs) : Type 0 where
+  -- the next instruction is at the address in R2 where that isn't 0
+  pub nip : new.nip ≡ (if r2 == 0 then address else r2)
+  -- and then SRR0 has where the vCPU would have gone on; else it stays
+  pub srr0 : new.srr0 ≡ (if r2 == 0 then old.srr0 else address)
 
 -- the registers of a vCPU after a history
 abbrev pub registers_of : Plan → List Event → ℕ → ℕ → Regs
@@ -197,10 +202,10 @@ IsAnswered plan past lpid vid value e = Enters lpid vid value e × (((guest_afte
 pub record LeavesRegisters (plan : Plan) (past : List Event) (e : Event) (lpid vid : ℕ) : Type 0 where
   -- its own step moves it on
   pub own : (run : Run) → IsStepOf lpid vid run e → Steps e.trace.cmd e.trace.answer (registers_of plan past lpid vid) (registers_of plan (e ∷ past) lpid vid)
-  -- UV_RETURN that takes it up may interrupt it
+  -- UV_RETURN that takes it up lets it go on, or interrupts it
   pub taken :
-      (r0 r2 : ℕ) (outs : List ℕ) → TakesUp lpid vid r0 r2 outs e → takes_nothing ((guest_after plan lpid past).part.vcpus vid).state ≡ true →
-      IsInterrupted r2 (registers_of plan past lpid vid) (registers_of plan (e ∷ past) lpid vid)
+      (r0 r2 : ℕ) (outs : List ℕ) → TakesUp lpid vid r0 r2 outs e →
+      IsInterrupted r2 (goes_on_at ((guest_after plan lpid past).part.vcpus vid).state (registers_of plan past lpid vid).nip) (registers_of plan past lpid vid) (registers_of plan (e ∷ past) lpid vid)
   -- h.enter that gives its hypercall an answer gives R3 the value, and leaves the others
   pub answered : (value : ℕ) → IsAnswered plan past lpid vid value e → registers_of plan (e ∷ past) lpid vid ≡ record (registers_of plan past lpid vid) { gpr = slice_set (registers_of plan past lpid vid).gpr 3 value }
   -- UV_WRITE_PATE that ends its guest leaves each register of it zero

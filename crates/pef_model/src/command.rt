@@ -98,6 +98,8 @@ pub enum Code {
     UPermission,
     /// The call makes no sense in the caller's state.
     UInvalid,
+    /// The hypercall is done.
+    HSuccess,
     /// A hypercall that isn't the guest's to make.
     HUnsupported,
     /// A hypercall that isn't there.
@@ -122,6 +124,7 @@ impl Code {
             Code::UBusy => 7,
             Code::UPermission => 8,
             Code::UInvalid => 9,
+            Code::HSuccess => 0,
             Code::HUnsupported => 37,
             Code::HFunction => 38,
             Code::HHardware => 39,

@@ -1,4 +1,4 @@
-use Rattle.pef_model.proofs.GuestsKeep.{words_are_counted}
+use Rattle.pef_model.proofs.WordsLeft.{words_are_counted}
 use Rattle.pef_model.proofs.cause_laws.words_are_counted.Goals as goal
 
 pub returns : goal.returns
