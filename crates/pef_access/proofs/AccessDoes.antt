@@ -93,7 +93,7 @@ module _ {S : Type 0} {takes : S → ℕ → ℕ → Type 0} {old : Guest S} {cp
       counted = record old { steps = old.steps + 1 }
 
       same : SameGuest old counted
-      same = record { rest = record { lpid = refl; shift = refl; normal = refl; secure = refl; phase = refl; generation = refl; entry = refl; slots = refl; pages = refl; sealer = refl }; vcpus = refl }
+      same = record { rest = record { lpid = refl; shift = refl; normal = refl; secure = refl; phase = refl; generation = refl; entry = refl; slots = refl; words = refl; pages = refl; sealer = refl }; vcpus = refl }
 
       refused : (cmd : Cmd) → Refuses (ctx.Guest run) cmd old counted cpu cpu pool pool (answer_undone r)
       refused cmd = by_meeting r where

@@ -74,7 +74,7 @@ module _ {S : Type 0} (stands : S → Tag → List ℕ → List ℕ → Type 0) 
     shows_load {clean = clean} rd value is =
         let regs : Regs = after_load rd (g.content gpa) (g.registers vid) in
         shows_step stands image plan old g vid shows below part g.content pages (with_registers (vcpu_at old vid) (after_load rd value (vcpu_at old vid).regs)) regs
-        (kept (λ p. p.phase) g.part (page_of plan gpa) backs refl) (kept (λ p. p.generation) g.part (page_of plan gpa) backs refl) (kept (λ p. p.entry) g.part (page_of plan gpa) backs refl) (kept (λ p. p.slots) g.part (page_of plan gpa) backs refl) (λ n other. ap (λ (f : ℕ → VcpuPart). f n) same_vcpus)
+        (kept (λ p. p.phase) g.part (page_of plan gpa) backs refl) (kept (λ p. p.generation) g.part (page_of plan gpa) backs refl) (kept (λ p. p.entry) g.part (page_of plan gpa) backs refl) (kept (λ p. p.slots) g.part (page_of plan gpa) backs refl) (kept (λ p. p.words) g.part (page_of plan gpa) backs refl) (λ n other. ap (λ (f : ℕ → VcpuPart). f n) same_vcpus)
         (shows_with part (after_load rd value (vcpu_at old vid).regs) regs same_vcpus (ap (after_load rd value) registers_are ∙ ap (λ (v : ℕ). after_load rd v (g.registers vid)) is))
         d.shows
         (keeps_sealed stands image plan old g (stepped g vid part g.content regs clean) pages vid (with_registers (vcpu_at old vid) (after_load rd value (vcpu_at old vid).regs)) shows.sealed like
@@ -90,7 +90,7 @@ module _ {S : Type 0} (stands : S → Tag → List ℕ → List ℕ → Type 0) 
         let read : value ≡ slice_index (g.registers vid).gpr rs = is ∙ ap (λ (x : Regs). slice_index x.gpr rs) registers_are in
         subst (λ (v : ℕ). Shows stands image plan (with_step old after vid (with_registers (vcpu_at old vid) (after_store (vcpu_at old vid).regs))) (stepped g vid part (content_after g gpa v) regs clean)) read
         (shows_step stands image plan old g vid shows below part (content_after g gpa value) after (with_registers (vcpu_at old vid) (after_store (vcpu_at old vid).regs)) regs
-        (kept (λ p. p.phase) g.part (page_of plan gpa) backs refl) (kept (λ p. p.generation) g.part (page_of plan gpa) backs refl) (kept (λ p. p.entry) g.part (page_of plan gpa) backs refl) (kept (λ p. p.slots) g.part (page_of plan gpa) backs refl) (λ n other. ap (λ (f : ℕ → VcpuPart). f n) same_vcpus)
+        (kept (λ p. p.phase) g.part (page_of plan gpa) backs refl) (kept (λ p. p.generation) g.part (page_of plan gpa) backs refl) (kept (λ p. p.entry) g.part (page_of plan gpa) backs refl) (kept (λ p. p.slots) g.part (page_of plan gpa) backs refl) (kept (λ p. p.words) g.part (page_of plan gpa) backs refl) (λ n other. ap (λ (f : ℕ → VcpuPart). f n) same_vcpus)
         (shows_with part (after_store (vcpu_at old vid).regs) regs same_vcpus (ap after_store registers_are))
         (shows_stored plan pages g gpa value least small backs d)
         (keeps_sealed stands image plan old g (stepped g vid part (content_after g gpa value) regs clean) after vid (with_registers (vcpu_at old vid) (after_store (vcpu_at old vid).regs)) shows.sealed

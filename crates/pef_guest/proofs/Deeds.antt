@@ -58,16 +58,16 @@ share_running plan run g found any ask GHcall = by_phase g.part.phase where
   gpr : List ℕ
   gpr = (g.registers run.vid).gpr
 
-  by_kind : (kind : RowKind) (row : Row) → IsShare any None (deed_by_kind kind ask gpr row)
+  by_kind : (kind : RowKind) (row : Row) → IsShare any None (deed_by_kind g.part.words kind ask gpr row)
   by_kind Reflected row = (refl, tt)
   by_kind Local row = (refl, tt)
   by_kind Svm row = (refl, tt)
 
-  by_row : (row : Option Row) → IsShare any None (deed_by_row ask gpr row)
+  by_row : (row : Option Row) → IsShare any None (deed_by_row g.part.words ask gpr row)
   by_row None = (refl, tt)
   by_row (Some row) = by_kind row.kind row
 
-  by_phase : (phase : Phase) → IsShare any None (deed_hypercall phase gpr ask)
+  by_phase : (phase : Phase) → IsShare any None (deed_hypercall g.part.words phase gpr ask)
   by_phase phase.Normal = (refl, tt)
   by_phase other = by_row (row_of HCALLS (slice_index gpr 3))
 share_running plan run g found any ask cmd = by_call (call_of cmd) where

@@ -124,6 +124,8 @@ module _ {S : Type 0} (stands : S → Tag → List ℕ → List ℕ → Type 0) 
       generation = shows.generation;
       entry = shows.entry;
       slots = shows.slots;
+      words = shows.words;
+      words_left = shows.words_left;
       pages = record {
         count = length-set old.pages.pages gfn page ∙ shows.pages.count;
         kinds = λ n. (each n).kind_is;
@@ -154,6 +156,8 @@ shows_counted stands image plan old g steps shows = record {
   generation = shows.generation;
   entry = shows.entry;
   slots = shows.slots;
+  words = shows.words;
+  words_left = shows.words_left;
   pages = record { count = shows.pages.count; kinds = shows.pages.kinds; movers = shows.pages.movers; order = shows.pages.order; holds = shows.pages.holds; zeros = shows.pages.zeros };
   sealed = record { images = shows.sealed.images; versions = shows.sealed.versions; digests = shows.sealed.digests; stands_for = shows.sealed.stands_for; words = shows.sealed.words; pendings = shows.sealed.pendings };
   count = shows.count;

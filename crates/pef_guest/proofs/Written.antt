@@ -64,6 +64,8 @@ module _ {S : Type 0} (takes : S → ℕ → ℕ → Type 0) (old new : Guest S)
     generation = refl;
     entry = record { base = refl; length_is = refl };
     slots = shows.slots;
+    words = shows.words;
+    words_left = shows.words_left;
     pages = record { count = shows.pages.count; kinds = shows.pages.kinds; movers = shows.pages.movers; order = shows.pages.order; holds = shows.pages.holds; zeros = shows.pages.zeros };
     sealed = record {
       images = shows.sealed.images;

@@ -6,7 +6,7 @@ use Rattle.pef_model.specs.declared.state.Ctx.TheVariants as ctx
 use Rattle.pef_model.specs.declared.aim.Aim.{Aim}
 use Rattle.pef_model.specs.declared.aim.Aim.TheVariants as aim
 use Rattle.pef_model.specs.declared.command.Code.{Code}
-use Rattle.pef_model.specs.declared.command.Code.TheVariants.{USuccess}
+use Rattle.pef_model.specs.declared.command.Code.TheVariants.{USuccess, HSuccess}
 use Rattle.pef_model.specs.declared.command.Cmd.{Cmd}
 use Rattle.pef_model.specs.declared.command.Cmd.TheVariants.{UPate, UPagein, UPageout, GLd, GSt, Go}
 use Rattle.pef_model.specs.Plan.{Plan}
@@ -58,4 +58,5 @@ changes_life before cmd = false
 abbrev pub is_refusal : Cmd → Code → Bool
 is_refusal (UPageout lpid dest gpa flags order) USuccess = true
 is_refusal cmd USuccess = false
+is_refusal cmd HSuccess = false
 is_refusal cmd code = true

@@ -53,6 +53,7 @@ pub record SameButVcpus {S : Type 0} (old new : Guest S) : Type 0 where
   pub generation : new.generation ≡ old.generation
   pub entry : new.entry ≡ old.entry
   pub slots : new.slots ≡ old.slots
+  pub words : new.words ≡ old.words
   pub pages : new.pages ≡ old.pages
   pub sealer : new.sealer ≡ old.sealer
 

@@ -115,6 +115,9 @@ module _ {S : Type 0} (stands : S → Tag → List ℕ → List ℕ → Type 0) 
     pub generation : guest.generation ≡ g.part.generation
     pub entry : ShowsEntry guest.entry g.part.entry
     pub slots : guest.slots ≡ g.part.slots
+    -- the entropy words that are left, and how many they are
+    pub words : guest.words ≡ g.words
+    pub words_left : length guest.words ≡ g.part.words
     pub pages : ShowsPages plan guest.pages g
     pub sealed : ShowsSealed plan guest g
     pub count : length guest.vcpus.items ≡ plan.vcpus

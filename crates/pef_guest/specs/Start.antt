@@ -37,6 +37,7 @@ pub record IsStartGuest {S : Type 0} (config : Config) (lpid : ℕ) (sealer : S)
   pub generation : guest.generation ≡ 1
   pub entry : guest.entry ≡ no_pate
   pub slots : guest.slots ≡ start_slots (plan_of config) ((plan_of config).is_born lpid)
+  pub words : guest.words ≡ (plan_of config).entropy lpid
   pub pages : guest.pages ≡ invalid_pages config.pages
   pub vcpus : guest.vcpus.items ≡ replicate config.vcpus (start_vcpu (start_state ((plan_of config).is_born lpid)))
   pub sealer_is : guest.sealer ≡ sealer

@@ -13,6 +13,7 @@ ghost use Rattle.pef_regs.specs.Start.{start_vcpu};
 ghost use Rattle.pef_guest.specs.Start.{IsStartGuest};
 ghost use Rattle.pef_guest.specs.Whole.{IsWhole};
 
+use crate::words::Words;
 use pef_frames::SecFrame;
 use pef_model::{Config, Phase, VState};
 use pef_pages::Pages;
@@ -41,6 +42,8 @@ pub struct Guest<S: Seal> {
     pub entry: Pate,
     /// Its memory slots: a secure guest has the pages that lie in one.
     pub slots: Slots,
+    /// Its entropy words, each of which it is given once.
+    pub words: Words,
     /// Its private memory.
     pub pages: Pages<SecFrame>,
     pub vcpus: Vec<Vcpu>,
@@ -87,6 +90,7 @@ impl<S: Seal> Guest<S> {
         let pages = Pages::build(alloc, config.pages)?;
         let born = is_born(config, lpid);
         let slots = first_slots(alloc, config, born)?;
+        let words = Words::build(alloc, config, lpid)?;
         let (phase, state) = if born {
             (Phase::Secure, VState::Fresh)
         } else {
@@ -102,6 +106,7 @@ impl<S: Seal> Guest<S> {
             generation: 1,
             entry: Pate { dw0: 0, dw1: 0 },
             slots,
+            words,
             pages,
             vcpus,
             sealer,

@@ -4,8 +4,10 @@
 mod cpu;
 mod guest;
 mod hand;
+mod words;
 
 pub use cpu::Cpu;
 pub use guest::Guest;
 pub use hand::Hand;
 pub use pef_regs::{Vcpu, registers};
+pub use words::Words;

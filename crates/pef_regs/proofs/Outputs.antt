@@ -1,7 +1,8 @@
 -- Which registers the outputs of a hypercall are.
 use Rattle.std.proofs.Common.{◌≡◌, ℕ, ◌+◌, ◌-◌, ◌≤◌, List, ◌++◌, length, take, drop, ap, sym, subst, ◌∙◌, arith, length-take, get_or}
 use Rattle.std.proofs.lemmas.List.{get_or_append_left, get_or-append_right, get_or-drop, get_or-take}
-use Rattle.pef_regs.specs.Registers.{with_outputs, TakesOutputs}
+use Rattle.pef_model.specs.Registers.{with_outputs}
+use Rattle.pef_regs.specs.Registers.{TakesOutputs}
 
 module _ (gpr outs : List ℕ) (count : ℕ) (full : length gpr ≡ 32) (nine : length outs ≡ 9) (few : count ≤ 9) where
   front : length (take 4 gpr) ≡ 4

@@ -1,5 +1,5 @@
 -- A vCPU whose registers change.
-use Rattle.std.specs.Prelude.{◌≡◌, ℕ, ◌+◌, ◌<◌, ◌≤◌, List, ◌++◌, take, drop, slice_index}
+use Rattle.std.specs.Prelude.{◌≡◌, ℕ, ◌+◌, ◌<◌, ◌≤◌, List, slice_index}
 use Rattle.pef_model.specs.declared.state.Regs.{Regs}
 use Rattle.pef_regs.specs.declared.vcpu.Vcpu.{Vcpu}
 
@@ -10,10 +10,6 @@ with_registers vcpu regs = record vcpu { regs = regs }
 -- a vCPU with other values in R0 to R31
 abbrev pub with_gpr : Vcpu → List ℕ → Vcpu
 with_gpr vcpu gpr = with_registers vcpu (record vcpu.regs { gpr = gpr })
-
--- the outputs of a hypercall, so many: they are in R4 and the registers after it
-abbrev pub with_outputs : List ℕ → ℕ → List ℕ → List ℕ
-with_outputs gpr count outs = take 4 gpr ++ (take count outs ++ drop (4 + count) gpr)
 
 -- so many registers from R4 on have the values of a list, in its order, and every other register is as it was
 pub record TakesOutputs (old new : List ℕ) (count : ℕ) (outs : List ℕ) : Type 0 where

@@ -19,11 +19,10 @@ fn outputs_stand_from_r4_on(rt: HostRuntime) {
     assert_eq!(rt; vcpu.regs.nip, 0x500);
     vcpu.regs.gpr[7] = 70;
     vcpu.park(Pending::Hcall(11));
-    assert!(rt; !vcpu.is_waiting());
+    assert!(rt; vcpu.is_waiting());
     assert!(rt; vcpu.can_be_entered());
-    vcpu.take_outputs(&GET_TERM_CHAR, &[1, 2, 3, 4, 5, 6, 7, 8, 9]);
-    vcpu.advance();
-    assert_eq!(rt; vcpu.regs.gpr[3], 0);
+    vcpu.answer_call(Some(GET_TERM_CHAR), 33, &[1, 2, 3, 4, 5, 6, 7, 8, 9]);
+    assert_eq!(rt; vcpu.regs.gpr[3], 33);
     assert_eq!(rt; vcpu.regs.gpr[4], 1);
     assert_eq!(rt; vcpu.regs.gpr[6], 3);
     assert_eq!(rt; vcpu.regs.gpr[7], 70);

@@ -1,7 +1,7 @@
 //! A vCPU waits, runs, and waits again where it has left, with its registers.
 
-ghost use Rattle.std.specs.Prelude.{◌≡◌, slice_index, slice_set};
-ghost use Rattle.pef_model.specs.Guest.{entered_at, answered_with, at_next_instruction};
+ghost use Rattle.std.specs.Prelude.{◌≡◌, IfSome, slice_index, slice_set};
+ghost use Rattle.pef_model.specs.Guest.{entered_at, answered_by, answered_with, at_next_instruction};
 ghost use Rattle.pef_model.specs.Deed.{is_waiting};
 ghost use Rattle.pef_model.specs.Entry.{can_be_entered};
 ghost use Rattle.pef_model.specs.Hypercalls.{IsRow};
@@ -20,7 +20,8 @@ pub struct Vcpu {
 
 impl Vcpu {
     ghost use Rattle.pef_regs.specs.Start.{start_vcpu};
-    ghost use Rattle.pef_regs.specs.Registers.{with_registers, with_gpr, with_outputs, TakesOutputs};
+    ghost use Rattle.pef_model.specs.Registers.{with_outputs};
+    ghost use Rattle.pef_regs.specs.Registers.{with_registers, with_gpr, TakesOutputs};
 
     /// A vCPU that hasn't run, with zero registers.
     pub fn new(state: VState) -> Vcpu
@@ -37,16 +38,14 @@ impl Vcpu {
         }
     }
 
-    /// Whether UV_RETURN takes it up: one that waits for the answer of a hypercall it doesn't.
+    /// Whether UV_RETURN takes it up: it hasn't run, or has left a secure guest.
     pub fn is_waiting(&self) -> bool
         ensures { result ≡ is_waiting self.now.state }
     {
         match self.state {
-            VState::Fresh | VState::Parked(Pending::Irq) => true,
-            VState::Idle
-            | VState::Running(_)
-            | VState::Parked(Pending::Exit)
-            | VState::Parked(Pending::Hcall(_)) => false,
+            VState::Fresh | VState::Parked(Pending::Irq) | VState::Parked(Pending::Hcall(_)) =>
+                true,
+            VState::Idle | VState::Running(_) | VState::Parked(Pending::Exit) => false,
         }
     }
 
@@ -90,6 +89,18 @@ impl Vcpu {
     {
         let count = usize::from(row.outputs);
         self.regs.gpr[4..4 + count].copy_from_slice(&outs[..count]);
+    }
+
+    /// Takes the answer of a hypercall of this row, and its outputs: R3 becomes `r0`, and it goes on to the next instruction.
+    pub fn answer_call(&mut self, row: Option<Row>, r0: u64, outs: &[u64; 9])
+        requires { IfSome row IsRow }
+        ensures { self.new ≡ with_registers self.old (answered_by row self.old.regs r0 outs.now) }
+    {
+        if let Some(row) = row {
+            self.take_outputs(&row, outs);
+        }
+        self.regs.gpr[3] = r0;
+        self.advance();
     }
 
     /// Gives R3 the value of `h.enter` where it waits for the answer of a hypercall, in a guest in normal memory.

@@ -40,6 +40,6 @@ returns-clause-refused g c pool =
     rw (c.refuse.ensures.answer, c.refuse.ensures.cpu) (
       rw (c.load.ensures.gpr, c.page_in.ensures) refl,
       refuses c.args.cpu.now c.load.new.gpr c.in-Err.code (let long = c.load.array_long in omega (arith, long)) c.load.ensures.rest,
-      record { rest = record { lpid = refl; shift = refl; normal = refl; secure = refl; phase = refl; generation = refl; entry = refl; slots = refl; pages = refl; sealer = refl }; vcpus = refl },
+      record { rest = record { lpid = refl; shift = refl; normal = refl; secure = refl; phase = refl; generation = refl; entry = refl; slots = refl; words = refl; pages = refl; sealer = refl }; vcpus = refl },
       refl,
     )
