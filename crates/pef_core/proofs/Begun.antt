@@ -23,6 +23,7 @@ use Rattle.pef_guest.specs.declared.cpu.Cpu.{Cpu}
 use Rattle.pef_regs.specs.declared.vcpu.Vcpu.{Vcpu}
 use Rattle.pef_guest.specs.declared.guest.Guest.{Guest}
 use Rattle.pef_regs.specs.Start.{start_vcpu}
+use Rattle.pef_model.proofs.WordsLeft.{words_are_counted}
 use Rattle.pef_guest.specs.Start.{IsStartCpu, IsStartGuest}
 use Rattle.pef_guest.specs.Shows.{ShowsPages, ShowsVcpu, ShowsSealed, Shows, vcpu_at, kept_in}
 use Rattle.pef_core.specs.Normal.{NormalState, ShowsNormal, zero_frames}
@@ -77,6 +78,8 @@ module _ {S : Type 0} (stands : S → Tag → List ℕ → List ℕ → Type 0) 
     generation = start.generation;
     entry = rw start.entry (record { base = refl; length_is = refl });
     slots = start.slots;
+    words = start.words;
+    words_left = ap length start.words ∙ (words_are_counted lpid).start config;
     pages = subst (λ pages. ShowsPages (plan_of config) pages (start_guest (plan_of config) lpid)) (sym start.pages) (shows_pages (plan_of config) lpid);
     sealed = shows_sealed;
     count = ap length start.vcpus ∙ length-replicate config.vcpus (start_vcpu (start_state ((plan_of config).is_born lpid)));

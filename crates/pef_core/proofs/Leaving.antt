@@ -43,7 +43,7 @@ at_each {X = X} P xs i x y is same h k a b before after = by_place (cases_eq k i
   by_place (inr other) = subst (P a) (let one : a ≡ b = (let two = sym before ∙ sym (get_other xs i k y other) ∙ after in cc) in one) (same a)
 
 same_guest : {S : Type 0} (g : Guest S) → SameGuest g g
-same_guest g = record { rest = record { lpid = refl; shift = refl; normal = refl; secure = refl; phase = refl; generation = refl; entry = refl; slots = refl; pages = refl; sealer = refl }; vcpus = refl }
+same_guest g = record { rest = record { lpid = refl; shift = refl; normal = refl; secure = refl; phase = refl; generation = refl; entry = refl; slots = refl; words = refl; pages = refl; sealer = refl }; vcpus = refl }
 
 some_same : {S : Type 0} (g h : Guest S) → Some g ≡ Some h → SameGuest g h
 some_same g h same = subst (SameGuest g) (let one : g ≡ h = cc in one) (same_guest g)

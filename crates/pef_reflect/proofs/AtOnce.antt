@@ -72,6 +72,8 @@ module _ {S : Type 0} (takes : S → ℕ → ℕ → Type 0) (stands : S → Tag
       generation = shows.generation;
       entry = shows.entry;
       slots = ap change shows.slots;
+      words = shows.words;
+      words_left = shows.words_left;
       pages = record { count = shows.pages.count; kinds = shows.pages.kinds; movers = shows.pages.movers; order = shows.pages.order; holds = shows.pages.holds; zeros = shows.pages.zeros };
       sealed = record { images = shows.sealed.images; versions = shows.sealed.versions; digests = shows.sealed.digests; stands_for = shows.sealed.stands_for; words = shows.sealed.words; pendings = shows.sealed.pendings };
       count = shows.count;
@@ -111,7 +113,7 @@ module _ {S : Type 0} (takes : S → ℕ → ℕ → Type 0) (stands : S → Tag
       pool_stays = λ unused. refl;
       refused = subst (λ c. Refuses c cmd old (changed change) cpu answered pool pool (Ret code)) (sym hv) (λ refusal. (
         refuses,
-        (record { rest = record { lpid = refl; shift = refl; normal = refl; secure = refl; phase = refl; generation = refl; entry = refl; slots = stays refusal; pages = refl; sealer = refl }; vcpus = refl }, refl),
+        (record { rest = record { lpid = refl; shift = refl; normal = refl; secure = refl; phase = refl; generation = refl; entry = refl; slots = stays refusal; words = refl; pages = refl; sealer = refl }; vcpus = refl }, refl),
       ));
       row = makes_hypervisor takes stands image cmd old (changed change) cpu answered pool pool (Ret code) hv
           (λ plan g found c mark marked shows shows_cpu. row plan g (is_any_free pool) c mark shows shows_cpu (also plan g c mark shows shows_cpu));

@@ -2,6 +2,8 @@
 use Rattle.std.proofs.Common.{◌≡◌, ℕ, ◌<◌, Bool, true, false, ◌&&◌, if◌then◌else◌, List, length, refl, ap, sym, ◌∙◌}
 use Rattle.pef_model.specs.declared.state.Phase.{Phase}
 use Rattle.pef_model.specs.declared.state.Phase.TheVariants as phase
+use Rattle.pef_model.specs.declared.state.Regs.{Regs}
+use Rattle.pef_model.specs.declared.state.VState.{VState}
 use Rattle.pef_model.specs.declared.state.Run.{Run}
 use Rattle.pef_model.specs.declared.state.Tag.{Tag}
 use Rattle.pef_model.specs.declared.command.Cmd.{Cmd}
@@ -13,7 +15,7 @@ use Rattle.pef_model.specs.Event.{Mark}
 use Rattle.pef_model.specs.Registers.{loaded}
 use Rattle.pef_model.specs.Cpu.{CpuPart}
 use Rattle.pef_model.specs.GuestPart.{with_running_vcpu}
-use Rattle.pef_model.specs.Guest.{Guest as GuestWhole, entered_at}
+use Rattle.pef_model.specs.Guest.{Guest as GuestWhole, entered_at, returned_to}
 use Rattle.pef_model.specs.Deed.{answering, may_return_in, is_waiting}
 use Rattle.pef_guest.specs.declared.cpu.Cpu.{Cpu}
 use Rattle.pef_guest.specs.declared.guest.Guest.{Guest}
@@ -27,6 +29,10 @@ use Rattle.pef_reflect.proofs.TakenUp.{entering, EntersAlso}
 -- whether UV_RETURN takes up the vCPU of a number
 abbrev pub returns_to : {S : Type 0} → Guest S → ℕ → Bool
 returns_to guest vid = may_return_in guest.phase && is_waiting (vcpu_at guest vid).state
+
+-- what the registers of the vCPU of a number become where it takes it up
+abbrev pub returning_in : {S : Type 0} → Guest S → ℕ → ℕ → ℕ → List ℕ → Regs → Regs
+returning_in guest vid r0 r2 outs regs = entered_at (returned_to (vcpu_at guest vid).state regs r0 outs) r2
 
 -- a vCPU that is taken up may run
 pub may_run : (phase : Phase) (waits : Bool) → (may_return_in phase && waits) ≡ true → may_run_in phase ≡ true
@@ -52,18 +58,23 @@ module _ {S : Type 0} (stands : S → Tag → List ℕ → List ℕ → Type 0) 
   abbrev at : Run
   at = record { lpid = c.lpid; vid = c.vid; generation = g.part.generation }
 
+  -- the vCPU's state is that of the model's
+  state : (vcpu_at old cpu.vid).state ≡ (g.part.vcpus cpu.vid).state
+  state = (shows_own stands image plan old g cpu.vid shows below).state
+
   -- the model's test is this one
   same_test : returns_to old cpu.vid ≡ (may_return_in g.part.phase && is_waiting (g.part.vcpus c.vid).state)
   same_test =
-      let state = (shows_own stands image plan old g cpu.vid shows below).state ∙ ap (λ (n : ℕ). (g.part.vcpus n).state) shows_cpu.vid in
-      λ i. may_return_in (shows.phase i) && is_waiting (state i)
+      let same = state ∙ ap (λ (n : ℕ). (g.part.vcpus n).state) shows_cpu.vid in
+      λ i. may_return_in (shows.phase i) && is_waiting (same i)
 
-  pub returns_also : returns_to old cpu.vid ≡ true → EntersAlso call (λ regs. entered_at regs r2) load run plan g c mark
+  pub returns_also : returns_to old cpu.vid ≡ true → EntersAlso call (returning_in old cpu.vid r0 r2 outs) load run plan g c mark
   returns_also may = record {
     at = at;
     at_is = λ i. record { lpid = shows_cpu.lpid i; vid = shows_cpu.vid i; generation = shows.generation i };
     deed = λ any. ap (λ (b : Bool). if b then entering c at else answering (ask_hypervisor c) (Ret UInvalid)) (sym same_test ∙ may);
-    guest = ap (λ (n : ℕ). stepped g n (with_running_vcpu g.part n mark.cpu) g.content (entered_at (g.registers n) r2) (g.clean && true)) (sym shows_cpu.vid);
+    guest = ap (λ (n : ℕ). stepped g n (with_running_vcpu g.part n mark.cpu) g.content (entered_at (returned_to (g.part.vcpus n).state (g.registers n) r0 outs) r2) (g.clean && true)) (sym shows_cpu.vid) ∙
+        ap (λ (s : VState). stepped g cpu.vid (with_running_vcpu g.part cpu.vid mark.cpu) g.content (entered_at (returned_to s (g.registers cpu.vid) r0 outs) r2) (g.clean && true)) (sym state);
     cpu = refl;
   }
 

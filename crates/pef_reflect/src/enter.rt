@@ -2,7 +2,7 @@
 
 ghost use Rattle.std.specs.Prelude.{◌≡◌, ℕ, ◌^◌, ◌&&◌, ◌<◌, ◌≤◌, nat_lt, length};
 ghost use Rattle.std.specs.Vec.{with_item};
-ghost use Rattle.pef_model.specs.Guest.{entered_at};
+ghost use Rattle.pef_model.specs.Guest.{entered_at, returned_to};
 ghost use Rattle.pef_model.specs.Deed.{is_waiting, may_return_in};
 ghost use Rattle.pef_model.specs.Entry.{can_be_entered};
 ghost use Rattle.pef_frames.specs.Pool.{PoolState};
@@ -10,11 +10,13 @@ ghost use Rattle.pef_guest.specs.Shows.{vcpu_at};
 ghost use Rattle.pef_guest.specs.Whole.{IsWhole};
 ghost use Rattle.pef_guest.specs.Does.{DoesRow};
 
+use crate::call::bring_answer;
 use pef_guest::{Cpu, Guest, registers};
 use pef_model::{Answer, Cmd, Code, Ctx, Run, VState};
 use pef_seal::Seal;
 
-/// UV_RETURN of the hypervisor: the selected vCPU runs from now on. U_INVALID where its guest is neither Starting nor Secure,
+/// UV_RETURN of the hypervisor: the selected vCPU runs from now on, and goes on behind the hypercall with which it has left, with R0
+/// in its R3 and the call's outputs of `outs` from its R4 on. U_INVALID where its guest is neither Starting nor Secure,
 /// or where the vCPU is neither Fresh nor Parked.
 pub fn uv_return<S: Seal>(
     guest: &mut Guest<S>,
@@ -47,7 +49,7 @@ pub fn uv_return<S: Seal>(
         vid: cpu.vid,
         generation: guest.generation,
     };
-    take_up(guest, cpu, run, r2)
+    take_up(guest, cpu, run, r0, r2, outs)
 }
 
 /// `h.enter` of the hypervisor: a vCPU, by its number from 0, of a guest in normal memory runs from now on, in the guest's
@@ -95,13 +97,23 @@ fn has_vcpu_to_enter<S: Seal>(guest: &Guest<S>, vid: u64) -> bool
     vid < guest.vcpus.len() as u64 && guest.vcpus[vid as usize].can_be_entered()
 }
 
-/// A vCPU of the guest runs on the CPU from now on; at R2's address, where that isn't 0.
-fn take_up<S: Seal>(guest: &mut Guest<S>, cpu: &mut Cpu, run: Run, r2: u64) -> Answer
+/// A vCPU of the guest runs on the CPU from now on, with the answer of the hypercall for which it waits, if it waits for one; at
+/// R2's address, where that isn't 0.
+fn take_up<S: Seal>(
+    guest: &mut Guest<S>,
+    cpu: &mut Cpu,
+    run: Run,
+    r0: u64,
+    r2: u64,
+    outs: &[u64; 9],
+) -> Answer
     requires { run.vid < length guest.old.vcpus.items }
     ensures answer { result ≡ Answer.Enter }
-    ensures guest { guest.new ≡ record guest.old { vcpus = with_item guest.old.vcpus run.vid (record { state = VState.Running cpu.old.number; generation = run.generation; regs = entered_at (vcpu_at guest.old run.vid).regs r2 }) } }
+    ensures guest { guest.new ≡ record guest.old { vcpus = with_item guest.old.vcpus run.vid (record { state = VState.Running cpu.old.number; generation = run.generation; regs = entered_at (returned_to (vcpu_at guest.old run.vid).state (vcpu_at guest.old run.vid).regs r0 outs.now) r2 }) } }
     ensures cpu { cpu.new ≡ record cpu.old { ctx = Ctx.Guest run; last = Answer.Enter } }
 {
-    guest.vcpus[run.vid as usize].take_up(cpu.number, run.generation, r2);
+    let vcpu = &mut guest.vcpus[run.vid as usize];
+    bring_answer(vcpu, r0, outs);
+    vcpu.take_up(cpu.number, run.generation, r2);
     cpu.enter(run)
 }
