@@ -49,6 +49,7 @@ pub fn name_of_code(code: Code) -> &'static [u8]
         Code::UBusy => b"U_BUSY",
         Code::UPermission => b"U_PERMISSION",
         Code::UInvalid => b"U_INVALID",
+        Code::HSuccess => b"H_SUCCESS",
         Code::HUnsupported => b"H_UNSUPPORTED",
         Code::HFunction => b"H_FUNCTION",
         Code::HHardware => b"H_HARDWARE",
