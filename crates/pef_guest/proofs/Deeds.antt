@@ -28,7 +28,7 @@ use Rattle.pef_model.specs.Memory.{offset_of}
 use Rattle.pef_model.specs.PageOut.{page_out_code}
 use Rattle.pef_model.specs.PageIn.{page_in_operands, is_last_sealed}
 use Rattle.pef_guest.specs.Aims.{frame_met, frame_running, frame_at_guest}
-use Rattle.pef_model.specs.Deed.{Deed, answering, returning, giving, coming_back, deed_guest_in, deed_hypervisor, deed_running, deed_gone, deed_access, deed_interrupt, deed_by_kind, deed_by_row, deed_hypercall, deed_refused, deed_page_out_begin, deed_page_in_with, deed_page_in_test, may_return_in, is_waiting}
+use Rattle.pef_model.specs.Deed.{Deed, answering, returning, giving, coming_back, deed_guest_in, deed_hypervisor, deed_running, deed_gone, deed_access, deed_interrupt, deed_by_kind, deed_by_row, deed_hypercall, deed_refused, deed_page_out_begin, deed_page_in_with, deed_page_in_test, may_return_in, is_waiting, taken_up_in}
 
 -- the ways in which a step at a guest touches the pool: it takes the frame that is free, finds none, or gives one back
 abbrev pub IsShareOf : Bool → Option PoolSaw → Type 0
@@ -90,7 +90,7 @@ share_hypervisor plan g any ask (HEnter lpid vid value) = by_code (enter_code pl
   by_code None = (refl, tt)
   by_code (Some code) = (refl, tt)
 share_hypervisor plan g any ask (UReturn r0 r2 outs) = by_test (may_return_in g.part.phase && is_waiting (g.part.vcpus ask.vid).state) where
-  by_test : (b : Bool) → IsShare any None (if b then record (answering ask answer.Enter) { after = ctx.Guest (record { lpid = ask.lpid; vid = ask.vid; generation = g.part.generation }) } else answering ask (answer.Ret UInvalid))
+  by_test : (b : Bool) → IsShare any None (if b then record (answering ask answer.Enter) { after = taken_up_in (g.part.vcpus ask.vid).state (record { lpid = ask.lpid; vid = ask.vid; generation = g.part.generation }) } else answering ask (answer.Ret UInvalid))
   by_test true = (refl, tt)
   by_test false = (refl, tt)
 share_hypervisor plan g any ask cmd = (refl, tt)
@@ -106,6 +106,7 @@ share_guest plan g found any ask (ctx.Uv (Outward move)) cmd = by_test (move.gen
   by_test : (b : Bool) → IsShare any None (if b then giving (coming_back ask USuccess) 1 else coming_back ask UParameter)
   by_test true = (refl, inr (inr refl))
   by_test false = (refl, tt)
+share_guest plan g found any ask (ctx.Uv work) cmd = (refl, tt)
 share_guest plan g found any ask (ctx.Guest run) cmd = by_test (run.generation == g.part.generation) where
   by_test : (b : Bool) → IsShare any (if b then frame_running plan g.part cmd else None) (if b then deed_running plan run g found any ask cmd else deed_gone ask)
   by_test true = share_running plan run g found any ask cmd

@@ -1,5 +1,5 @@
 -- What a step at a guest needs, and what its CPU does after it.
-use Rattle.std.specs.Prelude.{◌≡◌, ℕ, ◌^◌, ◌<◌, Bool, true, false, length, Some, ◌⊎◌}
+use Rattle.std.specs.Prelude.{◌≡◌, ℕ, ◌^◌, ◌<◌, Bool, true, false, length, Option, Some, None, ◌⊎◌}
 use Rattle.pef_model.specs.declared.state.Phase.{Phase}
 use Rattle.pef_model.specs.declared.state.Phase.TheVariants as phase
 use Rattle.pef_model.specs.declared.state.Way.{Way}
@@ -10,6 +10,7 @@ use Rattle.pef_model.specs.declared.state.Work.TheVariants.{Inward, Outward}
 use Rattle.pef_model.specs.declared.state.Ctx.{Ctx}
 use Rattle.pef_model.specs.declared.state.Ctx.TheVariants as ctx
 use Rattle.pef_model.specs.declared.command.Cmd.{Cmd}
+use Rattle.pef_model.specs.Target.{caller}
 use Rattle.pef_frames.specs.Pool.{PoolState}
 use Rattle.pef_pages.specs.Pages.{mover_at}
 use Rattle.pef_guest.specs.declared.cpu.Cpu.{Cpu}
@@ -38,12 +39,18 @@ MayEnd guest cpu heading move = move.generation ≡ guest.generation → IsMoved
 abbrev pub HasRoomFor : {S : Type 0} → Guest S → PoolState → Move → Type 0
 HasRoomFor guest pool move = move.generation ≡ guest.generation → length pool.free < pool.count
 
--- by the context: a move may end; a vCPU that runs is one of the guest's, and its phase lets it run; so is one that is selected
+-- a vCPU that runs, or whose call is in progress, is one of the guest's, and its phase lets it run
+abbrev pub MayRun : {S : Type 0} → Guest S → Option Run → Type 0
+MayRun guest None = Unit {0}
+MayRun guest (Some run) = (run.vid < length guest.vcpus.items) × (run.generation ≡ guest.generation → may_run_in guest.phase ≡ true)
+
+-- by the context: a move may end; a vCPU may run, or go on with its call; one that is selected is one of the guest's
 abbrev pub ReadyIn : {S : Type 0} → Guest S → Cpu → Ctx → Type 0
 ReadyIn guest cpu ctx.Hv = cpu.lpid ≡ guest.lpid → cpu.vid < length guest.vcpus.items
 ReadyIn guest cpu (ctx.Uv (Inward move)) = MayEnd guest cpu way.Inward move
 ReadyIn guest cpu (ctx.Uv (Outward move)) = MayEnd guest cpu way.Outward move
-ReadyIn guest cpu (ctx.Guest run) = (run.vid < length guest.vcpus.items) × (run.generation ≡ guest.generation → may_run_in guest.phase ≡ true)
+ReadyIn guest cpu (ctx.Uv work) = MayRun guest (caller work)
+ReadyIn guest cpu (ctx.Guest run) = MayRun guest (Some run)
 
 -- a CPU runs a vCPU of a guest, in its generation, and its phase lets it run
 pub record IsRunning {S : Type 0} (cpu : Cpu) (guest : Guest S) (run : Run) : Type 0 where
@@ -79,12 +86,18 @@ pub record MovesAt {S : Type 0} (guest : Guest S) (cpu : Cpu) (heading : Way) (m
   pub mover : IsMovedBy guest cpu heading move.gfn
   pub frame : move.frame < guest.normal
 
--- what a CPU does after a step at a guest: the hypervisor runs, a page of the guest moves, or a vCPU of it runs
+-- a vCPU that runs, or whose call is in progress, does so in the guest's generation, and its phase lets it
+abbrev pub RunsAt : {S : Type 0} → Guest S → Option Run → Type 0
+RunsAt guest None = Unit {0}
+RunsAt guest (Some run) = (run.lpid ≡ guest.lpid) × (run.generation ≡ guest.generation) × (run.vid < length guest.vcpus.items) × (may_run_in guest.phase ≡ true)
+
+-- what a CPU does after a step at a guest: the hypervisor runs, a page of the guest moves, or a vCPU of it runs or goes on with its call
 abbrev pub WorksAt : {S : Type 0} → Guest S → Cpu → Ctx → Type 0
 WorksAt guest cpu ctx.Hv = Unit {0}
 WorksAt guest cpu (ctx.Uv (Inward move)) = MovesAt guest cpu way.Inward move
 WorksAt guest cpu (ctx.Uv (Outward move)) = MovesAt guest cpu way.Outward move
-WorksAt guest cpu (ctx.Guest run) = (run.lpid ≡ guest.lpid) × (run.generation ≡ guest.generation) × (run.vid < length guest.vcpus.items) × (may_run_in guest.phase ≡ true)
+WorksAt guest cpu (ctx.Uv work) = RunsAt guest (caller work)
+WorksAt guest cpu (ctx.Guest run) = RunsAt guest (Some run)
 
 -- what a step at a guest keeps of its CPU: its number, the size of its hand, and its selection, unless it selects a vCPU of the guest
 pub record KeepsOwn {S : Type 0} (guest : Guest S) (old new : Cpu) : Type 0 where

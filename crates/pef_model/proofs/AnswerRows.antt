@@ -131,6 +131,7 @@ deed_can plan past (ctx.Uv (Inward move)) ask Go = inward_can plan past ask move
 deed_can plan past (ctx.Uv (Inward move)) ask cmd = refl
 deed_can plan past (ctx.Uv (Outward move)) ask Go = outward_can plan past ask move move.copied refl
 deed_can plan past (ctx.Uv (Outward move)) ask cmd = refl
+deed_can plan past (ctx.Uv work) ask cmd = refl
 deed_can plan past (ctx.Guest run) ask (HLd ra) = refl
 deed_can plan past (ctx.Guest run) ask (HSt ra value) = refl
 deed_can plan past (ctx.Guest run) ask (HSelect lpid vid) = refl

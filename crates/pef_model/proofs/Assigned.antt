@@ -7,7 +7,7 @@ use Rattle.pef_model.specs.declared.state.Pending.TheVariants as pending
 use Rattle.pef_model.specs.declared.state.VState.{VState}
 use Rattle.pef_model.specs.declared.state.VState.TheVariants.{Parked}
 use Rattle.pef_model.specs.declared.state.Regs.{Regs}
-use Rattle.pef_model.specs.declared.state.Work.TheVariants.{Inward, Outward}
+use Rattle.pef_model.specs.declared.state.Run.{Run}
 use Rattle.pef_model.specs.declared.state.Ctx.{Ctx}
 use Rattle.pef_model.specs.declared.state.Ctx.TheVariants as ctx
 use Rattle.pef_model.specs.declared.command.Code.TheVariants.{HSuccess}
@@ -19,15 +19,15 @@ use Rattle.pef_model.specs.declared.entry.Answer.TheVariants.{Done, Val, Ret, En
 use Rattle.pef_model.specs.Commands.{IsCommand}
 use Rattle.pef_model.specs.Plan.{Plan}
 use Rattle.pef_model.specs.Event.{Event, newest}
-use Rattle.pef_model.specs.Registers.{Call, fresh_registers, number_of, call_of, loaded}
-use Rattle.pef_model.specs.Target.{touches_guest}
+use Rattle.pef_model.specs.Registers.{Call, fresh_registers, number_of, call_of, loaded, with_code}
+use Rattle.pef_model.specs.Target.{caller, touches_guest}
 use Rattle.pef_model.specs.GuestPart.{ends_guest}
-use Rattle.pef_model.specs.Guest.{Guest, start_guest, next_word, entered_at, registers_after_call, registers_after_command, returned_to, answered_with, registers_of_hypervisor, registers_in, next_guest}
+use Rattle.pef_model.specs.Guest.{Guest, start_guest, next_word, at_next_instruction, registers_after_call, registers_after_command, returned_to, returned_by, answered_with, registers_of_hypervisor, registers_of_call, registers_in, next_guest}
 use Rattle.pef_model.specs.History.{guest_after, reg, IsLegal}
-use Rattle.pef_model.specs.SearchLaw.{decides_register, assigned_by_call, assigned_by_command, assigned_entering, assigned_returning, assigned_in}
+use Rattle.pef_model.specs.SearchLaw.{decides_register, assigned_by_call, assigned_by_command, assigned_by_work, assigned_entering, assigned_returning, assigned_in}
 use Rattle.pef_model.proofs.Folds.{test_same, counts, skips}
 use Rattle.pef_model.proofs.Called.{length_loaded, set_value, returns_value}
-use Rattle.pef_model.proofs.Returned.{waits_for_call, entered_gpr, same_returned, length_entered, returned_value}
+use Rattle.pef_model.proofs.Returned.{waits_for_call, returned_gpr, same_returned, length_entered, returned_value}
 
 -- a command keeps that there are 32 registers
 length_command : (g : Guest) (regs : Regs) (cmd : Cmd) (a : Answer) → IsCommand cmd → length regs.gpr ≡ 32 → length (registers_after_command g regs cmd a).gpr ≡ 32
@@ -90,21 +90,18 @@ answers_by g selected vid cmd a = false
 -- in every other state its registers stay
 pub same_answered : (state : VState) (regs : Regs) (value : ℕ) → waits_for_answer state ≡ false → answered_with state regs value ≡ regs
 same_answered (Parked pending.Exit) regs value other = cc
-same_answered (Parked (pending.Hcall n)) regs value other = refl
-same_answered (Parked pending.Irq) regs value other = refl
+same_answered (Parked waits) regs value other = refl
 same_answered state regs value other = refl
 
 -- R3 alone changes where it is given, as a search finds it
 answered_value : (state : VState) (regs : Regs) (value r : ℕ) → length regs.gpr ≡ 32 → get_or (answered_with state regs value).gpr r 0 ≡ unwrap_or (assigned_entering state value r) (get_or regs.gpr r 0)
 answered_value (Parked pending.Exit) regs value r h = set_value regs.gpr 3 value r h (omega arith)
-answered_value (Parked (pending.Hcall n)) regs value r h = refl
-answered_value (Parked pending.Irq) regs value r h = refl
+answered_value (Parked waits) regs value r h = refl
 answered_value state regs value r h = refl
 
 length_answered : (state : VState) (regs : Regs) (value : ℕ) → length regs.gpr ≡ 32 → length (answered_with state regs value).gpr ≡ 32
 length_answered (Parked pending.Exit) regs value h = simp length-set h
-length_answered (Parked (pending.Hcall n)) regs value h = h
-length_answered (Parked pending.Irq) regs value h = h
+length_answered (Parked waits) regs value h = h
 length_answered state regs value h = h
 
 -- no other step of the hypervisor does
@@ -113,9 +110,9 @@ gpr_in_hypervisor g selected Enter (UReturn r0 r2 outs) vid goes_on none = by_te
   brought : ℕ → Regs
   brought v = returned_to (g.part.vcpus v).state (g.registers v) r0 outs
 
-  by_test : (b : Bool) → (vid == selected) ≡ b → (b && waits_for_call (g.part.vcpus vid).state) ≡ false → (if b then entered_at (brought selected) r2 else g.registers vid).gpr ≡ (g.registers vid).gpr
+  by_test : (b : Bool) → (vid == selected) ≡ b → (b && waits_for_call (g.part.vcpus vid).state) ≡ false → (if b then returned_by (g.part.vcpus selected).state (g.registers selected) r0 r2 outs else g.registers vid).gpr ≡ (g.registers vid).gpr
   by_test true t other =
-      entered_gpr (brought selected) r2 ∙ ap (λ (v : ℕ). (brought v).gpr) (sym (test_same vid selected t))
+      returned_gpr (g.part.vcpus selected).state (g.registers selected) r0 r2 outs ∙ ap (λ (v : ℕ). (brought v).gpr) (sym (test_same vid selected t))
       ∙ ap (λ (x : Regs). x.gpr) (same_returned (g.part.vcpus vid).state (g.registers vid) r0 outs other)
   by_test false t other = refl
 gpr_in_hypervisor g selected Enter (HEnter lpid named value) vid goes_on none = by_test (vid == named) refl none where
@@ -133,6 +130,28 @@ by_end : (P : Regs → Type 0) (g : Guest) (vid : ℕ) (ends : Bool) → P fresh
 by_end P g vid true zero old = zero
 by_end P g vid false zero old = old
 
+-- a call that comes back to a vCPU keeps it
+full_call : (g : Guest) (caller : Option Run) (a : Answer) → AreFull g.registers → AreFull (registers_of_call g caller a)
+full_call g (Some run) (Ret code) full vid = by_test (vid == run.vid) where
+  by_test : (b : Bool) → length (if b then at_next_instruction (g.registers run.vid) (with_code (g.registers run.vid).gpr code) else g.registers vid).gpr ≡ 32
+  by_test true = simp length-set (full run.vid)
+  by_test false = full vid
+full_call g (Some run) a full vid = full vid
+full_call g None a full vid = full vid
+
+-- and R3 alone changes, as a search finds it
+value_of_call : (g : Guest) (caller : Option Run) (a : Answer) (vid r : ℕ) → AreFull g.registers →
+    get_or (registers_of_call g caller a vid).gpr r 0 ≡ unwrap_or (assigned_by_work caller vid a r) (get_or (g.registers vid).gpr r 0)
+value_of_call g (Some run) (Ret code) vid r full = by_test (vid == run.vid) refl where
+  by_test : (b : Bool) → (vid == run.vid) ≡ b →
+      get_or (if b then at_next_instruction (g.registers run.vid) (with_code (g.registers run.vid).gpr code) else g.registers vid).gpr r 0
+      ≡ unwrap_or (if b && (r == 3) then Some (number_of code) else None) (get_or (g.registers vid).gpr r 0)
+  by_test true t =
+      ap (λ (v : ℕ). get_or (with_code (g.registers v).gpr code) r 0) (sym (test_same vid run.vid t)) ∙ set_value (g.registers vid).gpr 3 (number_of code) r (full vid) (omega arith)
+  by_test false t = refl
+value_of_call g (Some run) a vid r full = refl
+value_of_call g None a vid r full = refl
+
 full_after : (c : Ctx) (g : Guest) (selected : ℕ) (cmd : Cmd) (a : Answer) → IsCommand cmd → AreFull g.registers → AreFull (registers_in c g selected cmd a)
 full_after ctx.Hv g selected (UPate lpid dw0 dw1) (Ret code) k full vid = by_end (λ (regs : Regs). length regs.gpr ≡ 32) g vid (ends_guest code dw1) refl (full vid)
 full_after ctx.Hv g selected (HEnter lpid named value) Enter k full vid = by_test (vid == named) where
@@ -140,12 +159,11 @@ full_after ctx.Hv g selected (HEnter lpid named value) Enter k full vid = by_tes
   by_test true = length_answered (g.part.vcpus named).state (g.registers named) value (full named)
   by_test false = full vid
 full_after ctx.Hv g selected (UReturn r0 r2 outs) Enter k full vid = by_test (vid == selected) where
-  by_test : (b : Bool) → length (if b then entered_at (returned_to (g.part.vcpus selected).state (g.registers selected) r0 outs) r2 else g.registers vid).gpr ≡ 32
+  by_test : (b : Bool) → length (if b then returned_by (g.part.vcpus selected).state (g.registers selected) r0 r2 outs else g.registers vid).gpr ≡ 32
   by_test true = length_entered (g.part.vcpus selected).state (g.registers selected) r0 r2 outs k.2 (full selected)
   by_test false = full vid
 full_after ctx.Hv g selected cmd a k full vid = ap length (gpr_in_hypervisor g selected a cmd vid refl refl) ∙ full vid
-full_after (ctx.Uv (Inward move)) g selected cmd a k full vid = full vid
-full_after (ctx.Uv (Outward move)) g selected cmd a k full vid = full vid
+full_after (ctx.Uv work) g selected cmd a k full vid = full_call g (caller work) a full vid
 full_after (ctx.Guest run) g selected cmd a k full vid = by_test (vid == run.vid) where
   by_test : (b : Bool) → length (if b then registers_after_command g (g.registers run.vid) cmd a else g.registers vid).gpr ≡ 32
   by_test true = length_command g (g.registers run.vid) cmd a k (full run.vid)
@@ -169,14 +187,13 @@ value_after_step ctx.Hv g selected (UReturn r0 r2 outs) Enter vid r k full small
   brought v = returned_to (g.part.vcpus v).state (g.registers v) r0 outs
 
   by_test : (b : Bool) → (vid == selected) ≡ b →
-      get_or (if b then entered_at (brought selected) r2 else g.registers vid).gpr r 0 ≡ unwrap_or (if b then assigned_returning (g.part.vcpus vid).state r0 outs r else None) (get_or (g.registers vid).gpr r 0)
+      get_or (if b then returned_by (g.part.vcpus selected).state (g.registers selected) r0 r2 outs else g.registers vid).gpr r 0 ≡ unwrap_or (if b then assigned_returning (g.part.vcpus vid).state r0 outs r else None) (get_or (g.registers vid).gpr r 0)
   by_test true t =
-      ap (λ (gpr : List ℕ). get_or gpr r 0) (entered_gpr (brought selected) r2) ∙ ap (λ (v : ℕ). get_or (brought v).gpr r 0) (sym (test_same vid selected t))
+      ap (λ (gpr : List ℕ). get_or gpr r 0) (returned_gpr (g.part.vcpus selected).state (g.registers selected) r0 r2 outs) ∙ ap (λ (v : ℕ). get_or (brought v).gpr r 0) (sym (test_same vid selected t))
       ∙ returned_value (g.part.vcpus vid).state (g.registers vid) r0 outs r k.2 (full vid)
   by_test false t = refl
 value_after_step ctx.Hv g selected cmd a vid r k full small = ap (λ (gpr : List ℕ). get_or gpr r 0) (gpr_in_hypervisor g selected a cmd vid refl refl)
-value_after_step (ctx.Uv (Inward move)) g selected cmd a vid r k full small = refl
-value_after_step (ctx.Uv (Outward move)) g selected cmd a vid r k full small = refl
+value_after_step (ctx.Uv work) g selected cmd a vid r k full small = value_of_call g (caller work) a vid r full
 value_after_step (ctx.Guest run) g selected cmd a vid r k full small = by_test (vid == run.vid) refl where
   by_test : (b : Bool) → (vid == run.vid) ≡ b →
       get_or (if b then registers_after_command g (g.registers run.vid) cmd a else g.registers vid).gpr r 0

@@ -29,6 +29,7 @@ use Rattle.pef_model.proofs.Steps.{ctx_after}
 use Rattle.pef_model.proofs.Changes.{Change, Quiet, Begins, Copies, Ends, Drops, Comes, Reads, Accepts, Refuses, Takes, Parked, Gone, Backs, Writes, Slots, Selected, LeavesCpu}
 use Rattle.pef_model.proofs.ChangeOf.{change}
 use Rattle.pef_model.proofs.Fields.{field_after, same_field, kept_field, entry_field}
+use Rattle.pef_model.proofs.Works.{outward, moves_none}
 use Rattle.pef_model.proofs.Moving.{IsMoving}
 use Rattle.pef_model.proofs.Paging.{pages, AllMoved, all_moved}
 
@@ -176,7 +177,7 @@ module _ (plan : Plan) (past : List Event) (e : Event) (extends : Extends plan p
   page_step all (Copies x) =
       page_kept (none_begins _ _ _ x.cpu_is (λ move hypervisor call. let before = x.before in cc)) (kept_field plan past e (λ (g : GuestPart). g.pages) x.parts)
   page_step all (Ends x) =
-      let moving = all.moves e.trace.cpu (Outward x.move) x.before x.generation in
+      let moving = all.moves e.trace.cpu (outward x.move) x.before x.generation in
       let none = none_begins _ _ _ x.cpu_is (λ move hypervisor call. let before = x.before in cc) in
       page_put x.move.lpid x.move.gfn _ (field_after plan past e (λ (g : GuestPart). g.pages) _ _ x.parts)
       (λ p q is. Ended none cpu.hand e.trace.cpu
@@ -203,7 +204,7 @@ module _ (plan : Plan) (past : List Event) (e : Event) (extends : Extends plan p
       (λ p q is. Refused none (is ∙ ap refused_in (old_page x.move.lpid x.move.gfn p q)))
       (λ elsewhere. none)
   page_step all (Takes x) =
-      page_kept (none_begins _ _ _ x.cpu_is (λ move hypervisor call. cc)) (same_field plan past e (λ (g : GuestPart). g.pages) _ _ x.parts refl)
+      page_kept (none_begins _ _ _ x.cpu_is (λ move hypervisor call. moves_none x.after _ x.runs (outward move) call)) (same_field plan past e (λ (g : GuestPart). g.pages) _ _ x.parts refl)
   page_step all (Parked x) =
       page_kept (none_begins _ _ _ x.cpu_is (λ move hypervisor call. cc)) (same_field plan past e (λ (g : GuestPart). g.pages) _ _ x.parts refl)
   page_step all (Gone x) =

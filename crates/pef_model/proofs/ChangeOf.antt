@@ -48,6 +48,7 @@ change_in plan past cpu mark (ctx.Uv (Outward move)) h Go = go plan past cpu mar
 change_in plan past cpu mark (ctx.Uv (Outward move)) h cmd = refused plan past cpu mark (ctx.Uv (Outward move)) h cmd (record { ctx_is = refl; hand_is = refl; lpid_is = refl }) refl
 change_in plan past cpu mark (ctx.Uv (Inward move)) h Go = go_in plan past cpu mark move h move.copied refl
 change_in plan past cpu mark (ctx.Uv (Inward move)) h cmd = refused plan past cpu mark (ctx.Uv (Inward move)) h cmd (record { ctx_is = refl; hand_is = refl; lpid_is = refl }) refl
+change_in plan past cpu mark (ctx.Uv work) h cmd = refused plan past cpu mark (ctx.Uv work) h cmd (record { ctx_is = refl; hand_is = refl; lpid_is = refl }) refl
 change_in plan past cpu mark (ctx.Guest run) h (HLd ra) = refused plan past cpu mark (ctx.Guest run) h (HLd ra) (record { ctx_is = refl; hand_is = refl; lpid_is = refl }) refl
 change_in plan past cpu mark (ctx.Guest run) h (HSt ra value) = refused plan past cpu mark (ctx.Guest run) h (HSt ra value) (record { ctx_is = refl; hand_is = refl; lpid_is = refl }) refl
 change_in plan past cpu mark (ctx.Guest run) h (HSelect lpid vid) = refused plan past cpu mark (ctx.Guest run) h (HSelect lpid vid) (record { ctx_is = refl; hand_is = refl; lpid_is = refl }) refl

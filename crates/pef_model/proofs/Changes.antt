@@ -1,5 +1,5 @@
 -- What a step can change: its CPU, the public part of one guest, the pool.
-use Rattle.std.proofs.Common.{◌≡◌, ◌≢◌, ℕ, ◌+◌, ◌<◌, List, ◌∷◌, Bool, true, false, not, refl, ap, sym, ◌∙◌, ◌==◌, ◌&&◌, ◌||◌, ◌⊎◌, if◌then◌else◌, None}
+use Rattle.std.proofs.Common.{◌≡◌, ◌≢◌, ℕ, ◌+◌, ◌<◌, List, ◌∷◌, Bool, true, false, not, refl, ap, sym, ◌∙◌, ◌==◌, ◌&&◌, ◌||◌, ◌⊎◌, if◌then◌else◌, Some, None}
 use Rattle.pef_model.specs.declared.state.Kind.TheVariants.{Secure, Out}
 use Rattle.pef_model.specs.declared.state.Pending.{Pending}
 use Rattle.pef_model.specs.declared.state.Phase.{Phase}
@@ -8,14 +8,13 @@ use Rattle.pef_model.specs.declared.state.VState.TheVariants as vstate
 use Rattle.pef_model.specs.declared.state.Run.{Run}
 use Rattle.pef_model.specs.declared.state.Move.{Move}
 use Rattle.pef_model.specs.declared.state.Slot.{Slot}
-use Rattle.pef_model.specs.declared.state.Work.{Work}
 use Rattle.pef_model.specs.declared.state.Work.TheVariants.{Inward, Outward}
 use Rattle.pef_model.specs.declared.state.Ctx.{Ctx}
 use Rattle.pef_model.specs.declared.state.Ctx.TheVariants as ctx
 use Rattle.pef_model.specs.declared.command.Cmd.{Cmd}
 use Rattle.pef_model.specs.Plan.{Plan, IsWithin}
 use Rattle.pef_model.specs.Event.{Event, Mark}
-use Rattle.pef_model.specs.Target.{Ask, Target, Alone, AtGuest, target_in, target_of, is_guest}
+use Rattle.pef_model.specs.Target.{Ask, Target, Alone, AtGuest, target_in, target_of, vcpu_in, is_guest}
 use Rattle.pef_model.specs.Cpu.{CpuPart, next_cpu}
 use Rattle.pef_model.specs.GuestPart.{GuestPart, put, is_invalid, next_part, with_secure_page, with_running_vcpu, with_parked_vcpu, with_page_leaving, with_page_out, with_page_coming, with_page_refused, with_entry, ended_normal}
 use Rattle.pef_model.specs.Entry.{may_write_in, may_enter_in}
@@ -25,7 +24,7 @@ use Rattle.pef_model.specs.PageIn.{may_page_in_in}
 use Rattle.pef_model.specs.Deed.{Deed, may_return_in}
 use Rattle.pef_model.specs.History.{guest_after, pool_after, frame_after, deed_after, ask_of, entry_of, part_after, begins_out}
 use Rattle.pef_model.proofs.Folds.{test_same}
-use Rattle.pef_model.proofs.Works.{move_of}
+use Rattle.pef_model.proofs.Works.{PageMove, work_of}
 use Rattle.pef_model.proofs.Puts.{not_swapped, put-same}
 
 -- a CPU after an entry of its own: its context, hand and selected guest
@@ -81,9 +80,9 @@ pub record EndsMove (plan : Plan) (past : List Event) (cpu : CpuPart) (e : Event
 
 -- the move of a page of a guest that has ended comes back
 pub record DropsMove (plan : Plan) (past : List Event) (cpu : CpuPart) (e : Event) : Type 0 where
-  pub work : Work
-  pub before : cpu.ctx ≡ ctx.Uv work
-  pub generation : (move_of work).generation ≢ (part_after plan past (move_of work).lpid).generation
+  pub work : PageMove
+  pub before : cpu.ctx ≡ ctx.Uv (work_of work)
+  pub generation : work.move.generation ≢ (part_after plan past work.move.lpid).generation
   pub cpu_is : LeavesCpu cpu e ctx.Hv cpu.hand cpu.lpid
   pub parts : KeepsParts plan past e
   pub pool : pool_after plan (e ∷ past) ≡ pool_after plan past
@@ -133,7 +132,7 @@ pub record RefusesPage (plan : Plan) (past : List Event) (cpu : CpuPart) (e : Ev
 abbrev pub may_run_in : Phase → Bool
 may_run_in p = may_return_in p || may_enter_in p
 
--- a vCPU that doesn't run is taken up
+-- a vCPU that doesn't run is taken up, and goes on as a guest or in its call
 pub record TakesUp (plan : Plan) (past : List Event) (cpu : CpuPart) (e : Event) : Type 0 where
   pub lpid : ℕ
   pub vid : ℕ
@@ -141,7 +140,9 @@ pub record TakesUp (plan : Plan) (past : List Event) (cpu : CpuPart) (e : Event)
   pub allowed : may_run_in (part_after plan past lpid).phase ≡ true
   pub rests : (n : ℕ) → ((part_after plan past lpid).vcpus vid).state ≡ vstate.Running n → ⊥
   pub number : lpid ≡ cpu.lpid ⊎ IsWithin 1 plan.guests lpid
-  pub cpu_is : LeavesCpu cpu e (ctx.Guest (record { lpid = lpid; vid = vid; generation = (part_after plan past lpid).generation })) cpu.hand cpu.lpid
+  pub after : Ctx
+  pub runs : vcpu_in after ≡ Some (record { lpid = lpid; vid = vid; generation = (part_after plan past lpid).generation })
+  pub cpu_is : LeavesCpu cpu e after cpu.hand cpu.lpid
   pub parts : PutsPart plan past e lpid (with_running_vcpu (part_after plan past lpid) vid e.trace.cpu)
   pub pool : pool_after plan (e ∷ past) ≡ pool_after plan past
 

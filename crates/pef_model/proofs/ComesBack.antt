@@ -8,7 +8,6 @@ use Rattle.pef_model.specs.declared.state.VState.{VState}
 use Rattle.pef_model.specs.declared.state.VState.TheVariants as vstate
 use Rattle.pef_model.specs.declared.state.Regs.{Regs}
 use Rattle.pef_model.specs.declared.state.Run.{Run}
-use Rattle.pef_model.specs.declared.state.Work.TheVariants.{Inward, Outward}
 use Rattle.pef_model.specs.declared.state.Ctx.{Ctx}
 use Rattle.pef_model.specs.declared.state.Ctx.TheVariants as ctx
 use Rattle.pef_model.specs.declared.hypercall.TheConstants.{HCALLS}
@@ -28,9 +27,9 @@ use Rattle.pef_model.specs.Target.{Ask, Alone, AtGuest, is_guest, target_in, vcp
 use Rattle.pef_model.specs.Hypercalls.{row_of}
 use Rattle.pef_model.specs.Cpu.{CpuPart}
 use Rattle.pef_model.specs.GuestPart.{GuestPart, VcpuPart, new_vcpu, waits_for}
-use Rattle.pef_model.specs.Guest.{Guest, entered_at, answered_by, returned_to}
+use Rattle.pef_model.specs.Guest.{Guest, answered_by, returned_by}
 use Rattle.pef_model.specs.Entry.{enter_code}
-use Rattle.pef_model.specs.Deed.{Deed, may_return_in, is_waiting, deed_return, answering, returning}
+use Rattle.pef_model.specs.Deed.{Deed, may_return_in, is_waiting, taken_up_in, deed_return, answering, returning}
 use Rattle.pef_model.specs.History.{cpu_after, guest_after, part_after, deed_after, reg, Extends, IsLegal, ChangesNoMemory}
 use Rattle.pef_model.specs.CauseLaw.{Reflects}
 use Rattle.pef_model.specs.StepLaw.{TakesUp, registers_of}
@@ -38,6 +37,7 @@ use Rattle.pef_model.specs.SearchLaw.{IsStep}
 use Rattle.pef_model.specs.TransitionLaw.{state_given, state_after, is_vcpu}
 use Rattle.pef_model.specs.ReturnLaw.{TakesOutputsAlone, ComesBack, takes_up_in, takes_up, EachCallComesBack}
 use Rattle.pef_model.proofs.Folds.{same_test, test_same}
+use Rattle.pef_model.proofs.Works.{vcpu_returned}
 use Rattle.pef_model.proofs.Aims.{own_guest}
 use Rattle.pef_model.proofs.Assigned.{full_registers}
 use Rattle.pef_model.proofs.ContextAnswers.{context_exactly_where, gone_exactly_where}
@@ -46,7 +46,7 @@ use Rattle.pef_model.proofs.ExitAnswers.{exits_exactly_where}
 use Rattle.pef_model.proofs.HypercallRows.{row_is_whole, row_of-found}
 use Rattle.pef_model.proofs.Moves.{GoesOn, goes_on_is, own_registers, taken_registers, registers_by, registers_by_is, others_stay, is_interrupted}
 use Rattle.pef_model.proofs.Parts.{generation_grows}
-use Rattle.pef_model.proofs.Returned.{entered_gpr}
+use Rattle.pef_model.proofs.Returned.{returned_gpr}
 use Rattle.pef_model.proofs.ReturnRows.{takes_alone}
 use Rattle.pef_model.proofs.Running.{each_cpu_runs_its_vcpu}
 use Rattle.pef_model.proofs.Taken.{taken_up, parked, vcpu_given, given_at, vcpu_after, each_entry_leaves_states}
@@ -68,11 +68,14 @@ returned_up plan past e r0 r2 outs extends before cmd_is answer_is =
       same : deed_of e ≡ deed_return g ask
       same = deed_is plan past e ctx.Hv (UReturn r0 r2 outs) extends before cmd_is
 
+      up : Run
+      up = record { lpid = cpu.lpid; vid = cpu.vid; generation = g.generation }
+
       deed : Bool → Deed
-      deed b = if b then record (answering ask Enter) { after = ctx.Guest (record { lpid = cpu.lpid; vid = cpu.vid; generation = g.generation }) } else answering ask (Ret UInvalid)
+      deed b = if b then record (answering ask Enter) { after = taken_up_in (g.vcpus cpu.vid).state up } else answering ask (Ret UInvalid)
 
       by_test : (b : Bool) → (deed b).answer ≡ Enter → takes_up_in cpu.lpid cpu.vid (deed b).answer (deed b).after ≡ true
-      by_test true h = rw (same_test cpu.lpid, same_test cpu.vid) refl
+      by_test true h = ap (is_vcpu cpu.lpid cpu.vid) (vcpu_returned (g.vcpus cpu.vid).state up) ∙ rw (same_test cpu.lpid, same_test cpu.vid) refl
       by_test false h = cc
 
 -- and h.enter the one that it names
@@ -104,7 +107,7 @@ entered_up plan past e lpid vid value extends before cmd_is answer_is =
 
 -- a step that neither runs a vCPU nor takes it up, and doesn't end its guest, leaves it parked
 stays_parked : (plan : Plan) (g : GuestPart) (c : Ctx) (l v cpu : ℕ) (cmd : Cmd) (a : Answer) (lpid vid : ℕ) → GoesOn plan c l cmd a lpid →
-    ((run : Run) → c ≡ ctx.Guest run → run.lpid ≡ lpid → run.vid ≡ vid → ⊥) →
+    ((run : Run) → vcpu_in c ≡ Some run → run.lpid ≡ lpid → run.vid ≡ vid → ⊥) →
     ((r0 r2 : ℕ) (outs : List ℕ) → c ≡ ctx.Hv → cmd ≡ UReturn r0 r2 outs → a ≡ Enter → l ≡ lpid → v ≡ vid → ⊥) →
     ((value : ℕ) → c ≡ ctx.Hv → cmd ≡ HEnter lpid vid value → a ≡ Enter → ⊥) →
     is_guest lpid (target_in plan c l cmd) ≡ true → vcpu_given g vid v cpu c cmd a ≡ None
@@ -144,9 +147,9 @@ waits_on plan past e lpid vid n regs legal none same waits = by_step (is_vcpu lp
   g = guest_after plan lpid past
 
   -- no CPU runs it in its guest's generation
-  runs_not : (run : Run) → e.saw.before ≡ ctx.Guest run → run.lpid ≡ lpid → run.vid ≡ vid → run.generation ≡ (part_after plan past run.lpid).generation → ⊥
+  runs_not : (run : Run) → vcpu_in e.saw.before ≡ Some run → run.lpid ≡ lpid → run.vid ≡ vid → run.generation ≡ (part_after plan past run.lpid).generation → ⊥
   runs_not run before here this now =
-      let running = each_cpu_runs_its_vcpu plan past e.trace.cpu run legal.1 (ap vcpu_in (sym (context_is plan past e legal.0) ∙ before)) now in
+      let running = each_cpu_runs_its_vcpu plan past e.trace.cpu run legal.1 (ap vcpu_in (sym (context_is plan past e legal.0)) ∙ before) now in
       let state : state_after plan past lpid vid ≡ vstate.Running e.trace.cpu = (λ i. state_after plan past (sym here i) (sym this i)) ∙ running.state in
       let parked_is = waits.state in
       cc
@@ -158,22 +161,20 @@ waits_on plan past e lpid vid n regs legal none same waits = by_step (is_vcpu lp
   }
 
   -- one that runs it in another is told so
-  by_run : (run : Run) → e.saw.before ≡ ctx.Guest run → run.lpid ≡ lpid → run.vid ≡ vid → Waits plan (e ∷ past) lpid vid n regs
+  by_run : (run : Run) → vcpu_in e.saw.before ≡ Some run → run.lpid ≡ lpid → run.vid ≡ vid → Waits plan (e ∷ past) lpid vid n regs
   by_run run before here this = by_command (is_command_in e.saw.before e.trace.cmd) refl where
     by_command : (b : Bool) → is_command_in e.saw.before e.trace.cmd ≡ b → Waits plan (e ∷ past) lpid vid n regs
     by_command true t =
         let gone = gone_exactly_where plan past e legal.0 in
-        kept (gone.rest (gone.comes.1 (record { run = run; before = ap vcpu_in before; cmd_is = t; generation = runs_not run before here this })))
+        kept (gone.rest (gone.comes.1 (record { run = run; before = before; cmd_is = t; generation = runs_not run before here this })))
     by_command false t = let other = context_exactly_where plan past e legal.0 in kept (other.rest (other.comes.1 t))
 
-  by_ctx : (c : Ctx) → e.saw.before ≡ c → is_vcpu lpid vid (vcpu_in c) ≡ true → Waits plan (e ∷ past) lpid vid n regs
-  by_ctx ctx.Hv before t = cc
-  by_ctx (ctx.Uv (Inward move)) before t = cc
-  by_ctx (ctx.Uv (Outward move)) before t = cc
-  by_ctx (ctx.Guest run) before t = let both = and_parts (run.lpid == lpid) (run.vid == vid) t in by_run run before (test_same run.lpid lpid both.0) (test_same run.vid vid both.1)
+  by_vcpu : (o : Option Run) → vcpu_in e.saw.before ≡ o → is_vcpu lpid vid o ≡ true → Waits plan (e ∷ past) lpid vid n regs
+  by_vcpu None before t = cc
+  by_vcpu (Some run) before t = let both = and_parts (run.lpid == lpid) (run.vid == vid) t in by_run run before (test_same run.lpid lpid both.0) (test_same run.vid vid both.1)
 
   by_step : (b : Bool) → is_vcpu lpid vid (vcpu_in e.saw.before) ≡ b → Waits plan (e ∷ past) lpid vid n regs
-  by_step true t = by_ctx e.saw.before refl t
+  by_step true t = by_vcpu (vcpu_in e.saw.before) refl t
   by_step false t = record {
     state = ap (λ (x : VcpuPart). x.state) (vcpu_after plan past e lpid vid) ∙ ap (λ (x : VcpuPart). x.state) (by_aim (is_guest lpid (target_in plan e.saw.before e.saw.lpid e.trace.cmd)) refl) ∙ waits.state;
     registers = registers_by_is plan past e lpid vid
@@ -183,10 +184,10 @@ waits_on plan past e lpid vid n regs legal none same waits = by_step (is_vcpu lp
     goes_on : GoesOn plan e.saw.before e.saw.lpid e.trace.cmd e.trace.answer lpid
     goes_on = goes_on_is plan past e lpid same
 
-    own : (run : Run) → e.saw.before ≡ ctx.Guest run → run.lpid ≡ lpid → run.vid ≡ vid → ⊥
+    own : (run : Run) → vcpu_in e.saw.before ≡ Some run → run.lpid ≡ lpid → run.vid ≡ vid → ⊥
     own run before here this =
         let is : is_vcpu lpid vid (Some run) ≡ true = (λ i. (run.lpid == sym here i) && (run.vid == sym this i)) ∙ rw (same_test run.lpid, same_test run.vid) refl in
-        let not_is : is_vcpu lpid vid (Some run) ≡ false = ap (λ (c : Ctx). is_vcpu lpid vid (vcpu_in c)) (sym before) ∙ t in
+        let not_is : is_vcpu lpid vid (Some run) ≡ false = ap (is_vcpu lpid vid) (sym before) ∙ t in
         cc
 
     returned : (r0 r2 : ℕ) (outs : List ℕ) → e.saw.before ≡ ctx.Hv → e.trace.cmd ≡ UReturn r0 r2 outs → e.trace.answer ≡ Enter → e.saw.lpid ≡ lpid → e.saw.vid ≡ vid → ⊥
@@ -257,7 +258,7 @@ answers_waiting plan past back lpid vid n r0 r2 outs regs row legal waits takes 
       row = row;
       row_is = row_is;
       kind_is = kind_is;
-      gpr = subst (λ (gpr : List ℕ). TakesOutputsAlone row r0 outs regs.gpr gpr) (sym (entered_gpr (returned_to waiting regs r0 outs) r2 ∙ ap (λ (o : Option Row). (answered_by o regs r0 outs).gpr) row_is))
+      gpr = subst (λ (gpr : List ℕ). TakesOutputsAlone row r0 outs regs.gpr gpr) (sym (returned_gpr waiting regs r0 r2 outs ∙ ap (λ (o : Option Row). (answered_by o regs r0 outs).gpr) row_is))
           (takes_alone row regs r0 outs (row_is_whole n row row_is) full nine);
       goes_on = is_interrupted waiting regs r0 r2 outs;
     }) where
@@ -267,11 +268,11 @@ answers_waiting plan past back lpid vid n r0 r2 outs regs row legal waits takes 
       waiting : VState
       waiting = vstate.Parked (pending.Hcall n)
 
-      is : registers_of plan (back ∷ past) lpid vid ≡ entered_at (returned_to waiting regs r0 outs) r2
+      is : registers_of plan (back ∷ past) lpid vid ≡ returned_by waiting regs r0 r2 outs
       is = registers_by_is plan past back lpid vid
           ∙ (λ i. registers_by plan (takes.before i) (takes.guest_is i) (takes.vcpu_is i) (takes.cmd_is i) (takes.answer_is i) g lpid vid)
           ∙ taken_registers plan r0 r2 outs g lpid vid
-          ∙ (λ i. entered_at (returned_to (waits.state i) (waits.registers i) r0 outs) r2)
+          ∙ (λ i. returned_by (waits.state i) (waits.registers i) r0 r2 outs)
 
       full : length regs.gpr ≡ 32
       full = ap (λ (x : Regs). length x.gpr) (sym waits.registers) ∙ full_registers plan past lpid legal.1 vid

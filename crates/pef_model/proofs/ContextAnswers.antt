@@ -1,9 +1,10 @@
 -- Where Context and Gone come.
-use Rattle.std.proofs.Common.{◌≡◌, ◌≢◌, ℕ, List, ◌∷◌, Bool, true, false, ◌==◌, ◌&&◌, nat_lt, if◌then◌else◌, refl, ap, sym, subst, ◌∙◌, None, arith}
+use Rattle.std.proofs.Common.{◌≡◌, ◌≢◌, ℕ, List, ◌∷◌, Bool, true, false, ◌==◌, ◌&&◌, nat_lt, if◌then◌else◌, refl, ap, sym, subst, ◌∙◌, Some, None, arith}
 use Rattle.std.specs.Prelude.{is_some, unwrap_or}
 use Rattle.std.proofs.lemmas.Grind.{common_steps}
 use Rattle.std.proofs.lemmas.Bool.Decides.{nat_tests}
 use Rattle.pef_model.specs.declared.state.Run.{Run}
+use Rattle.pef_model.specs.declared.state.Work.TheVariants.{Inward, Outward}
 use Rattle.pef_model.specs.declared.state.Ctx.{Ctx}
 use Rattle.pef_model.specs.declared.state.Ctx.TheVariants as ctx
 use Rattle.pef_model.specs.declared.command.Cmd.{Cmd}
@@ -26,7 +27,7 @@ use Rattle.pef_model.specs.CauseLaw.{gone_cpu}
 use Rattle.pef_model.proofs.Puts.{put-same}
 use Rattle.pef_model.proofs.Outcomes.{Outcome, outcome, moving}
 use Rattle.pef_model.proofs.Steps.{context_leaves}
-use Rattle.pef_model.proofs.Moves.{runs_alone}
+use Rattle.pef_model.proofs.Works.{one_vcpu}
 use Rattle.pef_model.proofs.DeedOf.{deed_of, ask_in, deed_in, context_is, selected_is, deed_is}
 
 -- a step answers Context at a command of another context
@@ -107,6 +108,14 @@ running_not_gone plan run g found any ask cmd c h = grind (arith, common_steps)
 other_test : (m n : ℕ) → m ≢ n → (m == n) ≡ false
 other_test m n h = grind (arith, nat_tests)
 
+-- of a guest's call in progress no step is here yet
+runs_as_guest : (c : Ctx) (cmd : Cmd) (run : Run) → vcpu_in c ≡ Some run → is_command_in c cmd ≡ true → c ≡ ctx.Guest run
+runs_as_guest ctx.Hv cmd run runs command = cc
+runs_as_guest (ctx.Uv (Inward move)) cmd run runs command = cc
+runs_as_guest (ctx.Uv (Outward move)) cmd run runs command = cc
+runs_as_guest (ctx.Uv work) cmd run runs command = cc
+runs_as_guest (ctx.Guest other) cmd run runs command = ap ctx.Guest (one_vcpu (ctx.Guest other) other run refl runs)
+
 module _ (plan : Plan) (past : List Event) (e : Event) (extends : Extends plan past e) where
   gone_from : (is : e.trace.answer ≡ Gone) (c : Ctx) → e.saw.before ≡ c → Outcome c e.trace.cmd Gone e.saw.after e.saw.shown → IsOfAnEndedGuest plan past e
   gone_from is ctx.Hv before given = absurd (true_not_false (gone_comes ctx.Hv e.trace.cmd e.saw.after e.saw.shown given)) where
@@ -132,7 +141,7 @@ module _ (plan : Plan) (past : List Event) (e : Event) (extends : Extends plan p
   gone_deed : (ended : IsOfAnEndedGuest plan past e) → deed_of e ≡ deed_gone (ask_in (cpu_after plan e.trace.cpu past) (ctx.Guest ended.run) e.trace.cmd)
   gone_deed ended =
       let run : Run = ended.run in
-      let before : e.saw.before ≡ ctx.Guest run = runs_alone e.saw.before run ended.before in
+      let before : e.saw.before ≡ ctx.Guest run = runs_as_guest e.saw.before e.trace.cmd run ended.before ended.cmd_is in
       let ask : Ask = ask_in (cpu_after plan e.trace.cpu past) (ctx.Guest run) e.trace.cmd in
       let runs = deed_running plan run (guest_after plan run.lpid past) (found_after plan past) (nat_lt 0 (pool_after plan past)) ask e.trace.cmd in
       let command : is_command_in (ctx.Guest run) e.trace.cmd ≡ true = ap (λ (c : Ctx). is_command_in c e.trace.cmd) (sym before) ∙ ended.cmd_is in
@@ -179,7 +188,7 @@ gone_rest plan past e extends ended = record {
   by_guest lpid false t = skips (touches_guest plan lpid) (next_guest plan) (start_guest plan lpid) e past t
   by_guest lpid true t =
       counts (touches_guest plan lpid) (next_guest plan) (start_guest plan lpid) e past t
-      ∙ gone_guest plan (guest_after plan lpid past) e ended.run (runs_alone e.saw.before ended.run ended.before) (ap (λ (d : Deed). d.answer) deed)
+      ∙ gone_guest plan (guest_after plan lpid past) e ended.run (runs_as_guest e.saw.before e.trace.cmd ended.run ended.before ended.cmd_is) (ap (λ (d : Deed). d.answer) deed)
 
 pub gone_exactly_where : GoneExactlyWhere
 gone_exactly_where plan past e extends = record {

@@ -12,7 +12,7 @@ use Rattle.pef_model.specs.declared.entry.Answer.TheVariants.{Done, Val}
 use Rattle.pef_model.specs.declared.state.Phase.{Phase}
 use Rattle.pef_model.specs.declared.state.Phase.TheVariants as phase
 use Rattle.pef_model.specs.declared.state.Phase.TheVariants.{Aborting}
-use Rattle.pef_model.specs.declared.state.Work.TheVariants.{Inward, Outward}
+use Rattle.pef_model.specs.declared.state.Work.TheVariants.{Inward}
 use Rattle.pef_model.specs.Plan.{Plan}
 use Rattle.pef_model.specs.Memory.{offset_of}
 use Rattle.pef_model.specs.Target.{Ask}
@@ -129,7 +129,7 @@ deed_agrees : (plan : Plan) (g h : Guest) (found : ℕ → ℕ → ℕ) (any : B
     AgreeButValue c cmd (deed_guest_in c plan g found any ask cmd) (deed_guest_in c plan (like g h) found any ask (open_cmd cmd))
 deed_agrees plan g h found any ask cmd ctx.Hv shown = hypervisor_agrees plan g h any ask cmd
 deed_agrees plan g h found any ask cmd (ctx.Uv (Inward move)) shown = same_deed (ctx.Uv (Inward move)) cmd (deed_guest_in (ctx.Uv (Inward move)) plan g found any ask cmd)
-deed_agrees plan g h found any ask cmd (ctx.Uv (Outward move)) shown = same_deed (ctx.Uv (Outward move)) cmd (deed_guest_in (ctx.Uv (Outward move)) plan g found any ask cmd)
+deed_agrees plan g h found any ask cmd (ctx.Uv work) shown = same_deed (ctx.Uv work) cmd (deed_guest_in (ctx.Uv work) plan g found any ask cmd)
 deed_agrees plan g h found any ask cmd (ctx.Guest run) shown = by_test (run.generation == g.part.generation) shown where
   one : Bool → Deed
   one b = if b then deed_running plan run g found any ask cmd else deed_gone ask

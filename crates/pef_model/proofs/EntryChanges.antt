@@ -85,6 +85,8 @@ module _ (plan : Plan) (past : List Event) (cpu : CpuPart) (mark : Mark) (h : cp
           allowed = ap (λ (b : Bool). may_return_in g.phase || b) parts.0 ∙ or_right (may_return_in g.phase) true refl;
           rests = λ n runs. entered_not (g.vcpus vid).state n runs parts.1;
           number = inr (numbered plan lpid (nat_le 1 lpid && nat_le lpid plan.guests) refl target);
+          after = ctx.Guest (record { lpid = lpid; vid = vid; generation = g.generation });
+          runs = refl;
           cpu_is = record { ctx_is = refl; hand_is = refl; lpid_is = refl };
           parts = at_guest plan past (event None) lpid (with_running_vcpu g vid mark.cpu) target refl;
           pool = refl;

@@ -1,6 +1,6 @@
 -- What an entry writes into normal memory doesn't depend on what a guest alone knows.
 use Rattle.std.proofs.Common.{◌≡◌, ℕ, List, refl, Option, Some, None}
-use Rattle.pef_model.specs.declared.state.Work.TheVariants.{Inward, Outward}
+use Rattle.pef_model.specs.declared.state.Work.TheVariants.{Inward}
 use Rattle.pef_model.specs.declared.state.Ctx.{Ctx}
 use Rattle.pef_model.specs.declared.state.Ctx.TheVariants as ctx
 use Rattle.pef_model.specs.declared.command.Cmd.{Cmd}
@@ -14,8 +14,8 @@ write_open : (shift : ℕ) (c : Ctx) (cmd : Cmd) (a : Answer) (bytes : List ℕ)
 write_open shift ctx.Hv (GLi rd value) a bytes n = refl
 write_open shift ctx.Hv cmd a bytes n = refl
 write_open shift (ctx.Uv (Inward move)) cmd a bytes n = refl
-write_open shift (ctx.Uv (Outward move)) (GLi rd value) a bytes n = refl
-write_open shift (ctx.Uv (Outward move)) cmd a bytes n = refl
+write_open shift (ctx.Uv work) (GLi rd value) a bytes n = refl
+write_open shift (ctx.Uv work) cmd a bytes n = refl
 write_open shift (ctx.Guest run) (GLi rd value) a bytes n = refl
 write_open shift (ctx.Guest run) (GSt rs gpa) Done bytes n = refl
 write_open shift (ctx.Guest run) (GSt rs gpa) a bytes n = refl

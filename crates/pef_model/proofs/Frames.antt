@@ -5,7 +5,6 @@ use Rattle.std.proofs.lemmas.Bool.{or_right}
 use Rattle.pef_model.specs.declared.state.Kind.{Kind}
 use Rattle.pef_model.specs.declared.state.Kind.TheVariants as kind
 use Rattle.pef_model.specs.declared.state.Mover.{Mover}
-use Rattle.pef_model.specs.declared.state.Work.TheVariants.{Inward, Outward}
 use Rattle.pef_model.specs.Plan.{Plan}
 use Rattle.pef_model.specs.Event.{Event}
 use Rattle.pef_model.specs.GuestPart.{Page, GuestPart, is_secure, put, secured, begun_out, begun_in, ended_out, refused_in, has_secure_frame, sum_below}
@@ -16,6 +15,8 @@ use Rattle.pef_model.proofs.Orders.{invalid_not_secure, out_not_secure}
 use Rattle.pef_model.proofs.Changes.{Change, Quiet, Begins, Copies, Ends, Drops, Comes, Reads, Accepts, Refuses, Takes, Parked, Gone, Backs, Writes, Slots, Selected}
 use Rattle.pef_model.proofs.ChangeOf.{change}
 use Rattle.pef_model.proofs.Fields.{field_after, same_field, kept_field, entry_field}
+use Rattle.pef_model.specs.Target.{vcpu_in}
+use Rattle.pef_model.proofs.Works.{inward, outward}
 use Rattle.pef_model.proofs.Paging.{pages, AllMoved, all_moved}
 use Rattle.pef_model.proofs.Ranges.{IsNumbered, IsRanged, all_ranged}
 
@@ -124,7 +125,7 @@ module _ (plan : Plan) (past : List Event) (e : Event) where
   frame_step all ranged placed (Copies x) = Stays (kept_field plan past e (λ (g : GuestPart). g.pages) x.parts) x.pool
   frame_step all ranged placed (Ends x) =
       let old : Page = pages plan past x.move.lpid x.move.gfn in
-      let moving = all.moves e.trace.cpu (Outward x.move) x.before x.generation in
+      let moving = all.moves e.trace.cpu (outward x.move) x.before x.generation in
       let before : held old ≡ 1 = held_by old true (secure_has old moving.kind_is) in
       let after : held (ended_out old) ≡ 0 = refl in
       let pool = x.pool in
@@ -143,7 +144,7 @@ module _ (plan : Plan) (past : List Event) (e : Event) where
   frame_step all ranged placed (Reads x) = Stays (kept_field plan past e (λ (g : GuestPart). g.pages) x.parts) x.pool
   frame_step all ranged placed (Accepts x) =
       let old : Page = pages plan past x.move.lpid x.move.gfn in
-      let moving = all.moves e.trace.cpu (Inward x.move) x.before x.generation in
+      let moving = all.moves e.trace.cpu (inward x.move) x.before x.generation in
       let before : held old ≡ 1 = held_by old true (moving_has old _ moving.mover) in
       let after : held (secured old) ≡ 1 = refl in
       let pool = x.pool in
@@ -153,7 +154,7 @@ module _ (plan : Plan) (past : List Event) (e : Event) where
   frame_step all ranged placed (Refuses x) =
       let old : Page = pages plan past x.move.lpid x.move.gfn in
       let new : Page = refused_in old in
-      let moving = all.moves e.trace.cpu (Inward x.move) x.before x.generation in
+      let moving = all.moves e.trace.cpu (inward x.move) x.before x.generation in
       let before : held old ≡ 1 = held_by old true (moving_has old _ moving.mover) in
       let after : held new ≡ 0 = held_by new false (rest_has new (out_not_secure new moving.kind_is) refl) in
       let pool = x.pool in
@@ -169,7 +170,7 @@ module _ (plan : Plan) (past : List Event) (e : Event) where
       let after : held (secured old) ≡ 1 = refl in
       let pool = x.pool in
       let cpu = ranged e.trace.cpu in
-      Puts x.run.lpid x.gfn (secured old) (cpu.runs x.run x.before) x.placed (field_after plan past e (λ (g : GuestPart). g.pages) _ _ x.parts) (omega arith)
+      Puts x.run.lpid x.gfn (secured old) (cpu.runs x.run (ap vcpu_in x.before)) x.placed (field_after plan past e (λ (g : GuestPart). g.pages) _ _ x.parts) (omega arith)
   frame_step all ranged placed (Writes x) = Stays (entry_field plan past e (λ (g : GuestPart). g.pages) x.lpid x.base x.length_ x.parts refl refl) x.pool
   frame_step all ranged placed (Slots x) = Stays (same_field plan past e (λ (g : GuestPart). g.pages) _ _ x.parts refl) x.pool
   frame_step all ranged placed (Selected x) = Stays (kept_field plan past e (λ (g : GuestPart). g.pages) x.parts) x.pool

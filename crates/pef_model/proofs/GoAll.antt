@@ -22,10 +22,11 @@ use Rattle.pef_model.specs.Run.{is_in_progress, is_again, ends_go, GoesOn, entry
 use Rattle.pef_model.specs.RunLaw.{EachGoAllEnds}
 use Rattle.pef_model.proofs.Steps.{ctx_after}
 
--- whether a call in progress has copied its page
+-- whether a call in progress has copied its page; a guest's call copies none
 abbrev is_copied : Work → Bool
 is_copied (Inward move) = move.copied
 is_copied (Outward move) = move.copied
+is_copied work = true
 
 -- with how many `go` in a context go* doesn't end
 abbrev pub gos_left : Ctx → ℕ
@@ -86,6 +87,7 @@ deed_goes plan past (ctx.Uv (Outward move)) lpid vid last hand register =
     let ask : Ask = record { before = ctx.Uv (Outward move); lpid = lpid; vid = vid; last = last; hand = hand; register = register } in
     work_goes (Outward move) (λ b. deed_after plan past ask Go (cond b (AtGuest move.lpid) (AtFrame move.frame)))
     (end_out_ends (guest_after plan move.lpid past).part ask move) refl refl refl move.copied refl
+deed_goes plan past (ctx.Uv work) lpid vid last hand register = inr (record { ends = refl; none = refl })
 
 -- the context of a line's CPU after a history
 abbrev pub ctx_at : Plan → List Event → Line → Ctx

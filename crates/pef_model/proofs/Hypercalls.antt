@@ -1,31 +1,21 @@
 -- What leaves with a hypercall, entry by entry: the guest's registers, scrubbed by the call's row.
-use Rattle.std.proofs.Common.{◌≡◌, ◌≢◌, ℕ, ◌+◌, ◌-◌, ◌<◌, ◌≤◌, ◌==◌, nat_le, nat_lt, Bool, true, false, List, [], ◌∷◌, ◌++◌, length, take, drop, replicate, get_or, refl, ap, sym, ◌∙◌, if◌then◌else◌, Option, Some, None, unwrap_or, arith, length-take, length-drop, suc}
+use Rattle.std.proofs.Common.{◌≡◌, ◌≢◌, ℕ, ◌+◌, ◌-◌, ◌<◌, ◌≤◌, ◌==◌, nat_le, nat_lt, Bool, true, false, List, length, take, drop, get_or, refl, ap, sym, ◌∙◌, if◌then◌else◌, Option, Some, unwrap_or, arith, length-take, length-drop, suc}
 use Rattle.std.specs.Prelude.{slice_get, slice_index}
 use Rattle.std.proofs.lemmas.Bool.Decides.{nat_tests}
 use Rattle.std.proofs.lemmas.Grind.{common_steps}
 use Rattle.std.proofs.lemmas.List.{get_or-drop, get_or-take}
 use Rattle.std.proofs.lemmas.Option.{slice_get-get_or, slice_get_past}
-use Rattle.pef_model.specs.declared.state.Phase.TheVariants as phase
 use Rattle.pef_model.specs.declared.state.Regs.{Regs}
 use Rattle.pef_model.specs.declared.state.Run.{Run}
 use Rattle.pef_model.specs.declared.state.Ctx.{Ctx}
-use Rattle.pef_model.specs.declared.state.Ctx.TheVariants as ctx
 use Rattle.pef_model.specs.declared.hypercall.TheConstants.{HCALLS}
 use Rattle.pef_model.specs.declared.hypercall.Row.{Row}
-use Rattle.pef_model.specs.declared.command.Cmd.{Cmd}
-use Rattle.pef_model.specs.declared.command.Cmd.TheVariants.{GHcall}
-use Rattle.pef_model.specs.declared.entry.Exit.TheVariants.{Hcall}
-use Rattle.pef_model.specs.declared.entry.Answer.{Answer}
-use Rattle.pef_model.specs.declared.entry.Answer.TheVariants.{Exit}
-use Rattle.pef_model.specs.Plan.{Plan}
-use Rattle.pef_model.specs.Event.{Event}
 use Rattle.pef_model.specs.Registers.{call_registers}
 use Rattle.pef_model.specs.Hypercalls.{IsRow, row_of, value_scrubbed, scrubbed, let_out_by}
 use Rattle.pef_model.specs.Cpu.{CpuPart, cpu_by}
-use Rattle.pef_model.specs.Guest.{Guest}
-use Rattle.pef_model.specs.History.{cpu_after, guest_after, IsLegal}
+use Rattle.pef_model.specs.History.{cpu_after, guest_after}
 use Rattle.pef_model.specs.StepLaw.{let_out, let_out_running, let_out_calling}
-use Rattle.pef_model.specs.HypercallLaw.{LeavesScrubbed, EachHypercallIsScrubbed}
+use Rattle.pef_model.specs.HypercallLaw.{EachHypercallIsScrubbed}
 use Rattle.pef_model.proofs.Assigned.{full_registers}
 use Rattle.pef_model.proofs.ExitAnswers.{exits_exactly_where}
 use Rattle.pef_model.proofs.HypercallRows.{row_is_whole, row_of-found}

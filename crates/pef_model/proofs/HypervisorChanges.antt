@@ -10,8 +10,10 @@ use Rattle.pef_model.specs.declared.state.Kind.{Kind}
 use Rattle.pef_model.specs.declared.state.Kind.TheVariants as kind
 use Rattle.pef_model.specs.declared.state.Move.{Move}
 use Rattle.pef_model.specs.declared.state.Mover.{Mover}
-use Rattle.pef_model.specs.declared.state.Work.{Work}
-use Rattle.pef_model.specs.declared.state.Work.TheVariants.{Inward, Outward}
+use Rattle.pef_model.specs.declared.state.Run.{Run}
+use Rattle.pef_model.specs.declared.state.Way.{Way}
+use Rattle.pef_model.specs.declared.state.Way.TheVariants as way
+use Rattle.pef_model.specs.declared.state.Work.TheVariants.{Outward}
 use Rattle.pef_model.specs.declared.state.Ctx.TheVariants as ctx
 use Rattle.pef_model.specs.declared.command.TheConstants.{UV_SNAPSHOT}
 use Rattle.pef_model.specs.declared.command.Code.{Code}
@@ -21,17 +23,17 @@ use Rattle.pef_model.specs.declared.command.Cmd.TheVariants.{HLd, HSt, UPageout,
 use Rattle.pef_model.specs.declared.entry.Answer.TheVariants as answer
 use Rattle.pef_model.specs.Plan.{Plan}
 use Rattle.pef_model.specs.Event.{Event, Mark}
-use Rattle.pef_model.specs.Target.{Ask, Alone, AtGuest, AtFrame, frame_of, aim_of_work, target_of_aim, target_in, is_guest}
+use Rattle.pef_model.specs.Target.{Ask, Alone, AtGuest, AtFrame, frame_of, work_by, aim_of_work, target_of_aim, target_in, is_guest}
 use Rattle.pef_model.specs.Cpu.{CpuPart}
-use Rattle.pef_model.specs.GuestPart.{Page, GuestPart, page_of, with_running_vcpu, with_page_leaving, with_page_out, is_shared}
+use Rattle.pef_model.specs.GuestPart.{Page, GuestPart, page_of, next_part, with_running_vcpu, with_page_leaving, with_page_out, is_shared}
 use Rattle.pef_model.specs.Guest.{Guest}
 use Rattle.pef_model.specs.PageOut.{may_page_out_in, has_frame, has_page, can_go_out, is_starting, page_out_code, bytes_out}
 use Rattle.pef_model.specs.Entry.{may_enter_in}
-use Rattle.pef_model.specs.Deed.{Deed, answering, giving, coming_back, returning, may_return_in, is_waiting, deed_page_out_begin, deed_return}
+use Rattle.pef_model.specs.Deed.{Deed, answering, giving, coming_back, returning, may_return_in, is_waiting, taken_up_in, deed_page_out_begin, deed_return}
 use Rattle.pef_model.specs.History.{guest_after, deed_after, part_after}
 use Rattle.pef_model.proofs.Folds.{test_same}
 use Rattle.pef_model.proofs.Aims.{address_is_no_guest}
-use Rattle.pef_model.proofs.Works.{move_of}
+use Rattle.pef_model.proofs.Works.{PageMove, work_of, outward, vcpu_returned}
 use Rattle.pef_model.proofs.Changes.{Change, LeavesCpu, KeepsParts, Begins, Copies, Ends, Drops, Takes, asked, entry, refused, at_none, at_nothing, at_one, at_guest, at_guest_same}
 
 -- where a test holds that answers a code, no page begins to move
@@ -81,9 +83,11 @@ waits_not : (state : VState) (n : ℕ) → state ≡ vstate.Running n → is_wai
 waits_not state n runs waits = let none : false ≡ true = ap is_waiting (sym runs) ∙ waits in cc
 
 -- the next step of a call in progress aims as its move says
-pub work_aims : (plan : Plan) (work : Work) (b : Bool) → (move_of work).copied ≡ b → target_of_aim plan (aim_of_work work Go) ≡ (if b then AtGuest (move_of work).lpid else AtFrame (move_of work).frame)
-work_aims plan (Inward move) b t = ap (λ (c : Bool). if c then AtGuest move.lpid else AtFrame move.frame) t
-work_aims plan (Outward move) b t = ap (λ (c : Bool). if c then AtGuest move.lpid else AtFrame move.frame) t
+pub work_aims : (plan : Plan) (m : PageMove) (b : Bool) → m.move.copied ≡ b → target_of_aim plan (aim_of_work (work_of m) Go) ≡ (if b then AtGuest m.move.lpid else AtFrame m.move.frame)
+work_aims plan m b t = by_way m.way ∙ ap (λ (c : Bool). if c then AtGuest m.move.lpid else AtFrame m.move.frame) t where
+  by_way : (w : Way) → target_of_aim plan (aim_of_work (work_by w m.move) Go) ≡ (if m.move.copied then AtGuest m.move.lpid else AtFrame m.move.frame)
+  by_way way.Inward = refl
+  by_way way.Outward = refl
 
 module _ (plan : Plan) (past : List Event) (cpu : CpuPart) (mark : Mark) where
   -- the hypervisor's loads and stores
@@ -107,8 +111,11 @@ module _ (plan : Plan) (past : List Event) (cpu : CpuPart) (mark : Mark) where
     g : GuestPart
     g = part_after plan past cpu.lpid
 
+    up : Run
+    up = record { lpid = cpu.lpid; vid = cpu.vid; generation = g.generation }
+
     deed : Bool → Deed
-    deed b = if b then (record (answering ask answer.Enter) { after = ctx.Guest (record { lpid = cpu.lpid; vid = cpu.vid; generation = g.generation }) }) else answering ask (answer.Ret UInvalid)
+    deed b = if b then (record (answering ask answer.Enter) { after = taken_up_in (g.vcpus cpu.vid).state up }) else answering ask (answer.Ret UInvalid)
 
     by_test : (b : Bool) → may_return_in g.phase && is_waiting (g.vcpus cpu.vid).state ≡ b → Change plan past cpu (entry cpu ctx.Hv mark (UReturn r0 r2 outs) (deed b))
     by_test true t =
@@ -120,6 +127,8 @@ module _ (plan : Plan) (past : List Event) (cpu : CpuPart) (mark : Mark) where
           allowed = ap (λ (b : Bool). b || may_enter_in g.phase) parts.0;
           rests = λ n runs. waits_not (g.vcpus cpu.vid).state n runs parts.1;
           number = inl refl;
+          after = taken_up_in (g.vcpus cpu.vid).state up;
+          runs = vcpu_returned (g.vcpus cpu.vid).state up;
           cpu_is = record { ctx_is = refl; hand_is = refl; lpid_is = refl };
           parts = at_guest plan past (entry cpu ctx.Hv mark (UReturn r0 r2 outs) (deed true)) cpu.lpid (with_running_vcpu g cpu.vid mark.cpu) refl refl;
           pool = refl;
@@ -166,27 +175,32 @@ module _ (plan : Plan) (past : List Event) (cpu : CpuPart) (mark : Mark) where
   named h cmd lpid false target left there = refused plan past cpu mark ctx.Hv h cmd left target
 
   -- the copy of a call in progress changes no guest's public part
-  pub copy_keeps : (work : Work) → (move_of work).copied ≡ false →
-      KeepsParts plan past (entry cpu (ctx.Uv work) mark Go (deed_after plan past (asked cpu (ctx.Uv work) Go) Go (AtFrame (move_of work).frame)))
-  copy_keeps work t =
-      at_none plan past (entry cpu (ctx.Uv work) mark Go (deed_after plan past (asked cpu (ctx.Uv work) Go) Go (AtFrame (move_of work).frame)))
-      (λ lpid. ap (is_guest lpid) (work_aims plan work false t))
+  pub copy_keeps : (m : PageMove) → m.move.copied ≡ false →
+      KeepsParts plan past (entry cpu (ctx.Uv (work_of m)) mark Go (deed_after plan past (asked cpu (ctx.Uv (work_of m)) Go) Go (AtFrame m.move.frame)))
+  copy_keeps m t =
+      at_none plan past (entry cpu (ctx.Uv (work_of m)) mark Go (deed_after plan past (asked cpu (ctx.Uv (work_of m)) Go) Go (AtFrame m.move.frame)))
+      (λ lpid. ap (is_guest lpid) (work_aims plan m false t))
 
   -- a call that comes back leaves its CPU to the hypervisor
-  comes_back : (work : Work) → LeavesCpu cpu (entry cpu (ctx.Uv work) mark Go (coming_back (asked cpu (ctx.Uv work) Go) UParameter)) ctx.Hv cpu.hand cpu.lpid
-  comes_back (Inward move) = record { ctx_is = refl; hand_is = refl; lpid_is = refl }
-  comes_back (Outward move) = record { ctx_is = refl; hand_is = refl; lpid_is = refl }
+  comes_back : (w : Way) (move : Move) → LeavesCpu cpu (entry cpu (ctx.Uv (work_by w move)) mark Go (coming_back (asked cpu (ctx.Uv (work_by w move)) Go) UParameter)) ctx.Hv cpu.hand cpu.lpid
+  comes_back way.Inward move = record { ctx_is = refl; hand_is = refl; lpid_is = refl }
+  comes_back way.Outward move = record { ctx_is = refl; hand_is = refl; lpid_is = refl }
+
+  -- and its guest as it is
+  leaves_guest : (w : Way) (move : Move) (g : GuestPart) → next_part plan g (entry cpu (ctx.Uv (work_by w move)) mark Go (coming_back (asked cpu (ctx.Uv (work_by w move)) Go) UParameter)) ≡ g
+  leaves_guest way.Inward move g = refl
+  leaves_guest way.Outward move g = refl
 
   -- a call whose guest has ended comes back once its page is copied
-  pub gone : (work : Work) → cpu.ctx ≡ ctx.Uv work → (move_of work).copied ≡ true → ((move_of work).generation == (part_after plan past (move_of work).lpid).generation) ≡ false →
-      Change plan past cpu (entry cpu (ctx.Uv work) mark Go (coming_back (asked cpu (ctx.Uv work) Go) UParameter))
-  gone work h t other = Drops (record {
-    work = work;
+  pub gone : (m : PageMove) → cpu.ctx ≡ ctx.Uv (work_of m) → m.move.copied ≡ true → (m.move.generation == (part_after plan past m.move.lpid).generation) ≡ false →
+      Change plan past cpu (entry cpu (ctx.Uv (work_of m)) mark Go (coming_back (asked cpu (ctx.Uv (work_of m)) Go) UParameter))
+  gone m h t other = Drops (record {
+    work = m;
     before = h;
     generation = grind (arith, nat_tests);
-    cpu_is = comes_back work;
-    parts = at_guest_same plan past (entry cpu (ctx.Uv work) mark Go (coming_back (asked cpu (ctx.Uv work) Go) UParameter)) (move_of work).lpid (work_aims plan work true t)
-        refl;
+    cpu_is = comes_back m.way m.move;
+    parts = at_guest_same plan past (entry cpu (ctx.Uv (work_of m)) mark Go (coming_back (asked cpu (ctx.Uv (work_of m)) Go) UParameter)) m.move.lpid (work_aims plan m true t)
+        (leaves_guest m.way m.move (part_after plan past m.move.lpid));
     pool = refl;
   })
 
@@ -197,7 +211,7 @@ module _ (plan : Plan) (past : List Event) (cpu : CpuPart) (mark : Mark) where
     move = move;
     before = h;
     cpu_is = record { ctx_is = refl; hand_is = refl; lpid_is = refl };
-    parts = copy_keeps (Outward move) t;
+    parts = copy_keeps (outward move) t;
     pool = refl;
   })
   go move h true t = by_life (move.generation == g.generation) refl where
@@ -216,7 +230,7 @@ module _ (plan : Plan) (past : List Event) (cpu : CpuPart) (mark : Mark) where
       before = h;
       generation = test_same move.generation g.generation same;
       cpu_is = record { ctx_is = refl; hand_is = refl; lpid_is = refl };
-      parts = at_guest plan past (entry cpu (ctx.Uv (Outward move)) mark Go (deed true)) move.lpid (with_page_out g move.gfn) (work_aims plan (Outward move) true t) refl;
+      parts = at_guest plan past (entry cpu (ctx.Uv (Outward move)) mark Go (deed true)) move.lpid (with_page_out g move.gfn) (work_aims plan (outward move) true t) refl;
       pool = omega arith;
     })
-    by_life false other = gone (Outward move) h t other
+    by_life false other = gone (outward move) h t other

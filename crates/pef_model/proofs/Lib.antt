@@ -2,6 +2,7 @@ pub mod Folds
 pub mod Lists
 pub mod NextSteps
 pub mod GoAll
+pub mod GoesOn
 pub mod OneNext
 pub mod Runs
 pub mod OwnWrites

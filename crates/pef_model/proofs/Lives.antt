@@ -3,7 +3,7 @@ use Rattle.std.proofs.Common.{◌≡◌, ℕ, ◌+◌, ◌/◌, ◌^◌, ◌==�
 use Rattle.std.proofs.Math.Nat.{zero-div}
 use Rattle.std.proofs.lemmas.Bool.Decides.{nat_tests}
 use Rattle.pef_model.specs.declared.state.Phase.TheVariants.{Absent, Normal}
-use Rattle.pef_model.specs.declared.state.Work.TheVariants.{Inward, Outward}
+use Rattle.pef_model.specs.declared.state.Work.TheVariants.{Inward}
 use Rattle.pef_model.specs.declared.state.Ctx.{Ctx}
 use Rattle.pef_model.specs.declared.state.Ctx.TheVariants as ctx
 use Rattle.pef_model.specs.declared.command.Code.TheVariants.{USuccess, UP2, UP3, UPermission}
@@ -58,7 +58,7 @@ aimed_life plan g pool v cpu bytes lpid l ctx.Hv cmd Step t = refl
 aimed_life plan g pool v cpu bytes lpid l ctx.Hv cmd a t = refl
 aimed_life plan g pool v cpu bytes lpid l (ctx.Uv (Inward move)) cmd (Ret USuccess) t = refl
 aimed_life plan g pool v cpu bytes lpid l (ctx.Uv (Inward move)) cmd (Ret UP2) t = refl
-aimed_life plan g pool v cpu bytes lpid l (ctx.Uv (Outward move)) cmd (Ret USuccess) t = refl
+aimed_life plan g pool v cpu bytes lpid l (ctx.Uv work) cmd (Ret USuccess) t = refl
 aimed_life plan g pool v cpu bytes lpid l (ctx.Uv work) cmd a t = refl
 aimed_life plan g pool v cpu bytes lpid l (ctx.Guest run) (GLd rd gpa) (Val value) t = access_life g _ pool
 aimed_life plan g pool v cpu bytes lpid l (ctx.Guest run) cmd (Val value) t = refl

@@ -1,5 +1,5 @@
 -- What an entry makes of a vCPU's registers.
-use Rattle.std.proofs.Common.{◌≡◌, ℕ, List, ◌∷◌, Bool, true, false, refl, ap, sym, subst, ◌∙◌, ◌==◌, ◌&&◌, nat_le, if◌then◌else◌, Some, Option, unwrap_or, arith}
+use Rattle.std.proofs.Common.{◌≡◌, ℕ, List, ◌∷◌, Bool, true, false, refl, ap, sym, subst, ◌∙◌, ◌==◌, ◌&&◌, nat_le, if◌then◌else◌, Some, arith}
 use Rattle.std.proofs.lemmas.Grind.{common_steps}
 use Rattle.pef_model.specs.declared.state.Phase.TheVariants.{Normal}
 use Rattle.pef_model.specs.declared.state.Run.{Run}
@@ -9,25 +9,27 @@ use Rattle.pef_model.specs.declared.state.Ctx.TheVariants as ctx
 use Rattle.pef_model.specs.declared.command.Code.{Code}
 use Rattle.pef_model.specs.declared.command.Code.TheVariants.{USuccess}
 use Rattle.pef_model.specs.declared.command.Cmd.{Cmd}
-use Rattle.pef_model.specs.declared.command.Cmd.TheVariants.{HLd, HSt, HSelect, HEnter, UPate, UReturn, Go}
+use Rattle.pef_model.specs.declared.command.Cmd.TheVariants.{HLd, HSt, HSelect, HEnter, UPate, UReturn, GHcall, Dump, Go}
 use Rattle.pef_model.specs.declared.entry.Answer.{Answer}
-use Rattle.pef_model.specs.declared.entry.Answer.TheVariants.{Ret, Enter}
+use Rattle.pef_model.specs.declared.entry.Answer.TheVariants.{Ret, Enter, Context}
 use Rattle.pef_model.specs.declared.state.Work.TheVariants.{Inward, Outward}
 use Rattle.pef_model.specs.Plan.{Plan}
 use Rattle.pef_model.specs.Event.{Event}
 use Rattle.pef_model.specs.Target.{target_in, is_guest, touches_guest, vcpu_in, AtGuest, Alone}
-use Rattle.pef_model.specs.GuestPart.{ends_guest, part_of_write, part_of_hypervisor, part_in, ended_normal}
+use Rattle.pef_model.specs.GuestPart.{call_left, call_of_state, ends_guest, part_of_write, part_of_hypervisor, part_in, ended_normal}
 use Rattle.pef_model.specs.Registers.{fresh_registers}
-use Rattle.pef_model.specs.Guest.{Guest, start_guest, next_guest, registers_after_command, registers_in, entered_at, returned_to, answered_with}
+use Rattle.pef_model.specs.Guest.{Guest, start_guest, next_guest, registers_after_command, registers_in, entered_at, address_for, returned_to, returned_by, answered_with}
 use Rattle.pef_model.specs.History.{guest_after}
-use Rattle.pef_model.specs.StepLaw.{Steps, IsInterrupted, IsStepOf, TakesUp, goes_on_at, takes_nothing, registers_of, EachEntryLeavesRegisters}
+use Rattle.pef_model.specs.StepLaw.{Steps, IsInterrupted, IsStepOf, TakesUp, goes_on_at, r2_for, takes_nothing, registers_of, EachEntryLeavesRegisters}
 use Rattle.pef_model.proofs.Folds.{either_same, same_test, test_same, counts}
 use Rattle.pef_model.proofs.Assigned.{ends_by, waits_for_answer, answers_by, same_answered, gpr_in_hypervisor}
 use Rattle.pef_model.proofs.Returned.{waits_for_call}
 use Rattle.pef_model.proofs.Aims.{own_guest}
+use Rattle.pef_model.proofs.Works.{one_vcpu}
 use Rattle.pef_model.proofs.Outcomes.{Outcome, outcome}
 use Rattle.pef_model.proofs.Taken.{IsThereIn, there_is}
 use Rattle.std.specs.Prelude.{slice_set}
+use Rattle.pef_model.specs.declared.state.Pending.{Pending}
 use Rattle.pef_model.specs.declared.state.Pending.TheVariants as pending
 use Rattle.pef_model.specs.declared.state.VState.TheVariants as vstate
 use Rattle.pef_model.specs.declared.state.VState.{VState}
@@ -70,38 +72,51 @@ own_registers plan run l v Go a g lpid vid here this = refl
 own_registers plan run l v cmd a g lpid vid here this = aimed_registers run v cmd a g lpid vid here this
 
 pub taken_registers : (plan : Plan) (r0 r2 : ℕ) (outs : List ℕ) (g : Guest) (lpid vid : ℕ) →
-    registers_by plan ctx.Hv lpid vid (UReturn r0 r2 outs) Enter g lpid vid ≡ entered_at (returned_to (g.part.vcpus vid).state (g.registers vid) r0 outs) r2
+    registers_by plan ctx.Hv lpid vid (UReturn r0 r2 outs) Enter g lpid vid ≡ returned_by (g.part.vcpus vid).state (g.registers vid) r0 r2 outs
 taken_registers plan r0 r2 outs g lpid vid = rw (same_test lpid, same_test vid) refl
 
 -- one that ends a guest of the machine leaves each vCPU of it zero registers
 ended_registers : (plan : Plan) (l v : ℕ) (dw0 : ℕ) (g : Guest) (lpid vid : ℕ) → (nat_le 1 lpid && nat_le lpid plan.guests) ≡ true → registers_by plan ctx.Hv l v (UPate lpid dw0 0) (Ret USuccess) g lpid vid ≡ fresh_registers
 ended_registers plan l v dw0 g lpid vid there = rw (there, same_test lpid) refl
 
+-- R2 counts so as the state says
+pub counts_so : (state : VState) (r2 : ℕ) → address_for (call_of_state state) r2 ≡ r2_for state r2
+counts_so (vstate.Parked waits) r2 = by_pending waits where
+  by_pending : (waits : Pending) → address_for (call_left waits) r2 ≡ r2_for (vstate.Parked waits) r2
+  by_pending (pending.Share gfn) = refl
+  by_pending (pending.Unshare gfn) = refl
+  by_pending (pending.UnshareAll gfn) = refl
+  by_pending pending.EsmStart = refl
+  by_pending (pending.EsmNeed gfn) = refl
+  by_pending pending.EsmDone = refl
+  by_pending waits = refl
+counts_so state r2 = refl
+
 -- where UV_RETURN lets a vCPU go on, or interrupts it
-pub is_interrupted : (state : VState) (regs : Regs) (r0 r2 : ℕ) (outs : List ℕ) → IsInterrupted r2 (goes_on_at state regs.nip) regs (entered_at (returned_to state regs r0 outs) r2)
-is_interrupted state regs r0 r2 outs = record { nip = nip (r2 == 0); srr0 = srr0 (r2 == 0) } where
+pub is_interrupted : (state : VState) (regs : Regs) (r0 r2 : ℕ) (outs : List ℕ) → IsInterrupted (r2_for state r2) (goes_on_at state regs.nip) regs (returned_by state regs r0 r2 outs)
+is_interrupted state regs r0 r2 outs = subst (λ (r : ℕ). IsInterrupted r (goes_on_at state regs.nip) regs (returned_by state regs r0 r2 outs)) (counts_so state r2) (by_address (address_for (call_of_state state) r2)) where
   brought : Regs
   brought = returned_to state regs r0 outs
 
   brought_nip : (state : VState) → (returned_to state regs r0 outs).nip ≡ goes_on_at state regs.nip
   brought_nip (vstate.Parked (pending.Hcall n)) = refl
-  brought_nip (vstate.Parked pending.Exit) = refl
-  brought_nip (vstate.Parked pending.Irq) = refl
+  brought_nip (vstate.Parked waits) = refl
   brought_nip state = refl
 
   brought_srr0 : (state : VState) → (returned_to state regs r0 outs).srr0 ≡ regs.srr0
   brought_srr0 (vstate.Parked (pending.Hcall n)) = refl
-  brought_srr0 (vstate.Parked pending.Exit) = refl
-  brought_srr0 (vstate.Parked pending.Irq) = refl
+  brought_srr0 (vstate.Parked waits) = refl
   brought_srr0 state = refl
 
-  nip : (b : Bool) → (if b then brought else record brought { nip = r2; srr0 = brought.nip }).nip ≡ (if b then goes_on_at state regs.nip else r2)
-  nip true = brought_nip state
-  nip false = refl
+  by_address : (r : ℕ) → IsInterrupted r (goes_on_at state regs.nip) regs (entered_at brought r)
+  by_address r = record { nip = nip (r == 0); srr0 = srr0 (r == 0) } where
+    nip : (b : Bool) → (if b then brought else record brought { nip = r; srr0 = brought.nip }).nip ≡ (if b then goes_on_at state regs.nip else r)
+    nip true = brought_nip state
+    nip false = refl
 
-  srr0 : (b : Bool) → (if b then brought else record brought { nip = r2; srr0 = brought.nip }).srr0 ≡ (if b then regs.srr0 else goes_on_at state regs.nip)
-  srr0 true = brought_srr0 state
-  srr0 false = brought_nip state
+    srr0 : (b : Bool) → (if b then brought else record brought { nip = r; srr0 = brought.nip }).srr0 ≡ (if b then regs.srr0 else goes_on_at state regs.nip)
+    srr0 true = brought_srr0 state
+    srr0 false = brought_nip state
 
 -- h.enter of a vCPU that waits for the answer of a hypercall
 answered_registers : (plan : Plan) (l v : ℕ) (value : ℕ) (g : Guest) (lpid vid : ℕ) → (nat_le 1 lpid && nat_le lpid plan.guests) ≡ true → (g.part.vcpus vid).state ≡ vstate.Parked pending.Exit →
@@ -133,8 +148,7 @@ IsUnanswered g lpid vid c cmd a = (value : ℕ) → c ≡ ctx.Hv → cmd ≡ HEn
 
 waits_is : (state : VState) → waits_for_answer state ≡ true → state ≡ vstate.Parked pending.Exit
 waits_is (vstate.Parked pending.Exit) h = refl
-waits_is (vstate.Parked (pending.Hcall n)) h = cc
-waits_is (vstate.Parked pending.Irq) h = cc
+waits_is (vstate.Parked waits) h = cc
 waits_is state h = cc
 
 -- nor UV_RETURN that does
@@ -143,8 +157,7 @@ IsUnreturned g lpid vid c l v cmd a = (r0 r2 : ℕ) (outs : List ℕ) → c ≡ 
 
 takes_none : (state : VState) → takes_nothing state ≡ true → waits_for_call state ≡ false
 takes_none (vstate.Parked (pending.Hcall n)) h = cc
-takes_none (vstate.Parked pending.Exit) h = refl
-takes_none (vstate.Parked pending.Irq) h = refl
+takes_none (vstate.Parked waits) h = refl
 takes_none state h = refl
 
 -- so it answers none where it aims at the guest
@@ -169,12 +182,12 @@ unanswered plan l v cmd a g lpid vid none returned aims = refl
 
 -- an entry that neither runs a vCPU nor takes it up, and gives it no answer, and doesn't end the guest, leaves its registers
 pub others_stay : (plan : Plan) (c : Ctx) (l v : ℕ) (cmd : Cmd) (a : Answer) (g : Guest) (lpid vid : ℕ) → GoesOn plan c l cmd a lpid →
-    ((run : Run) → c ≡ ctx.Guest run → run.lpid ≡ lpid → run.vid ≡ vid → ⊥) →
+    ((run : Run) → vcpu_in c ≡ Some run → run.lpid ≡ lpid → run.vid ≡ vid → ⊥) →
     ((r0 r2 : ℕ) (outs : List ℕ) → c ≡ ctx.Hv → cmd ≡ UReturn r0 r2 outs → a ≡ Enter → l ≡ lpid → v ≡ vid → ⊥) →
     IsUnanswered g lpid vid c cmd a →
     registers_by plan c l v cmd a g lpid vid ≡ g.registers vid
 others_stay plan ctx.Hv l v (UReturn r0 r2 outs) Enter g lpid vid goes_on own taken none =
-    put_elsewhere (l == lpid) g.registers (entered_at (returned_to (g.part.vcpus v).state (g.registers v) r0 outs) r2) lpid vid v
+    put_elsewhere (l == lpid) g.registers (returned_by (g.part.vcpus v).state (g.registers v) r0 r2 outs) lpid vid v
     (λ t u. absurd (taken r0 r2 outs refl refl refl (test_same l lpid u) (sym (test_same vid v t))))
 others_stay plan ctx.Hv l v (HEnter named entered value) Enter g lpid vid goes_on own taken none = by_aim (is_guest lpid (target_in plan ctx.Hv l (HEnter named entered value))) refl where
   by_vcpu : (b : Bool) → (vid == entered) ≡ b → (b && waits_for_answer (g.part.vcpus vid).state) ≡ false → (if b then answered_with (g.part.vcpus entered).state (g.registers entered) value else g.registers vid) ≡ g.registers vid
@@ -189,13 +202,13 @@ others_stay plan ctx.Hv l v (UPate named dw0 dw1) (Ret code) g lpid vid goes_on 
     unended (is_guest lpid (target_in plan ctx.Hv l (UPate named dw0 dw1))) (ends_guest code dw1) g.registers vid goes_on
 others_stay plan ctx.Hv l v cmd a g lpid vid goes_on own taken none = either_same (is_guest lpid (target_in plan ctx.Hv l cmd)) (g.registers vid)
 others_stay plan (ctx.Uv (Inward move)) l v cmd a g lpid vid goes_on own taken none = either_same (is_guest lpid (target_in plan (ctx.Uv (Inward move)) l cmd)) (g.registers vid)
-others_stay plan (ctx.Uv (Outward move)) l v cmd a g lpid vid goes_on own taken none = either_same (is_guest lpid (target_in plan (ctx.Uv (Outward move)) l cmd)) (g.registers vid)
+others_stay plan (ctx.Uv work) l v cmd a g lpid vid goes_on own taken none = either_same (is_guest lpid (target_in plan (ctx.Uv work) l cmd)) (g.registers vid)
 others_stay plan (ctx.Guest run) l v cmd a g lpid vid goes_on own taken none =
     put_elsewhere (is_guest lpid (target_in plan (ctx.Guest run) l cmd)) g.registers (registers_after_command g (g.registers run.vid) cmd a) lpid vid run.vid
     (λ t u. absurd (own run refl (own_guest plan run l lpid cmd u) (sym (test_same vid run.vid t))))
 
 gpr_stays : (plan : Plan) (c : Ctx) (l v : ℕ) (cmd : Cmd) (a : Answer) (g : Guest) (lpid vid : ℕ) → GoesOn plan c l cmd a lpid →
-    ((run : Run) → c ≡ ctx.Guest run → run.lpid ≡ lpid → run.vid ≡ vid → ⊥) → IsUnanswered g lpid vid c cmd a → IsUnreturned g lpid vid c l v cmd a → (registers_by plan c l v cmd a g lpid vid).gpr ≡ (g.registers vid).gpr
+    ((run : Run) → vcpu_in c ≡ Some run → run.lpid ≡ lpid → run.vid ≡ vid → ⊥) → IsUnanswered g lpid vid c cmd a → IsUnreturned g lpid vid c l v cmd a → (registers_by plan c l v cmd a g lpid vid).gpr ≡ (g.registers vid).gpr
 gpr_stays plan ctx.Hv l v cmd a g lpid vid goes_on own none returned = by_test (is_guest lpid (target_in plan ctx.Hv l cmd)) refl where
   by_test : (b : Bool) → is_guest lpid (target_in plan ctx.Hv l cmd) ≡ b → (if b then registers_in ctx.Hv g v cmd a vid else g.registers vid).gpr ≡ (g.registers vid).gpr
   by_test true t = gpr_in_hypervisor g v a cmd vid (goes_on t) (unanswered plan l v cmd a g lpid vid none returned t)
@@ -205,12 +218,22 @@ gpr_stays plan (ctx.Uv work) l v cmd a g lpid vid goes_on own none returned =
 gpr_stays plan (ctx.Guest run) l v cmd a g lpid vid goes_on own none returned =
     ap (λ (x : Regs). x.gpr) (others_stay plan (ctx.Guest run) l v cmd a g lpid vid tt own (λ r0 r2 outs h cmd_is answer_is here this. let no : ⊥ = cc in no) none)
 
--- the hypervisor's calls alone are in progress
-pub runs_alone : (c : Ctx) (run : Run) → vcpu_in c ≡ Some run → c ≡ ctx.Guest run
-runs_alone ctx.Hv run h = cc
-runs_alone (ctx.Uv (Inward move)) run h = cc
-runs_alone (ctx.Uv (Outward move)) run h = cc
-runs_alone (ctx.Guest other) run h = ap ctx.Guest (ap (λ (o : Option Run). unwrap_or o other) h)
+-- a step of a vCPU, or of its call in progress, moves it on as its answer says: of a guest's call no step is here yet
+own_steps : (plan : Plan) (c : Ctx) (l v : ℕ) (cmd : Cmd) (a : Answer) (after : Ctx) (shown : List ℕ) (g : Guest) (run : Run) (lpid vid : ℕ) → vcpu_in c ≡ Some run → run.lpid ≡ lpid → run.vid ≡ vid →
+    Outcome c cmd a after shown → Steps cmd a (g.registers vid) (registers_by plan c l v cmd a g lpid vid)
+own_steps plan ctx.Hv l v cmd a after shown g run lpid vid runs here this h = cc
+own_steps plan (ctx.Uv (Inward move)) l v cmd a after shown g run lpid vid runs here this h = cc
+own_steps plan (ctx.Uv (Outward move)) l v cmd a after shown g run lpid vid runs here this h = cc
+own_steps plan (ctx.Uv work) l v cmd Context after shown g run lpid vid runs here this h = stays cmd where
+  stays : (cmd : Cmd) → Steps cmd Context (g.registers vid) (g.registers vid)
+  stays (Dump reg) = record { nip = refl; srr0 = refl }
+  stays GHcall = record { nip = refl; srr0 = refl }
+  stays cmd = record { nip = refl; srr0 = refl }
+own_steps plan (ctx.Uv work) l v cmd a after shown g run lpid vid runs here this h = absurd h
+own_steps plan (ctx.Guest other) l v cmd a after shown g run lpid vid runs here this h =
+    let same : other ≡ run = one_vcpu (ctx.Guest other) other run refl runs in
+    subst (Steps cmd a (g.registers vid)) (sym (own_registers plan other l v cmd a g lpid vid (ap (λ (r : Run). r.lpid) same ∙ here) (ap (λ (r : Run). r.vid) same ∙ this)))
+    (steps g (g.registers vid) other cmd a after shown h)
 
 -- a guest that keeps its generation doesn't end
 pub goes_on_is : (plan : Plan) (past : List Event) (e : Event) (lpid : ℕ) → (guest_after plan lpid (e ∷ past)).part.generation ≡ (guest_after plan lpid past).part.generation → GoesOn plan e.saw.before e.saw.lpid e.trace.cmd e.trace.answer lpid
@@ -245,13 +268,10 @@ each_entry_leaves_registers plan past e lpid vid extends =
     let is = registers_by_is plan past e lpid vid in
     record {
       own = λ (run : Run) (step : IsStepOf lpid vid run e).
-          subst (λ (x : Regs). Steps e.trace.cmd e.trace.answer (registers vid) x)
-          (sym (is ∙ ap (λ (c : Ctx). registers_by plan c e.saw.lpid e.saw.vid e.trace.cmd e.trace.answer g lpid vid) (runs_alone e.saw.before run step.before)
-          ∙ own_registers plan run e.saw.lpid e.saw.vid e.trace.cmd e.trace.answer g lpid vid step.guest_is step.vcpu_is))
-          (steps g (registers vid) run e.trace.cmd e.trace.answer e.saw.after e.saw.shown
-          (subst (λ (c : Ctx). Outcome c e.trace.cmd e.trace.answer e.saw.after e.saw.shown) (runs_alone e.saw.before run step.before) (outcome plan past e extends)));
+          subst (Steps e.trace.cmd e.trace.answer (registers vid)) (sym is)
+          (own_steps plan e.saw.before e.saw.lpid e.saw.vid e.trace.cmd e.trace.answer e.saw.after e.saw.shown g run lpid vid step.before step.guest_is step.vcpu_is (outcome plan past e extends));
       taken = λ (r0 r2 : ℕ) (outs : List ℕ) (takes : TakesUp lpid vid r0 r2 outs e).
-          subst (λ (x : Regs). IsInterrupted r2 (goes_on_at (g.part.vcpus vid).state (registers vid).nip) (registers vid) x)
+          subst (λ (x : Regs). IsInterrupted (r2_for (g.part.vcpus vid).state r2) (goes_on_at (g.part.vcpus vid).state (registers vid).nip) (registers vid) x)
           (sym (is ∙ ap (λ (c : Ctx). registers_by plan c e.saw.lpid e.saw.vid e.trace.cmd e.trace.answer g lpid vid) takes.before
           ∙ ap (λ (cmd : Cmd). registers_by plan ctx.Hv e.saw.lpid e.saw.vid cmd e.trace.answer g lpid vid) takes.cmd_is
           ∙ ap (λ (a : Answer). registers_by plan ctx.Hv e.saw.lpid e.saw.vid (UReturn r0 r2 outs) a g lpid vid) takes.answer_is
@@ -277,12 +297,12 @@ each_entry_leaves_registers plan past e lpid vid extends =
           ∙ answered_registers plan e.saw.lpid e.saw.vid value g lpid vid there answers.1;
       others = λ keeps own taken none.
           is ∙ others_stay plan e.saw.before e.saw.lpid e.saw.vid e.trace.cmd e.trace.answer g lpid vid (goes_on_is plan past e lpid keeps.generation)
-          (λ run before here this. own run (record { before = ap vcpu_in before; guest_is = here; vcpu_is = this }))
+          (λ run before here this. own run (record { before = before; guest_is = here; vcpu_is = this }))
           (λ r0 r2 outs before cmd_is answer_is here this. taken r0 r2 outs (record { before = before; cmd_is = cmd_is; answer_is = answer_is; guest_is = here; vcpu_is = this }))
           (λ value before cmd_is answer_is waits. none value (record { before = before; cmd_is = cmd_is; answer_is = answer_is }, waits));
       gpr = λ keeps own none taken.
           ap (λ (x : Regs). x.gpr) is ∙ gpr_stays plan e.saw.before e.saw.lpid e.saw.vid e.trace.cmd e.trace.answer g lpid vid (goes_on_is plan past e lpid keeps.generation)
-          (λ run before here this. own run (record { before = ap vcpu_in before; guest_is = here; vcpu_is = this }))
+          (λ run before here this. own run (record { before = before; guest_is = here; vcpu_is = this }))
           (λ value before cmd_is answer_is waits. none value (record { before = before; cmd_is = cmd_is; answer_is = answer_is }, waits))
           (λ r0 r2 outs before cmd_is answer_is here this. taken r0 r2 outs (record { before = before; cmd_is = cmd_is; answer_is = answer_is; guest_is = here; vcpu_is = this }));
     }

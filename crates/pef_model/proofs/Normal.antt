@@ -5,7 +5,7 @@ use Rattle.std.specs.List.{AllByRecursion}
 use Rattle.std.proofs.lemmas.Bool.Decides.{nat_tests}
 use Rattle.std.proofs.lemmas.List.{length-replicate}
 use Rattle.pef_model.specs.declared.config.Config.{Config}
-use Rattle.pef_model.specs.declared.state.Work.TheVariants.{Inward, Outward}
+use Rattle.pef_model.specs.declared.state.Work.TheVariants.{Inward}
 use Rattle.pef_model.specs.declared.state.Ctx.{Ctx}
 use Rattle.pef_model.specs.declared.state.Ctx.TheVariants as ctx
 use Rattle.pef_model.specs.declared.command.Cmd.{Cmd}
@@ -44,7 +44,7 @@ step_leaves_frames plan past e n other = skips (touches_frame n) (next_frame pla
 store_aims_at_none : (plan : Plan) (c : Ctx) (l ra value lpid : ℕ) → is_guest lpid (target_in plan c l (HSt ra value)) ≡ false
 store_aims_at_none plan ctx.Hv l ra value lpid = address_is_no_guest plan ra lpid
 store_aims_at_none plan (ctx.Uv (Inward move)) l ra value lpid = refl
-store_aims_at_none plan (ctx.Uv (Outward move)) l ra value lpid = refl
+store_aims_at_none plan (ctx.Uv work) l ra value lpid = refl
 store_aims_at_none plan (ctx.Guest run) l ra value lpid = refl
 
 -- so no store changes a guest

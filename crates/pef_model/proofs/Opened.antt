@@ -1,6 +1,6 @@
 -- What the hypervisor sees of a command is the same without the value that a guest alone knows.
 use Rattle.std.proofs.Common.{◌≡◌, ℕ, List, refl, ap, sym, ◌∙◌}
-use Rattle.pef_model.specs.declared.state.Work.TheVariants.{Inward, Outward}
+use Rattle.pef_model.specs.declared.state.Work.TheVariants.{Inward}
 use Rattle.pef_model.specs.declared.state.Ctx.{Ctx}
 use Rattle.pef_model.specs.declared.state.Ctx.TheVariants as ctx
 use Rattle.pef_model.specs.declared.command.Cmd.{Cmd}
@@ -19,8 +19,8 @@ target_open plan ctx.Hv lpid (GLi rd value) = refl
 target_open plan ctx.Hv lpid cmd = refl
 target_open plan (ctx.Uv (Inward move)) lpid (GLi rd value) = refl
 target_open plan (ctx.Uv (Inward move)) lpid cmd = refl
-target_open plan (ctx.Uv (Outward move)) lpid (GLi rd value) = refl
-target_open plan (ctx.Uv (Outward move)) lpid cmd = refl
+target_open plan (ctx.Uv work) lpid (GLi rd value) = refl
+target_open plan (ctx.Uv work) lpid cmd = refl
 target_open plan (ctx.Guest run) lpid (GLi rd value) = refl
 target_open plan (ctx.Guest run) lpid cmd = refl
 

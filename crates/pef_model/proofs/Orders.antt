@@ -5,7 +5,6 @@ use Rattle.std.proofs.lemmas.Bool.{cases_eq}
 use Rattle.std.proofs.lemmas.Bool.{ne_eqb}
 use Rattle.pef_model.specs.declared.state.Kind.{Kind}
 use Rattle.pef_model.specs.declared.state.Kind.TheVariants as kind
-use Rattle.pef_model.specs.declared.state.Work.TheVariants.{Inward}
 use Rattle.pef_model.specs.Plan.{Plan}
 use Rattle.pef_model.specs.Event.{Event}
 use Rattle.pef_model.specs.GuestPart.{Page, GuestPart, put, secured, begun_out, begun_in, refused_in, ended_out, is_invalid, is_secure, with_secure_page, with_page_out}
@@ -16,6 +15,7 @@ use Rattle.pef_model.proofs.Puts.{put-here, put-other}
 use Rattle.pef_model.proofs.Changes.{Change, Quiet, Begins, Copies, Ends, Drops, Comes, Reads, Accepts, Refuses, Takes, Parked, Gone, Backs, Writes, Slots, Selected, KeepsParts, PutsPart, entry_gives}
 use Rattle.pef_model.proofs.ChangeOf.{change}
 use Rattle.pef_model.proofs.Fields.{holds_same, holds_one}
+use Rattle.pef_model.proofs.Works.{inward}
 use Rattle.pef_model.proofs.Paging.{pages, AllMoved, all_moved}
 
 -- an Invalid page isn't Secure
@@ -92,7 +92,7 @@ counts_by plan past e all h (Comes x) =
     counts_one plan past e _ _ x.parts (counts_put g x.move.gfn (begun_in (g.pages x.move.gfn) e.trace.cpu) g.order (h x.move.lpid) (λ gfn other. refl) (h x.move.lpid x.move.gfn)) h
 counts_by plan past e all h (Reads x) = counts_same plan past e x.parts h
 counts_by plan past e all h (Accepts x) =
-    let moving = all.moves e.trace.cpu (Inward x.move) x.before x.generation in
+    let moving = all.moves e.trace.cpu (inward x.move) x.before x.generation in
     counts_one plan past e _ _ x.parts (counts_behind (part_after plan past x.move.lpid) x.move.gfn (out_not_secure (pages plan past x.move.lpid x.move.gfn) moving.kind_is) (h x.move.lpid)) h
 counts_by plan past e all h (Refuses x) =
     let g : GuestPart = part_after plan past x.move.lpid in

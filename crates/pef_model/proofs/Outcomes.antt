@@ -25,9 +25,8 @@ use Rattle.pef_model.specs.Guest.{Guest}
 use Rattle.pef_model.specs.PageOut.{page_out_code}
 use Rattle.pef_model.specs.PageIn.{page_in_operands, is_last_sealed}
 use Rattle.pef_model.specs.Entry.{enter_code}
-use Rattle.pef_model.specs.Deed.{Deed, answering, deed_alone, giving, coming_back, returning, may_return_in, is_waiting, deed_page_out_begin, deed_page_in_with, deed_page_in_test, deed_return, deed_access, deed_through, deed_interrupt, deed_running, deed_gone, deed_hypercall, deed_by_row, deed_by_kind}
+use Rattle.pef_model.specs.Deed.{Deed, answering, deed_alone, giving, coming_back, returning, may_return_in, is_waiting, deed_page_out_begin, deed_page_in_with, deed_page_in_test, deed_return, deed_access, deed_through, deed_interrupt, deed_running, deed_gone, deed_hypercall, deed_by_row, deed_by_kind, taken_up_in}
 use Rattle.pef_model.specs.History.{cpu_after, guest_after, pool_after, deed_after, ask_of, next_entry, Extends, found_after}
-use Rattle.pef_model.proofs.Works.{with_copy}
 use Rattle.pef_model.specs.declared.hypercall.Row.{Row}
 use Rattle.pef_model.specs.declared.hypercall.RowKind.{RowKind}
 use Rattle.pef_model.specs.declared.hypercall.RowKind.TheVariants.{Reflected}
@@ -77,9 +76,12 @@ Outcome ctx.Hv (Dump reg) (Val value) after shown = (after ≡ ctx.Hv) × (shown
 Outcome ctx.Hv (Dump reg) a after shown = ⊥
 Outcome ctx.Hv cmd Context after shown = (after ≡ ctx.Hv) × (shown ≡ [])
 Outcome ctx.Hv cmd a after shown = ⊥
-Outcome (ctx.Uv work) Go Step after shown = (after ≡ ctx.Uv (with_copy work)) × (shown ≡ [])
-Outcome (ctx.Uv work) Go (Ret code) after shown = (after ≡ ctx.Hv) × (shown ≡ [])
-Outcome (ctx.Uv work) Go a after shown = ⊥
+Outcome (ctx.Uv (Inward move)) Go Step after shown = (after ≡ ctx.Uv (Inward (record move { copied = true }))) × (shown ≡ [])
+Outcome (ctx.Uv (Inward move)) Go (Ret code) after shown = (after ≡ ctx.Hv) × (shown ≡ [])
+Outcome (ctx.Uv (Inward move)) Go a after shown = ⊥
+Outcome (ctx.Uv (Outward move)) Go Step after shown = (after ≡ ctx.Uv (Outward (record move { copied = true }))) × (shown ≡ [])
+Outcome (ctx.Uv (Outward move)) Go (Ret code) after shown = (after ≡ ctx.Hv) × (shown ≡ [])
+Outcome (ctx.Uv (Outward move)) Go a after shown = ⊥
 Outcome (ctx.Uv work) cmd Context after shown = (after ≡ ctx.Uv work) × (shown ≡ [])
 Outcome (ctx.Uv work) cmd a after shown = ⊥
 Outcome (ctx.Guest run) (HLd ra) Context after shown = after ≡ ctx.Guest run
@@ -158,7 +160,7 @@ return_comes g asked r0 r2 outs = by_test (may_return_in g.phase && is_waiting (
   ask = record asked { before = ctx.Hv }
 
   by_test : (b : Bool) → Comes ctx.Hv (UReturn r0 r2 outs)
-      (if b then (record (answering ask Enter) { after = ctx.Guest (record { lpid = ask.lpid; vid = ask.vid; generation = g.generation }) }) else answering ask (Ret UInvalid))
+      (if b then (record (answering ask Enter) { after = taken_up_in (g.vcpus ask.vid).state (record { lpid = ask.lpid; vid = ask.vid; generation = g.generation }) }) else answering ask (Ret UInvalid))
   by_test true = refl
   by_test false = (refl, refl)
 
@@ -308,6 +310,7 @@ deed_comes plan past (ctx.Uv (Inward move)) asked Go = inward_comes plan past as
 deed_comes plan past (ctx.Uv (Inward move)) asked cmd = (refl, refl)
 deed_comes plan past (ctx.Uv (Outward move)) asked Go = outward_comes plan past asked move move.copied
 deed_comes plan past (ctx.Uv (Outward move)) asked cmd = (refl, refl)
+deed_comes plan past (ctx.Uv work) asked cmd = (refl, refl)
 deed_comes plan past (ctx.Guest run) asked (HLd ra) = refl
 deed_comes plan past (ctx.Guest run) asked (HSt ra value) = refl
 deed_comes plan past (ctx.Guest run) asked (HSelect lpid vid) = refl
@@ -328,17 +331,31 @@ pub outcome : (plan : Plan) (past : List Event) (e : Event) → Extends plan pas
 outcome plan past e extends =
     subst (λ (x : Event). Outcome x.saw.before x.trace.cmd x.trace.answer x.saw.after x.saw.shown) (sym extends.is) (next_outcome plan past (mark_of e) e.trace.cmd)
 
+-- the context once a page's move is copied, and once it has come back; no step of a guest's call is here yet
+abbrev pub Copies : Work → Ctx → Type 0
+Copies (Inward move) after = after ≡ ctx.Uv (Inward (record move { copied = true }))
+Copies (Outward move) after = after ≡ ctx.Uv (Outward (record move { copied = true }))
+Copies work after = ⊥
+
+abbrev pub ComesBack : Work → Ctx → Type 0
+ComesBack (Inward move) after = after ≡ ctx.Hv
+ComesBack (Outward move) after = after ≡ ctx.Hv
+ComesBack work after = ⊥
+
 -- what the answer of a step tells while a call is in progress, whatever its command is
 abbrev pub Moving : Work → Answer → Ctx → List ℕ → Type 0
-Moving work Step after shown = (after ≡ ctx.Uv (with_copy work)) × (shown ≡ [])
-Moving work (Ret code) after shown = (after ≡ ctx.Hv) × (shown ≡ [])
+Moving work Step after shown = Copies work after × (shown ≡ [])
+Moving work (Ret code) after shown = ComesBack work after × (shown ≡ [])
 Moving work Context after shown = (after ≡ ctx.Uv work) × (shown ≡ [])
 Moving work a after shown = ⊥
 
 -- only go does anything then
 pub moving : (work : Work) (cmd : Cmd) (a : Answer) (after : Ctx) (shown : List ℕ) → Outcome (ctx.Uv work) cmd a after shown → Moving work a after shown
-moving work Go Step after shown h = h
-moving work Go (Ret code) after shown h = h
-moving work Go a after shown h = absurd h
+moving (Inward move) Go Step after shown h = h
+moving (Inward move) Go (Ret code) after shown h = h
+moving (Inward move) Go a after shown h = absurd h
+moving (Outward move) Go Step after shown h = h
+moving (Outward move) Go (Ret code) after shown h = h
+moving (Outward move) Go a after shown h = absurd h
 moving work cmd Context after shown h = h
 moving work cmd a after shown h = absurd h

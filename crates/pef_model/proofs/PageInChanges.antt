@@ -23,6 +23,7 @@ use Rattle.pef_model.specs.Deed.{Deed, coming_back, returning, deed_page_in_with
 use Rattle.pef_model.specs.History.{pool_after, deed_after, part_after}
 use Rattle.pef_model.proofs.Folds.{test_same}
 use Rattle.pef_model.proofs.Changes.{Change, Comes, Reads, Accepts, Refuses, asked, entry, at_one, at_guest}
+use Rattle.pef_model.proofs.Works.{inward}
 use Rattle.pef_model.proofs.HypervisorChanges.{passes, no_mover, work_aims, copy_keeps, gone}
 
 -- a page that can come in is Out
@@ -104,7 +105,7 @@ module _ (plan : Plan) (past : List Event) (cpu : CpuPart) (mark : Mark) where
     before = h;
     read = refl;
     cpu_is = record { ctx_is = refl; hand_is = refl; lpid_is = refl };
-    parts = copy_keeps plan past cpu mark (Inward move) t;
+    parts = copy_keeps plan past cpu mark (inward move) t;
     pool = refl;
   })
   go_in move h true t = by_life (move.generation == g.generation) refl where
@@ -121,7 +122,7 @@ module _ (plan : Plan) (past : List Event) (cpu : CpuPart) (mark : Mark) where
     fresh = is_last_sealed (g.pages move.gfn).sealed ask.hand
 
     target : target_in plan (ctx.Uv (Inward move)) cpu.lpid Go ≡ AtGuest move.lpid
-    target = work_aims plan (Inward move) true t
+    target = work_aims plan (inward move) true t
 
     by_test : move.generation ≡ g.generation → (b : Bool) → Change plan past cpu (entry cpu (ctx.Uv (Inward move)) mark Go (deed true b))
     by_test same true = Accepts (record {
@@ -143,4 +144,4 @@ module _ (plan : Plan) (past : List Event) (cpu : CpuPart) (mark : Mark) where
 
     by_life : (b : Bool) → (move.generation == g.generation) ≡ b → Change plan past cpu (entry cpu (ctx.Uv (Inward move)) mark Go (deed b fresh))
     by_life true same = by_test (test_same move.generation g.generation same) fresh
-    by_life false other = gone plan past cpu mark (Inward move) h t other
+    by_life false other = gone plan past cpu mark (inward move) h t other

@@ -6,8 +6,7 @@ use Rattle.pef_model.specs.declared.state.Phase.TheVariants as phase
 use Rattle.pef_model.specs.declared.state.Way.{Way}
 use Rattle.pef_model.specs.declared.state.Way.TheVariants as way
 use Rattle.pef_model.specs.declared.state.Mover.{Mover}
-use Rattle.pef_model.specs.declared.state.Work.{Work}
-use Rattle.pef_model.specs.declared.state.Work.TheVariants.{Inward, Outward}
+use Rattle.pef_model.specs.declared.state.Work.TheVariants.{Inward}
 use Rattle.pef_model.specs.declared.state.Ctx.{Ctx}
 use Rattle.pef_model.specs.declared.state.Ctx.TheVariants as ctx
 use Rattle.pef_model.specs.declared.state.Move.{Move}
@@ -25,10 +24,10 @@ use Rattle.pef_model.specs.Target.{work_by}
 use Rattle.pef_model.proofs.Fields.{ctxs, hands, ctxs_after, hands_after, same_ctxs, same_hands, field_after, same_field, kept_field, entry_field, holds_same, holds_one}
 use Rattle.pef_model.proofs.Changes.{Change, Quiet, Begins, Copies, Ends, Drops, Comes, Reads, Accepts, Refuses, Takes, Parked, Gone, Backs, Writes, Slots, Selected, KeepsParts, PutsPart, may_run_in, is_backed_in, entry_gives}
 use Rattle.pef_model.proofs.ChangeOf.{change}
-use Rattle.pef_model.proofs.Works.{way_of, move_of}
+use Rattle.pef_model.proofs.Works.{PageMove, inward, outward, work_of, moves_none}
 use Rattle.pef_model.proofs.Moving.{AreMoved, IsMoving, moved_on, moved_copied, moved_dropped, moved_backed, moved_begun, moved_ended, moved_renewed}
 use Rattle.pef_model.proofs.Puts.{put-same}
-use Rattle.pef_model.proofs.Reached.{Reached, all_reached}
+use Rattle.pef_model.proofs.Reached.{all_reached}
 use Rattle.pef_model.proofs.Running.{all_run, runs_in}
 
 -- the pages of the guests
@@ -50,7 +49,7 @@ abbrev pub AllMoved : Plan → List Event → Type 0
 AllMoved plan past = AreMoved (ctxs plan past) (hands plan past) (pages plan past) (generations plan past)
 
 -- the hypervisor's context has no call in progress
-hv_is_no_call : (c : Ctx) → c ≡ ctx.Hv → (work : Work) → c ≡ ctx.Uv work → ⊥
+hv_is_no_call : (c : Ctx) → c ≡ ctx.Hv → (work : PageMove) → c ≡ ctx.Uv (work_of work) → ⊥
 hv_is_no_call c h work is = cc
 
 -- a page without sealed and pending bytes keeps what is sealed where it is Secure at rest
@@ -125,28 +124,28 @@ module _ (plan : Plan) (past : List Event) (e : Event) (legal : IsLegal plan pas
   moved_by (Quiet x) = no_parts (same_ctxs plan past e _ _ x.cpu_is) (same_hands plan past e _ _ x.cpu_is) x.parts all
   moved_by (Begins x) =
       one_page _ _ (ctxs_after plan past e _ _ _ x.cpu_is) (hands_after plan past e _ _ _ x.cpu_is) x.parts refl
-      (moved_begun _ _ _ _ m all (Outward x.move) e.bytes (begun_out (pages plan past x.move.lpid x.move.gfn) m e.bytes) x.before x.generation x.at_rest
+      (moved_begun _ _ _ _ m all (outward x.move) e.bytes (begun_out (pages plan past x.move.lpid x.move.gfn) m e.bytes) x.before x.generation x.at_rest
       (record { kind_is = x.kind_is; mover = refl; pending = refl }) (keeps_begun_out _ m e.bytes (all.keeps x.move.lpid x.move.gfn)))
-  moved_by (Copies x) = no_parts (ctxs_after plan past e _ _ _ x.cpu_is) (hands_after plan past e _ _ _ x.cpu_is) x.parts (moved_copied _ _ _ _ m all (Outward x.move) _ x.before (λ out. refl))
+  moved_by (Copies x) = no_parts (ctxs_after plan past e _ _ _ x.cpu_is) (hands_after plan past e _ _ _ x.cpu_is) x.parts (moved_copied _ _ _ _ m all (outward x.move) _ x.before (λ out. refl))
   moved_by (Ends x) =
       one_page _ _ (ctxs_after plan past e _ _ _ x.cpu_is) (same_hands plan past e _ _ x.cpu_is) x.parts refl
-      (moved_ended _ _ _ _ m all (Outward x.move) (ended_out (pages plan past x.move.lpid x.move.gfn)) x.before x.generation refl
-      (keeps_ended_out _ m _ (all.moves m (Outward x.move) x.before x.generation)))
+      (moved_ended _ _ _ _ m all (outward x.move) (ended_out (pages plan past x.move.lpid x.move.gfn)) x.before x.generation refl
+      (keeps_ended_out _ m _ (all.moves m (outward x.move) x.before x.generation)))
   moved_by (Drops x) = no_parts (ctxs_after plan past e _ _ _ x.cpu_is) (same_hands plan past e _ _ x.cpu_is) x.parts (moved_dropped _ _ _ _ m all x.work x.before x.generation)
   moved_by (Comes x) =
       one_page _ _ (ctxs_after plan past e _ _ _ x.cpu_is) (hands_after plan past e _ _ _ x.cpu_is) x.parts refl
-      (moved_begun _ _ _ _ m all (Inward x.move) _ (begun_in (pages plan past x.move.lpid x.move.gfn) m) x.before x.generation x.at_rest
+      (moved_begun _ _ _ _ m all (inward x.move) _ (begun_in (pages plan past x.move.lpid x.move.gfn) m) x.before x.generation x.at_rest
       (record { kind_is = x.kind_is; mover = refl; pending = tt }) (keeps_begun_in _ m x.at_rest (all.keeps x.move.lpid x.move.gfn)))
-  moved_by (Reads x) = no_parts (ctxs_after plan past e _ _ _ x.cpu_is) (hands_after plan past e _ _ _ x.cpu_is) x.parts (moved_copied _ _ _ _ m all (Inward x.move) _ x.before (λ out. cc))
+  moved_by (Reads x) = no_parts (ctxs_after plan past e _ _ _ x.cpu_is) (hands_after plan past e _ _ _ x.cpu_is) x.parts (moved_copied _ _ _ _ m all (inward x.move) _ x.before (λ out. cc))
   moved_by (Accepts x) =
       one_page _ _ (ctxs_after plan past e _ _ _ x.cpu_is) (same_hands plan past e _ _ x.cpu_is) x.parts refl
-      (moved_ended _ _ _ _ m all (Inward x.move) (secured (pages plan past x.move.lpid x.move.gfn)) x.before x.generation refl (keeps_secured (pages plan past x.move.lpid x.move.gfn)))
+      (moved_ended _ _ _ _ m all (inward x.move) (secured (pages plan past x.move.lpid x.move.gfn)) x.before x.generation refl (keeps_secured (pages plan past x.move.lpid x.move.gfn)))
   moved_by (Refuses x) =
       one_page _ _ (ctxs_after plan past e _ _ _ x.cpu_is) (same_hands plan past e _ _ x.cpu_is) x.parts refl
-      (moved_ended _ _ _ _ m all (Inward x.move) (refused_in (pages plan past x.move.lpid x.move.gfn)) x.before x.generation refl
-      (keeps_refused _ m _ (all.moves m (Inward x.move) x.before x.generation) (all.keeps x.move.lpid x.move.gfn)))
+      (moved_ended _ _ _ _ m all (inward x.move) (refused_in (pages plan past x.move.lpid x.move.gfn)) x.before x.generation refl
+      (keeps_refused _ m _ (all.moves m (inward x.move) x.before x.generation) (all.keeps x.move.lpid x.move.gfn)))
   moved_by (Takes x) =
-      no_pages _ _ (ctxs_after plan past e _ _ _ x.cpu_is) (same_hands plan past e _ _ x.cpu_is) x.parts refl refl (moved_on _ _ _ _ m all _ (hv_is_no_call _ x.before) (λ work is. cc))
+      no_pages _ _ (ctxs_after plan past e _ _ _ x.cpu_is) (same_hands plan past e _ _ x.cpu_is) x.parts refl refl (moved_on _ _ _ _ m all _ (hv_is_no_call _ x.before) (moves_none x.after _ x.runs))
   moved_by (Parked x) =
       no_pages _ _ (ctxs_after plan past e _ _ _ x.cpu_is) (same_hands plan past e _ _ x.cpu_is) x.parts refl refl
       (moved_on _ _ _ _ m all ctx.Hv (λ work is. let before = x.before in cc) (hv_is_no_call ctx.Hv refl))
@@ -159,8 +158,8 @@ module _ (plan : Plan) (past : List Event) (e : Event) (legal : IsLegal plan pas
   moved_by (Writes x) =
       let g : GuestPart = part_after plan past x.lpid in
       let rest : (gfn : ℕ) → (pages plan past x.lpid gfn).mover ≡ None = (λ gfn. let page = plain x.lpid x.allowed gfn in page.1) in
-      let reached : (n : ℕ) (work : Work) → ctxs plan past n ≡ ctx.Uv work → (move_of work).lpid ≡ x.lpid → (move_of work).generation ≤ g.generation =
-      (λ n work is here. subst (λ (l : ℕ). (move_of work).generation ≤ generations plan past l) here (subst (Reached (generations plan past)) is (all_reached plan past legal n))) in
+      let reached : (n : ℕ) (work : PageMove) → ctxs plan past n ≡ ctx.Uv (work_of work) → work.move.lpid ≡ x.lpid → work.move.generation ≤ g.generation =
+      (λ n work is here. subst (λ (l : ℕ). work.move.generation ≤ generations plan past l) here ((all_reached plan past legal n).moves work is)) in
       carry (same_ctxs plan past e _ _ x.cpu_is) (same_hands plan past e _ _ x.cpu_is) (entry_field plan past e (λ (p : GuestPart). p.pages) x.lpid x.base x.length_ x.parts refl refl)
       (field_after plan past e (λ (p : GuestPart). p.generation) _ _ x.parts)
       (entry_gives (λ (p : GuestPart). AreMoved (ctxs plan past) (hands plan past) (pages plan past) (put (generations plan past) x.lpid p.generation)) g x.base x.length_
@@ -169,10 +168,10 @@ module _ (plan : Plan) (past : List Event) (e : Event) (legal : IsLegal plan pas
   moved_by (Selected x) = no_parts (same_ctxs plan past e _ _ x.cpu_is) (same_hands plan past e _ _ x.cpu_is) x.parts all
 
   -- a page that moves in its guest's generation is none of a guest that isn't to be secure
-  no_call : (work : Work) → (cpu_after plan m past).ctx ≡ ctx.Uv work → (move_of work).generation ≡ generations plan past (move_of work).lpid → may_write_in (part_after plan past (move_of work).lpid).phase ≡ true → ⊥
+  no_call : (work : PageMove) → (cpu_after plan m past).ctx ≡ ctx.Uv (work_of work) → work.move.generation ≡ generations plan past work.move.lpid → may_write_in (part_after plan past work.move.lpid).phase ≡ true → ⊥
   no_call work before lives may =
       let moving = all.moves m work before lives in
-      let page = plain (move_of work).lpid may (move_of work).gfn in
+      let page = plain work.move.lpid may work.move.gfn in
       let none = sym moving.mover ∙ page.1 in cc
 
   -- so each guest that isn't stays so
@@ -180,12 +179,12 @@ module _ (plan : Plan) (past : List Event) (e : Event) (legal : IsLegal plan pas
   plain_by (Quiet x) = holds_same plan past e IsPlain x.parts plain
   plain_by (Begins x) = holds_one plan past e IsPlain _ _ x.parts (λ may. absurd (secure_not_plain _ x.secure may)) plain
   plain_by (Copies x) = holds_same plan past e IsPlain x.parts plain
-  plain_by (Ends x) = holds_one plan past e IsPlain _ _ x.parts (λ may. absurd (no_call (Outward x.move) x.before x.generation may)) plain
+  plain_by (Ends x) = holds_one plan past e IsPlain _ _ x.parts (λ may. absurd (no_call (outward x.move) x.before x.generation may)) plain
   plain_by (Drops x) = holds_same plan past e IsPlain x.parts plain
   plain_by (Comes x) = holds_one plan past e IsPlain _ _ x.parts (λ may. absurd (in_not_plain _ x.allowed may)) plain
   plain_by (Reads x) = holds_same plan past e IsPlain x.parts plain
-  plain_by (Accepts x) = holds_one plan past e IsPlain _ _ x.parts (λ may. absurd (no_call (Inward x.move) x.before x.generation may)) plain
-  plain_by (Refuses x) = holds_one plan past e IsPlain _ _ x.parts (λ may. absurd (no_call (Inward x.move) x.before x.generation may)) plain
+  plain_by (Accepts x) = holds_one plan past e IsPlain _ _ x.parts (λ may. absurd (no_call (inward x.move) x.before x.generation may)) plain
+  plain_by (Refuses x) = holds_one plan past e IsPlain _ _ x.parts (λ may. absurd (no_call (inward x.move) x.before x.generation may)) plain
   plain_by (Takes x) = holds_one plan past e IsPlain _ _ x.parts (plain x.lpid) plain
   plain_by (Parked x) = holds_one plan past e IsPlain _ _ x.parts (plain x.run.lpid) plain
   plain_by (Gone x) = holds_same plan past e IsPlain x.parts plain
@@ -218,7 +217,7 @@ all_plain plan past legal = let kept = all_kept plan past legal in kept.1
 pub each_cpu_moves_its_page : EachCpuMovesItsPage
 each_cpu_moves_its_page plan past n move legal is same =
     let all = all_moved plan past legal in
-    let moving = all.moves n (Outward move) is same in
+    let moving = all.moves n (outward move) is same in
     record { kind = moving.kind_is; mover = moving.mover; pending = moving.pending }
 
 -- a page that moves inward is Out
@@ -226,22 +225,15 @@ pub moving_in_is_out : (plan : Plan) (past : List Event) (n : ℕ) (move : Move)
     (pages plan past move.lpid move.gfn).kind ≡ Out
 moving_in_is_out plan past n move legal is same =
     let all = all_moved plan past legal in
-    let moving = all.moves n (Inward move) is same in
+    let moving = all.moves n (inward move) is same in
     moving.kind_is
 
 -- so a page-in in progress moves the page that it names
 pub each_cpu_moves_its_page_in : EachCpuMovesItsPageIn
 each_cpu_moves_its_page_in plan past n move legal is same =
     let all = all_moved plan past legal in
-    let moving = all.moves n (Inward move) is same in
+    let moving = all.moves n (inward move) is same in
     record { kind = λ secure. moving.kind_is; mover = moving.mover }
-
--- a call in progress is that of its way and its move
-work_is : (work : Work) (way : Way) → way_of work ≡ way → work ≡ work_by way (move_of work)
-work_is (Inward move) way.Inward is = refl
-work_is (Inward move) way.Outward is = cc
-work_is (Outward move) way.Inward is = cc
-work_is (Outward move) way.Outward is = refl
 
 -- a page that moves is named by a call in progress
 pub each_mover_has_its_call : EachMoverHasItsCall
@@ -249,8 +241,8 @@ each_mover_has_its_call plan past lpid gfn mover legal is =
     let all = all_moved plan past legal in
     let call = all.moved lpid gfn mover is in
     record {
-      move = move_of call.work;
-      ctx_is = call.ctx_is ∙ ap ctx.Uv (work_is call.work mover.way call.way_is);
+      move = call.work.move;
+      ctx_is = call.ctx_is ∙ ap (λ (w : Way). ctx.Uv (work_by w call.work.move)) call.way_is;
       lpid_is = call.lpid_is;
       gfn_is = call.gfn_is;
       generation = call.generation_is;

@@ -1,6 +1,6 @@
 -- What an entry makes of the public state doesn't depend on what a guest alone knows.
 use Rattle.std.proofs.Common.{Option, ◌≡◌, ℕ, Bool, true, false, List, [], ◌∷◌, map, refl, ap, sym, ◌∙◌, if◌then◌else◌}
-use Rattle.pef_model.specs.declared.state.Work.TheVariants.{Inward, Outward}
+use Rattle.pef_model.specs.declared.state.Work.TheVariants.{Inward}
 use Rattle.pef_model.specs.declared.state.Ctx.{Ctx}
 use Rattle.pef_model.specs.declared.state.Ctx.TheVariants as ctx
 use Rattle.pef_model.specs.declared.command.Cmd.{Cmd}
@@ -45,7 +45,7 @@ takes_open ctx.Hv (GLi rd value) a = refl
 takes_open ctx.Hv cmd a = refl
 takes_open (ctx.Uv (Inward move)) cmd Step = refl
 takes_open (ctx.Uv (Inward move)) cmd a = refl
-takes_open (ctx.Uv (Outward move)) cmd a = refl
+takes_open (ctx.Uv work) cmd a = refl
 takes_open (ctx.Guest run) cmd a = refl
 
 cpu_open : (cpu : CpuPart) (e : Event) → next_cpu cpu e ≡ next_cpu cpu (open_entry e)

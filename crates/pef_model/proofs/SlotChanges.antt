@@ -1,8 +1,6 @@
 -- A guest's slots after an entry: the calls for them alone change them.
 use Rattle.std.proofs.Common.{◌≡◌, ℕ, ◌==◌, ◌&&◌, nat_le, Bool, true, false, if◌then◌else◌, List, [], ◌∷◌, ◌++◌, Option, Some, None, refl, ap, sym, ◌∙◌}
-use Rattle.pef_model.specs.declared.state.Phase.TheVariants.{Normal}
-use Rattle.pef_model.specs.declared.state.Slot.{Slot}
-use Rattle.pef_model.specs.declared.state.Work.TheVariants.{Inward, Outward}
+use Rattle.pef_model.specs.declared.state.Work.TheVariants.{Inward}
 use Rattle.pef_model.specs.declared.state.Ctx.{Ctx}
 use Rattle.pef_model.specs.declared.state.Ctx.TheVariants as ctx
 use Rattle.pef_model.specs.declared.command.Code.{Code}
@@ -58,7 +56,7 @@ aimed_slots plan g pool v cpu bytes lpid l ctx.Hv cmd Step t = refl
 aimed_slots plan g pool v cpu bytes lpid l ctx.Hv cmd a t = refl
 aimed_slots plan g pool v cpu bytes lpid l (ctx.Uv (Inward move)) cmd (Ret USuccess) t = refl
 aimed_slots plan g pool v cpu bytes lpid l (ctx.Uv (Inward move)) cmd (Ret UP2) t = refl
-aimed_slots plan g pool v cpu bytes lpid l (ctx.Uv (Outward move)) cmd (Ret USuccess) t = refl
+aimed_slots plan g pool v cpu bytes lpid l (ctx.Uv work) cmd (Ret USuccess) t = refl
 aimed_slots plan g pool v cpu bytes lpid l (ctx.Uv work) cmd a t = refl
 aimed_slots plan g pool v cpu bytes lpid l (ctx.Guest run) (GLd rd gpa) (Val value) t = access_slots g _ pool
 aimed_slots plan g pool v cpu bytes lpid l (ctx.Guest run) cmd (Val value) t = refl

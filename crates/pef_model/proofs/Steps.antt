@@ -19,11 +19,11 @@ use Rattle.pef_model.specs.declared.entry.Answer.TheVariants.{Done, Val, Ret, St
 use Rattle.pef_model.specs.Plan.{Plan}
 use Rattle.pef_model.specs.Event.{Event}
 use Rattle.pef_model.specs.Registers.{Call, number_of, call_of, interrupt_registers, call_registers}
-use Rattle.pef_model.specs.Cpu.{CpuPart, start_cpu, next_cpu, cpu_in, cpu_by, cpu_of_guest, own_after, own_after_ultracall, own_after_call, own_after_load, last_after}
+use Rattle.pef_model.specs.Cpu.{CpuPart, start_cpu, next_cpu, cpu_in, cpu_by, cpu_of_guest, own_after, own_after_ultracall, own_after_call, own_after_load, last_after, cpu_of_call}
 use Rattle.pef_model.specs.Target.{touches_cpu, caller}
 use Rattle.pef_model.specs.History.{cpu_after}
 use Rattle.pef_model.specs.Commands.{IsCommand}
-use Rattle.pef_model.specs.StepLaw.{given_by_coming_back, given_by_load, given_by_ultracall, given_by_command, own_given_in, selected_lpid, selected_vid, EachEntryLeavesCpu, is_kept, given_by_work}
+use Rattle.pef_model.specs.StepLaw.{given_by_coming_back, given_by_load, given_by_ultracall, given_by_command, own_given_in, given_by_leaving, lpid_selected, vid_selected, selected_lpid, selected_vid, EachEntryLeavesCpu, is_kept, given_by_work}
 use Rattle.pef_model.proofs.Folds.{same_test, test_same, counts}
 use Rattle.pef_model.proofs.Called.{set_value}
 use Rattle.pef_model.proofs.Called.{loads_value, returns_value}
@@ -58,6 +58,7 @@ context_leaves cpu (ctx.Uv (Inward move)) after Go shown bytes before h = absurd
 context_leaves cpu (ctx.Uv (Inward move)) after cmd shown bytes before h = (λ i. record cpu { ctx = (h.0 ∙ sym before) i })
 context_leaves cpu (ctx.Uv (Outward move)) after Go shown bytes before h = absurd h
 context_leaves cpu (ctx.Uv (Outward move)) after cmd shown bytes before h = (λ i. record cpu { ctx = (h.0 ∙ sym before) i })
+context_leaves cpu (ctx.Uv work) after cmd shown bytes before h = (λ i. record cpu { ctx = (h.0 ∙ sym before) i })
 context_leaves cpu (ctx.Guest run) after (HLd ra) shown bytes before h = (λ i. record cpu { ctx = (h ∙ sym before) i })
 context_leaves cpu (ctx.Guest run) after (HSt ra value) shown bytes before h = (λ i. record cpu { ctx = (h ∙ sym before) i })
 context_leaves cpu (ctx.Guest run) after (HSelect lpid vid) shown bytes before h = (λ i. record cpu { ctx = (h ∙ sym before) i })
@@ -77,7 +78,9 @@ last_by_work cpu (Outward move) after Step shown h = ap (λ (x : Ctx). if is_kep
 last_by_work cpu (Inward move) after (Ret code) shown h = ap (λ (x : Ctx). if is_kept (ctx.Uv (Inward move)) (Ret code) x then Ret code else cpu.last) (sym h.0)
 last_by_work cpu (Outward move) after (Ret code) shown h = ap (λ (x : Ctx). if is_kept (ctx.Uv (Outward move)) (Ret code) x then Ret code else cpu.last) (sym h.0)
 last_by_work cpu (Inward move) after Context shown h = refl
-last_by_work cpu (Outward move) after Context shown h = refl
+last_by_work cpu work after Step shown h = absurd h.0
+last_by_work cpu work after (Ret code) shown h = absurd h.0
+last_by_work cpu work after Context shown h = refl
 last_by_work cpu work after a shown h = absurd h
 
 last_by_guest : (cpu : CpuPart) (run : Run) (a : Answer) (shown : List ℕ) → (cpu_of_guest cpu run a shown).last ≡ (if is_kept (ctx.Guest run) a (ctx_after_guest run a) then a else cpu.last)
@@ -91,14 +94,6 @@ last_left cpu ctx.Hv after cmd a shown h = last_by_hypervisor cpu.last a after
 last_left cpu (ctx.Uv work) after cmd a shown h = last_by_work cpu work after a shown (moving work cmd a after shown h)
 last_left cpu (ctx.Guest run) after cmd a shown h =
     last_by_guest cpu run a shown ∙ ap (λ (x : Ctx). if is_kept (ctx.Guest run) a x then a else cpu.last) (sym (after_guest run cmd a after shown h))
-
--- R3 has the code of a call that comes back
-own_by_work : (cpu : CpuPart) (work : Work) (cmd : Cmd) (a : Answer) (shown : List ℕ) (r : ℕ) → length cpu.own ≡ 32 →
-    get_or (cpu_in (ctx.Uv work) cpu cmd a shown).own r 0 ≡ unwrap_or (given_by_work (caller work) a shown r) (get_or cpu.own r 0)
-own_by_work cpu (Inward move) cmd (Ret code) shown r full = set_value cpu.own 3 (number_of code) r full (omega arith)
-own_by_work cpu (Inward move) cmd a shown r full = refl
-own_by_work cpu (Outward move) cmd (Ret code) shown r full = set_value cpu.own 3 (number_of code) r full (omega arith)
-own_by_work cpu (Outward move) cmd a shown r full = refl
 
 own_by_load : (own : List ℕ) (a : Answer) (r : ℕ) → length own ≡ 32 → get_or (own_after_load own a) r 0 ≡ unwrap_or (given_by_load a r) (get_or own r 0)
 own_by_load own (Val value) r full = set_value own 3 value r full (omega arith)
@@ -150,26 +145,42 @@ call_shows shown r small = get_or-take 32 (replicate 3 0 ++ (shown ++ replicate 
 whole_shows : (shown : List ℕ) (r old : ℕ) → r < length shown → get_or shown r 0 ≡ unwrap_or (slice_get shown r) old
 whole_shows shown r old small = ap (λ (o : Option ℕ). unwrap_or o old) (sym (slice_get-get_or shown r 0 small))
 
--- each of the hypervisor's registers after a step
+-- each of the hypervisor's registers after a step of a vCPU
+own_by_leaving : (cpu : CpuPart) (run : Run) (a : Answer) (shown : List ℕ) (r : ℕ) → IsFullExit a shown → length cpu.own ≡ 32 → r < 32 →
+    get_or (cpu_of_guest cpu run a shown).own r 0 ≡ unwrap_or (given_by_leaving a shown r) (get_or cpu.own r 0)
+own_by_leaving cpu run (Exit exit.Irq) shown r whole full small = interrupt_shows r small
+own_by_leaving cpu run (Exit (exit.Hcall n)) shown r whole full small = call_shows shown r small
+own_by_leaving cpu run (Exit exit.Normal) shown r whole full small = whole_shows shown r (get_or cpu.own r 0) (omega (arith, whole, small))
+own_by_leaving cpu run Gone shown r whole full small = get_or-replicate 32 r 0 0 small
+own_by_leaving cpu run a shown r whole full small = refl
+
+-- after one of a call in progress: R3 has the code of a call of the hypervisor that comes back
+own_by_call : (cpu : CpuPart) (caller : Option Run) (a : Answer) (shown : List ℕ) (r : ℕ) → IsFullExit a shown → length cpu.own ≡ 32 → r < 32 →
+    get_or (cpu_of_call cpu caller a shown).own r 0 ≡ unwrap_or (given_by_work caller a shown r) (get_or cpu.own r 0)
+own_by_call cpu None (Ret code) shown r whole full small = set_value cpu.own 3 (number_of code) r full (omega arith)
+own_by_call cpu None a shown r whole full small = refl
+own_by_call cpu (Some run) a shown r whole full small = own_by_leaving cpu run a shown r whole full small
+
+-- after a step
 own_left : (cpu : CpuPart) (c : Ctx) (cmd : Cmd) (a : Answer) (shown : List ℕ) (r : ℕ) → IsCommand cmd → IsFullExit a shown → length cpu.own ≡ 32 → r < 32 →
     get_or (cpu_in c cpu cmd a shown).own r 0 ≡ unwrap_or (own_given_in c cmd a shown r) (get_or cpu.own r 0)
 own_left cpu ctx.Hv cmd a shown r k whole full small = own_by_command cpu.own cmd a r k full
-own_left cpu (ctx.Uv work) cmd a shown r k whole full small = own_by_work cpu work cmd a shown r full
-own_left cpu (ctx.Guest run) cmd (Exit exit.Irq) shown r k whole full small = interrupt_shows r small
-own_left cpu (ctx.Guest run) cmd (Exit (exit.Hcall n)) shown r k whole full small = call_shows shown r small
-own_left cpu (ctx.Guest run) cmd (Exit exit.Normal) shown r k whole full small = whole_shows shown r (get_or cpu.own r 0) (omega (arith, whole, small))
-own_left cpu (ctx.Guest run) cmd Gone shown r k whole full small = get_or-replicate 32 r 0 0 small
-own_left cpu (ctx.Guest run) cmd a shown r k whole full small = refl
+own_left cpu (ctx.Uv work) cmd a shown r k whole full small = own_by_call cpu (caller work) a shown r whole full small
+own_left cpu (ctx.Guest run) cmd a shown r k whole full small = own_by_leaving cpu run a shown r whole full small
 
 -- the selection after a step
 pub selection_left : (cpu : CpuPart) (c : Ctx) (cmd : Cmd) (a : Answer) (shown : List ℕ) →
     ((cpu_in c cpu cmd a shown).lpid ≡ selected_lpid c cmd a cpu.lpid) × ((cpu_in c cpu cmd a shown).vid ≡ selected_vid c cmd a cpu.vid)
 selection_left cpu ctx.Hv (HSelect lpid vid) Done shown = (refl, refl)
 selection_left cpu ctx.Hv cmd a shown = (refl, refl)
-selection_left cpu (ctx.Uv (Inward move)) cmd (Ret code) shown = (refl, refl)
-selection_left cpu (ctx.Uv (Inward move)) cmd a shown = (refl, refl)
-selection_left cpu (ctx.Uv (Outward move)) cmd (Ret code) shown = (refl, refl)
-selection_left cpu (ctx.Uv (Outward move)) cmd a shown = (refl, refl)
+selection_left cpu (ctx.Uv work) cmd a shown = by_call (caller work) a where
+  by_call : (caller : Option Run) (a : Answer) →
+      ((cpu_of_call cpu caller a shown).lpid ≡ lpid_selected caller a cpu.lpid) × ((cpu_of_call cpu caller a shown).vid ≡ vid_selected caller a cpu.vid)
+  by_call None (Ret code) = (refl, refl)
+  by_call None a = (refl, refl)
+  by_call (Some run) (Exit exit) = (refl, refl)
+  by_call (Some run) Gone = (refl, refl)
+  by_call (Some run) a = (refl, refl)
 selection_left cpu (ctx.Guest run) cmd (Exit exit) shown = (refl, refl)
 selection_left cpu (ctx.Guest run) cmd Gone shown = (refl, refl)
 selection_left cpu (ctx.Guest run) cmd a shown = (refl, refl)

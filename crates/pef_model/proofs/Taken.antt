@@ -1,5 +1,5 @@
 -- What an entry makes of a vCPU: its state, and the generation in which it was last taken up.
-use Rattle.std.proofs.Common.{◌≡◌, ℕ, Bool, true, false, ◌==◌, ◌&&◌, nat_le, if◌then◌else◌, List, ◌∷◌, Option, Some, None, unwrap_or, refl, ap, sym, subst, ◌∙◌, arith}
+use Rattle.std.proofs.Common.{◌≡◌, ℕ, Bool, true, false, ◌==◌, ◌&&◌, nat_le, if◌then◌else◌, List, ◌∷◌, Option, Some, None, option_map, unwrap_or, refl, ap, sym, subst, ◌∙◌, arith}
 use Rattle.std.proofs.lemmas.Bool.Decides.{nat_tests}
 use Rattle.pef_model.specs.declared.state.Phase.TheVariants as phase
 use Rattle.pef_model.specs.declared.state.Ctx.{Ctx}
@@ -15,17 +15,17 @@ use Rattle.pef_model.specs.declared.command.Code.TheVariants.{USuccess, UP2}
 use Rattle.pef_model.specs.declared.state.Work.TheVariants.{Inward, Outward}
 use Rattle.pef_model.specs.declared.entry.Exit.TheVariants as exit
 use Rattle.pef_model.specs.declared.entry.Answer.{Answer}
-use Rattle.pef_model.specs.declared.entry.Answer.TheVariants.{Done, Val, Ret, Step, Enter, Exit}
+use Rattle.pef_model.specs.declared.entry.Answer.TheVariants.{Done, Val, Ret, Step, Enter, Exit, Context}
 use Rattle.pef_model.specs.declared.entry.PoolSaw.{PoolSaw}
 use Rattle.pef_model.specs.Plan.{Plan}
 use Rattle.pef_model.specs.Event.{Event}
-use Rattle.pef_model.specs.Target.{Ask, Alone, AtGuest, is_guest, target_in, touches_guest}
+use Rattle.pef_model.specs.Target.{Ask, Alone, AtGuest, caller, is_guest, target_in, touches_guest}
 use Rattle.pef_model.specs.GuestPart.{GuestPart, VcpuPart, new_vcpu, waits_for, ends_guest, ended_normal, part_of_write, part_in, part_of_access}
 use Rattle.pef_model.specs.Guest.{Guest, next_guest}
 use Rattle.pef_model.specs.Entry.{enter_code}
 use Rattle.pef_model.specs.Deed.{answering, returning}
 use Rattle.pef_model.specs.History.{cpu_after, guest_after, ask_of, deed_after, Extends}
-use Rattle.pef_model.specs.TransitionLaw.{state_given, taken_given, EachEntryLeavesStates}
+use Rattle.pef_model.specs.TransitionLaw.{waits_by, is_vcpu, state_given, taken_given, EachEntryLeavesStates}
 use Rattle.pef_model.proofs.Folds.{same_test, test_same, either_same}
 use Rattle.pef_model.proofs.Outcomes.{Outcome, outcome}
 
@@ -127,7 +127,7 @@ module _ (plan : Plan) (g : GuestPart) (pool : Option PoolSaw) (v cpu : ℕ) (by
   vcpu_by ctx.Hv cmd a = refl
   vcpu_by (ctx.Uv (Inward move)) cmd (Ret USuccess) = refl
   vcpu_by (ctx.Uv (Inward move)) cmd (Ret UP2) = refl
-  vcpu_by (ctx.Uv (Outward move)) cmd (Ret USuccess) = refl
+  vcpu_by (ctx.Uv work) cmd (Ret USuccess) = refl
   vcpu_by (ctx.Uv work) cmd a = refl
   vcpu_by (ctx.Guest run) (GLd rd gpa) (Val value) = access_keeps _ pool
   vcpu_by (ctx.Guest run) cmd (Val value) = refl
@@ -182,6 +182,11 @@ module _ (plan : Plan) (g : GuestPart) (lpid vid l v cpu : ℕ) where
   ended_aims field named new there true is = given_both field new old (named == lpid) true ∙ named_aims field named (Some new) there (is refl)
   ended_aims field named new there false is = given_both field new old (named == lpid) false ∙ ap field (sym (given_none (named == lpid) old) ∙ given_none (is_guest lpid (if there then AtGuest named else Alone)) old)
 
+  -- a command of another context parks no vCPU
+  waits_for_none : (vid : ℕ) (c : Ctx) (cmd : Cmd) → waits_by g vid c cmd Context ≡ None
+  waits_for_none vid c GHcall = refl
+  waits_for_none vid c cmd = refl
+
   state_is : (c : Ctx) (cmd : Cmd) (a : Answer) (after : Ctx) (shown : List ℕ) → Outcome c cmd a after shown → IsThereIn c plan cmd a → (now c cmd a).state ≡ unwrap_or (state_given g lpid vid l v cpu c cmd a) old.state
   state_is ctx.Hv (UReturn r0 r2 outs) Enter after shown h there = sym (given_both (λ (x : VcpuPart). x.state) (taken_up g cpu) old (l == lpid) (v == vid))
   state_is ctx.Hv (HEnter named entered value) Enter after shown h there =
@@ -192,6 +197,9 @@ module _ (plan : Plan) (g : GuestPart) (lpid vid l v cpu : ℕ) where
   state_is ctx.Hv cmd a after shown h there = ap (λ (x : VcpuPart). x.state) (sym (given_none (is_guest lpid (target_in plan ctx.Hv l cmd)) old))
   state_is (ctx.Uv (Inward move)) cmd a after shown h there = ap (λ (x : VcpuPart). x.state) (sym (given_none (is_guest lpid (target_in plan (ctx.Uv (Inward move)) l cmd)) old))
   state_is (ctx.Uv (Outward move)) cmd a after shown h there = ap (λ (x : VcpuPart). x.state) (sym (given_none (is_guest lpid (target_in plan (ctx.Uv (Outward move)) l cmd)) old))
+  state_is (ctx.Uv work) cmd Context after shown h there =
+      ap (λ (o : Option VState). unwrap_or o old.state) (sym (ap (λ (o : Option Pending). if is_vcpu lpid vid (caller work) then option_map vstate.Parked o else None) (waits_for_none vid (ctx.Uv work) cmd) ∙ either_same (is_vcpu lpid vid (caller work)) None))
+  state_is (ctx.Uv work) cmd a after shown h there = absurd h
   state_is (ctx.Guest run) GHcall (Exit exit.Normal) after shown h there = sym (given_both (λ (x : VcpuPart). x.state) (parked g run.vid pending.Exit) old (run.lpid == lpid) (run.vid == vid))
   state_is (ctx.Guest run) GHcall (Exit exit.Irq) after shown h there = sym (given_both (λ (x : VcpuPart). x.state) (parked g run.vid pending.Irq) old (run.lpid == lpid) (run.vid == vid))
   state_is (ctx.Guest run) GHcall (Exit (exit.Hcall n)) after shown h there = sym (given_both (λ (x : VcpuPart). x.state) (parked g run.vid (pending.Hcall n)) old (run.lpid == lpid) (run.vid == vid))

@@ -6,7 +6,7 @@ use Rattle.pef_model.specs.declared.state.Phase.{Phase}
 use Rattle.pef_model.specs.declared.state.Phase.TheVariants as phase
 use Rattle.pef_model.specs.declared.state.Kind.{Kind}
 use Rattle.pef_model.specs.declared.state.Kind.TheVariants as kind
-use Rattle.pef_model.specs.declared.state.Work.TheVariants.{Inward, Outward}
+use Rattle.pef_model.specs.declared.state.Work.TheVariants.{Inward}
 use Rattle.pef_model.specs.declared.state.Ctx.{Ctx}
 use Rattle.pef_model.specs.declared.state.Ctx.TheVariants as ctx
 use Rattle.pef_model.specs.declared.state.Run.{Run}
@@ -144,7 +144,7 @@ deed_told : (plan : Plan) (g : Guest) (found : ℕ → ℕ → ℕ) (any : Bool)
     d ≡ deed_guest_in c plan g (λ n offset. value_in d.answer) (tells_free d.pool) ask cmd
 deed_told plan g found any ask cmd ctx.Hv = grind (arith, common_steps)
 deed_told plan g found any ask cmd (ctx.Uv (Inward move)) = refl
-deed_told plan g found any ask cmd (ctx.Uv (Outward move)) = refl
+deed_told plan g found any ask cmd (ctx.Uv work) = refl
 deed_told plan g found any ask cmd (ctx.Guest run) = by_test (run.generation == g.part.generation) where
   deed : Bool → (ℕ → ℕ → ℕ) → Bool → Deed
   deed b found any = if b then deed_running plan run g found any ask cmd else deed_gone ask

@@ -25,7 +25,7 @@ use Rattle.pef_model.specs.Guest.{Guest}
 use Rattle.pef_model.specs.PageOut.{page_out_code}
 use Rattle.pef_model.specs.PageIn.{page_in_operands, is_last_sealed}
 use Rattle.pef_model.specs.Entry.{enter_code}
-use Rattle.pef_model.specs.Deed.{Deed, answering, giving, returning, coming_back, deed_page_out_begin, deed_page_in_with, deed_page_in_test, may_return_in, is_waiting, deed_backing, deed_through, deed_access, deed_interrupt, deed_running, deed_gone, deed_hypervisor, deed_guest_in, deed_guest, deed_frame_in, deed_frame, deed_hypercall, deed_by_row, deed_by_kind}
+use Rattle.pef_model.specs.Deed.{Deed, answering, giving, returning, coming_back, deed_page_out_begin, deed_page_in_with, deed_page_in_test, may_return_in, is_waiting, deed_backing, deed_through, deed_access, deed_interrupt, deed_running, deed_gone, deed_hypervisor, deed_guest_in, deed_guest, deed_frame_in, deed_frame, deed_hypercall, deed_by_row, deed_by_kind, taken_up_in}
 use Rattle.pef_model.specs.History.{cpu_after, guest_after, pool_after, frame_after, ask_of, entry_of, deed_after, next_entry, next_entry_by, found_after}
 use Rattle.pef_model.specs.ReadLaw.{TouchedObjectsDecide, AskedIsTold, IsTold}
 use Rattle.pef_model.proofs.Folds.{same_test}
@@ -72,7 +72,7 @@ deed_asks : (plan : Plan) (g : Guest) (found other : ℕ → ℕ → ℕ) (any f
     deed_guest_in c plan g found any ask cmd ≡ deed_guest_in c plan g other free ask cmd
 deed_asks plan g found other any free ask cmd ctx.Hv h f = hypervisor_asks plan g any free ask cmd h
 deed_asks plan g found other any free ask cmd (ctx.Uv (Inward move)) h f = refl
-deed_asks plan g found other any free ask cmd (ctx.Uv (Outward move)) h f = refl
+deed_asks plan g found other any free ask cmd (ctx.Uv work) h f = refl
 deed_asks plan g found other any free ask cmd (ctx.Guest run) h f = by_test (run.generation == g.part.generation) h f where
   by_test : (b : Bool) → (is_some (if b then deed_running plan run g found any ask cmd else deed_gone ask).pool ≡ true → any ≡ free) →
       ((n : ℕ) → is_number n (if b then deed_running plan run g found any ask cmd else deed_gone ask).frame ≡ true → found n ≡ other n) →
@@ -91,6 +91,7 @@ at_frame plan n bytes ask cmd is = by_ctx ask.before is where
   by_ctx ctx.Hv h = same_test n
   by_ctx (ctx.Uv (Inward move)) h = same_test n
   by_ctx (ctx.Uv (Outward move)) h = same_test n
+  by_ctx (ctx.Uv work) h = cc
   by_ctx (ctx.Guest run) h = running run cmd h
 
 pub touched_objects_decide : TouchedObjectsDecide
@@ -174,7 +175,7 @@ hypervisor_tells plan g any ask (UPagein lpid src gpa flags order) saw h = page_
 hypervisor_tells plan g any ask (UPageout lpid dest gpa flags order) saw h = returning_tells any ask (page_out_code plan g.part dest gpa flags order) (deed_page_out_begin plan g ask lpid dest gpa) saw refl h
 hypervisor_tells plan g any ask (HEnter lpid vid value) saw h = returning_tells any ask (enter_code plan g.part vid) _ saw refl h
 hypervisor_tells plan g any ask (UReturn r0 r2 outs) saw h = by_test (may_return_in g.part.phase && is_waiting (g.part.vcpus ask.vid).state) h where
-  by_test : (b : Bool) → (if b then record (answering ask Enter) { after = ctx.Guest (record { lpid = ask.lpid; vid = ask.vid; generation = g.part.generation }) } else answering ask (Ret UInvalid)).pool ≡ Some saw → IsTold any saw
+  by_test : (b : Bool) → (if b then record (answering ask Enter) { after = taken_up_in (g.part.vcpus ask.vid).state (record { lpid = ask.lpid; vid = ask.vid; generation = g.part.generation }) } else answering ask (Ret UInvalid)).pool ≡ Some saw → IsTold any saw
   by_test true k = cc
   by_test false k = cc
 hypervisor_tells plan g any ask cmd saw h = cc
@@ -200,6 +201,7 @@ asked_is_told plan g found any ask cmd saw is = by_ctx ask.before is where
   by_ctx (ctx.Uv (Inward move)) h =
       arrival_tells any ask (move.generation == g.part.generation) (is_last_sealed (g.part.pages move.gfn).sealed ask.hand) saw h
   by_ctx (ctx.Uv (Outward move)) h = end_tells any ask (move.generation == g.part.generation) saw h
+  by_ctx (ctx.Uv work) h = cc
   by_ctx (ctx.Guest run) h = by_test (run.generation == g.part.generation) h where
     by_test : (b : Bool) → (if b then deed_running plan run g found any ask cmd else deed_gone ask).pool ≡ Some saw → IsTold any saw
     by_test true k = running_tells plan run g found any ask cmd saw k

@@ -3,7 +3,7 @@ use Rattle.std.proofs.Common.{◌≡◌, ℕ, Bool, ◌==◌, if◌then◌else�
 use Rattle.pef_model.specs.declared.state.Phase.{Phase}
 use Rattle.pef_model.specs.declared.state.Phase.TheVariants as phase
 use Rattle.pef_model.specs.declared.state.Run.{Run}
-use Rattle.pef_model.specs.declared.state.Work.TheVariants.{Inward, Outward}
+use Rattle.pef_model.specs.declared.state.Work.TheVariants.{Inward}
 use Rattle.pef_model.specs.declared.state.Ctx.{Ctx}
 use Rattle.pef_model.specs.declared.state.Ctx.TheVariants as ctx
 use Rattle.pef_model.specs.declared.command.Cmd.{Cmd}
@@ -49,5 +49,5 @@ unworded plan words g found any ask cmd = by_ctx ask.before where
   by_ctx : (c : Ctx) → deed_guest_in c (with_entropy plan words) g found any ask cmd ≡ deed_guest_in c plan g found any ask cmd
   by_ctx ctx.Hv = unworded_hypervisor plan words g any ask cmd
   by_ctx (ctx.Uv (Inward move)) = refl
-  by_ctx (ctx.Uv (Outward move)) = refl
+  by_ctx (ctx.Uv work) = refl
   by_ctx (ctx.Guest run) = ap (λ (d : Deed). if run.generation == g.part.generation then d else deed_gone ask) (unworded_running plan words run g found any ask cmd)

@@ -7,7 +7,7 @@ use Rattle.pef_model.specs.declared.config.EntropyWord.{EntropyWord}
 use Rattle.pef_model.specs.declared.state.Phase.{Phase}
 use Rattle.pef_model.specs.declared.state.Phase.TheVariants as phase
 use Rattle.pef_model.specs.declared.state.Run.{Run}
-use Rattle.pef_model.specs.declared.state.Work.TheVariants.{Inward, Outward}
+use Rattle.pef_model.specs.declared.state.Work.TheVariants.{Inward}
 use Rattle.pef_model.specs.declared.state.Ctx.{Ctx}
 use Rattle.pef_model.specs.declared.state.Ctx.TheVariants as ctx
 use Rattle.pef_model.specs.declared.command.Code.{Code}
@@ -51,9 +51,9 @@ module _ (plan : Plan) (g : GuestPart) (pool : Option PoolSaw) (v cpu : ℕ) (by
   words_by ctx.Hv (Ret code) (URegslot lpid start size flags id) = refl
   words_by ctx.Hv (Ret code) (UUnregslot lpid id) = refl
   words_by ctx.Hv a cmd = refl
-  words_by (ctx.Uv (Outward move)) (Ret USuccess) cmd = refl
   words_by (ctx.Uv (Inward move)) (Ret USuccess) cmd = refl
   words_by (ctx.Uv (Inward move)) (Ret UP2) cmd = refl
+  words_by (ctx.Uv work) (Ret USuccess) cmd = refl
   words_by (ctx.Uv work) a cmd = refl
   words_by (ctx.Guest run) (Val value) (GLd rd gpa) = access_keeps (page_of plan gpa) pool
   words_by (ctx.Guest run) Done (GSt rs gpa) = access_keeps (page_of plan gpa) pool
@@ -139,5 +139,5 @@ no_word_in_deeds plan g words found any ask cmd = by_ctx ask.before where
   by_ctx : (c : Ctx) → deed_guest_in c plan other found any ask cmd ≡ deed_guest_in c plan g found any ask cmd
   by_ctx ctx.Hv = by_hypervisor cmd
   by_ctx (ctx.Uv (Inward move)) = refl
-  by_ctx (ctx.Uv (Outward move)) = refl
+  by_ctx (ctx.Uv work) = refl
   by_ctx (ctx.Guest run) = ap (λ (d : Deed). if run.generation == g.part.generation then d else deed_gone ask) (by_running run)

@@ -122,11 +122,12 @@ can_answer_vcpu GIrq (Exit Normal) = true
 can_answer_vcpu (Dump reg) (Val value) = true
 can_answer_vcpu cmd a = false
 
--- whether a command of its CPU's context can have an answer
+-- whether a command of its CPU's context can have an answer; no step of a guest's call is here yet
 abbrev pub can_answer_in : Ctx → Cmd → Answer → Bool
 can_answer_in ctx.Hv cmd a = can_answer_hypervisor cmd a
 can_answer_in (ctx.Uv (Inward move)) cmd a = can_answer_inward move a
 can_answer_in (ctx.Uv (Outward move)) cmd a = can_answer_outward move a
+can_answer_in (ctx.Uv work) cmd a = false
 can_answer_in (ctx.Guest run) cmd a = can_answer_vcpu cmd a
 
 -- whether a command in a context can have an answer: one of another context Context alone

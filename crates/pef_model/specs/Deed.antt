@@ -25,7 +25,7 @@ use Rattle.pef_model.specs.declared.entry.Answer.TheVariants as answer
 use Rattle.pef_model.specs.declared.entry.PoolSaw.{PoolSaw}
 use Rattle.pef_model.specs.Plan.{Plan}
 use Rattle.pef_model.specs.Target.{Ask, shows_register, frame_of}
-use Rattle.pef_model.specs.GuestPart.{GuestPart, Meeting, Moves, Private, Normal, Unbacked, meets, page_of}
+use Rattle.pef_model.specs.GuestPart.{GuestPart, Meeting, Moves, Private, Normal, Unbacked, meets, page_of, call_of_state}
 use Rattle.pef_model.specs.Guest.{Guest}
 use Rattle.pef_model.specs.Registers.{Call, call_of, arguments}
 use Rattle.pef_model.specs.Hypercalls.{row_of, let_out_by}
@@ -101,10 +101,11 @@ deed_page_out_copy move n ask = record (answering ask answer.Step) { after = ctx
 abbrev pub deed_page_in_copy : Move → ℕ → List ℕ → Ask → Deed
 deed_page_in_copy move n bytes ask = record (answering ask answer.Step) { after = ctx.Uv (Inward (record move { copied = true })); frame = Some n; bytes = bytes }
 
--- a step of a call in progress at a normal frame with these bytes
+-- a step of a call in progress at a normal frame with these bytes: a page's move is copied, and no guest's call aims there
 abbrev pub deed_copy : Work → ℕ → List ℕ → Ask → Deed
 deed_copy (Inward move) n bytes ask = deed_page_in_copy move n bytes ask
 deed_copy (Outward move) n bytes ask = deed_page_out_copy move n ask
+deed_copy work n bytes ask = answering ask answer.Context
 
 -- a command at a normal frame with these bytes, by the CPU's context
 abbrev pub deed_frame_in : Ctx → Plan → ℕ → List ℕ → Ask → Cmd → Deed
@@ -168,10 +169,11 @@ deed_page_in_end g ask move = if move.generation == g.generation then deed_page_
 abbrev pub deed_gone : Ask → Deed
 deed_gone ask = record (answering ask answer.Gone) { after = ctx.Hv }
 
--- a step of a call in progress at a guest; found: the doubleword at an offset of a normal frame
+-- a step of a call in progress at a guest: a page's move ends, and no step of a guest's call is here yet; found: the doubleword at an offset of a normal frame
 abbrev pub deed_work : Plan → Work → Guest → (ℕ → ℕ → ℕ) → Ask → Deed
 deed_work plan (Inward move) g found ask = deed_page_in_end g.part ask move
 deed_work plan (Outward move) g found ask = deed_page_out_end g.part ask move
+deed_work plan work g found ask = answering ask answer.Context
 
 -- whether UV_RETURN may take up a vCPU in this phase
 abbrev pub may_return_in : Phase → Bool
@@ -187,14 +189,22 @@ is_waiting vstate.Idle = false
 is_waiting vstate.Fresh = true
 is_waiting (vstate.Running cpu) = false
 is_waiting (vstate.Parked pending.Exit) = false
-is_waiting (vstate.Parked (pending.Hcall n)) = true
-is_waiting (vstate.Parked pending.Irq) = true
+is_waiting (vstate.Parked waits) = true
 
--- UV_RETURN of the hypervisor: the selected vCPU runs, if it waits in a Secure or Starting guest
+-- the context in which a vCPU goes on that UV_RETURN takes up: in the call in which it waits, and as a guest where it waits in none
+abbrev pub returned_in : Option (Run → Work) → Run → Ctx
+returned_in None run = ctx.Guest run
+returned_in (Some call) run = ctx.Uv (call run)
+
+-- the same, of a vCPU in this state
+abbrev pub taken_up_in : VState → Run → Ctx
+taken_up_in state run = returned_in (call_of_state state) run
+
+-- UV_RETURN of the hypervisor: the selected vCPU goes on, if it waits in a Secure or Starting guest
 abbrev pub deed_return : GuestPart → Ask → Deed
 deed_return g ask =
     if may_return_in g.phase && is_waiting (g.vcpus ask.vid).state
-    then record (answering ask answer.Enter) { after = ctx.Guest (record { lpid = ask.lpid; vid = ask.vid; generation = g.generation }) }
+    then record (answering ask answer.Enter) { after = taken_up_in (g.vcpus ask.vid).state (record { lpid = ask.lpid; vid = ask.vid; generation = g.generation }) }
     else answering ask (answer.Ret UInvalid)
 
 -- UV_WRITE_PATE of the hypervisor

@@ -1,6 +1,7 @@
 -- A guest whole: its public part, the doublewords of its pages and the registers of its vCPUs.
 use Rattle.std.specs.Prelude.{ℕ, ◌+◌, ◌%◌, ◌^◌, ◌==◌, Bool, true, false, not, ◌&&◌, if◌then◌else◌, List, drop, Option, Some, None, unwrap_or, slice_index, slice_set, bit_xor}
 use Rattle.pef_model.specs.declared.state.Run.{Run}
+use Rattle.pef_model.specs.declared.state.Work.{Work}
 use Rattle.pef_model.specs.declared.state.Ctx.{Ctx}
 use Rattle.pef_model.specs.declared.state.Ctx.TheVariants as ctx
 use Rattle.pef_model.specs.declared.state.Pending.TheVariants as pending
@@ -20,7 +21,7 @@ use Rattle.pef_model.specs.Event.{Event}
 use Rattle.pef_model.specs.Target.{caller}
 use Rattle.pef_model.specs.Registers.{Call, fresh_registers, call_of, loaded, with_code, with_outputs}
 use Rattle.pef_model.specs.Hypercalls.{row_of}
-use Rattle.pef_model.specs.GuestPart.{GuestPart, start_part, put, ends_guest, has_word, next_part}
+use Rattle.pef_model.specs.GuestPart.{GuestPart, start_part, put, call_of_state, ends_guest, has_word, next_part}
 use Rattle.pef_model.specs.Clash.{clashes}
 
 -- a guest whole: its public part, the doubleword at each address, the registers of each vCPU, the entropy words that are left, and whether none of its entries was a digest collision
@@ -78,6 +79,11 @@ registers_after_command g regs cmd a = registers_after_call (call_of cmd) regs c
 abbrev pub entered_at : Regs → ℕ → Regs
 entered_at regs r2 = if r2 == 0 then regs else record regs { nip = r2; srr0 = regs.nip }
 
+-- R2 as UV_RETURN uses it, by the call in which the vCPU waits: where it goes back into one, R2 has no effect
+abbrev pub address_for : Option (Run → Work) → ℕ → ℕ
+address_for None r2 = r2
+address_for (Some call) r2 = 0
+
 -- the outputs of a hypercall of this row are the first of outs
 abbrev pub with_outputs_of : Option Row → List ℕ → List ℕ → List ℕ
 with_outputs_of (Some row) gpr outs = with_outputs gpr row.outputs outs
@@ -87,10 +93,14 @@ with_outputs_of None gpr outs = gpr
 abbrev pub answered_by : Option Row → Regs → ℕ → List ℕ → Regs
 answered_by row regs r0 outs = at_next_instruction regs (slice_set (with_outputs_of row regs.gpr outs) 3 r0)
 
--- what UV_RETURN brings a vCPU in this state: to a hypercall its answer, and nothing where an interrupt took the vCPU from its CPU or it hasn't run
+-- what UV_RETURN brings a vCPU in this state: to a hypercall its answer, and nothing where the vCPU waits for anything else or hasn't run
 abbrev pub returned_to : VState → Regs → ℕ → List ℕ → Regs
 returned_to (vstate.Parked (pending.Hcall n)) regs r0 outs = answered_by (row_of HCALLS n) regs r0 outs
 returned_to state regs r0 outs = regs
+
+-- the registers of a vCPU in this state that UV_RETURN takes up: with what it is brought, and where the context becomes Guest with R2's effect
+abbrev pub returned_by : VState → Regs → ℕ → ℕ → List ℕ → Regs
+returned_by state regs r0 r2 outs = entered_at (returned_to state regs r0 outs) (address_for (call_of_state state) r2)
 
 -- h.enter gives R3 its value where the vCPU waits for the answer of a hypercall
 abbrev pub answered_with : VState → Regs → ℕ → Regs
@@ -99,7 +109,7 @@ answered_with other regs value = regs
 
 -- the registers of a guest's vCPUs after a step of the hypervisor that has this vCPU selected
 abbrev pub registers_of_hypervisor : Guest → ℕ → Answer → Cmd → ℕ → Regs
-registers_of_hypervisor g vid answer.Enter (UReturn r0 r2 outs) = put g.registers vid (entered_at (returned_to (g.part.vcpus vid).state (g.registers vid) r0 outs) r2)
+registers_of_hypervisor g vid answer.Enter (UReturn r0 r2 outs) = put g.registers vid (returned_by (g.part.vcpus vid).state (g.registers vid) r0 r2 outs)
 registers_of_hypervisor g vid answer.Enter (HEnter lpid named value) = put g.registers named (answered_with (g.part.vcpus named).state (g.registers named) value)
 registers_of_hypervisor g vid (answer.Ret code) (UPate lpid dw0 dw1) = if ends_guest code dw1 then (λ n. fresh_registers) else g.registers
 registers_of_hypervisor g vid a cmd = g.registers

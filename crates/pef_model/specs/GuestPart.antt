@@ -12,7 +12,8 @@ use Rattle.pef_model.specs.declared.state.VState.{VState}
 use Rattle.pef_model.specs.declared.state.VState.TheVariants as vstate
 use Rattle.pef_model.specs.declared.state.Slot.{Slot}
 use Rattle.pef_model.specs.declared.state.Work.{Work}
-use Rattle.pef_model.specs.declared.state.Work.TheVariants.{Inward, Outward}
+use Rattle.pef_model.specs.declared.state.Work.TheVariants.{Inward, Outward, Share, Unshare, UnshareAll, Esm}
+use Rattle.pef_model.specs.declared.state.Run.{Run}
 use Rattle.pef_model.specs.declared.state.Ctx.{Ctx}
 use Rattle.pef_model.specs.declared.state.Ctx.TheVariants as ctx
 use Rattle.pef_model.specs.declared.command.Cmd.{Cmd}
@@ -218,6 +219,21 @@ with_secure_page g gfn = record g { pages = put g.pages gfn (secured (g.pages gf
 -- a vCPU that is taken up runs on the CPU under the guest's generation
 abbrev pub with_running_vcpu : GuestPart → ℕ → ℕ → GuestPart
 with_running_vcpu g vid cpu = record g { vcpus = put g.vcpus vid (record (g.vcpus vid) { state = vstate.Running cpu; generation = g.generation }) }
+
+-- the call of a guest in which its vCPU waits that waits for this, by the vCPU; None where it waits in none
+abbrev pub call_left : Pending → Option (Run → Work)
+call_left (pending.Share gfn) = Some Share
+call_left (pending.Unshare gfn) = Some Unshare
+call_left (pending.UnshareAll gfn) = Some UnshareAll
+call_left pending.EsmStart = Some Esm
+call_left (pending.EsmNeed gfn) = Some Esm
+call_left pending.EsmDone = Some Esm
+call_left waits = None
+
+-- the same, of a vCPU in this state
+abbrev pub call_of_state : VState → Option (Run → Work)
+call_of_state (vstate.Parked waits) = call_left waits
+call_of_state state = None
 
 -- a vCPU that leaves is parked, in the generation in which it was taken up
 abbrev pub with_parked_vcpu : GuestPart → ℕ → Pending → GuestPart

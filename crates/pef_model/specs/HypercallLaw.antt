@@ -1,8 +1,8 @@
 -- Laws of hypercalls: nothing of a guest's registers leaves but the inputs that the call's row names; and runs of calls, computed.
-use Rattle.std.specs.Prelude.{◌≡◌, ◌≢◌, ℕ, List, [], ◌∷◌, ◌++◌, replicate, Some}
+use Rattle.std.specs.Prelude.{◌≡◌, ◌≢◌, ℕ, List, [], ◌∷◌, Some}
 use Rattle.pef_model.specs.declared.state.Run.{Run}
 use Rattle.pef_model.specs.declared.state.Ctx.TheVariants as ctx
-use Rattle.pef_model.specs.declared.hypercall.TheConstants.{HCALLS, H_PROD, H_CONFER, H_SVM_PAGE_IN, H_RANDOM, H_CEDE}
+use Rattle.pef_model.specs.declared.hypercall.TheConstants.{HCALLS, H_PROD, H_CONFER, H_SVM_PAGE_IN, H_RANDOM}
 use Rattle.pef_model.specs.declared.hypercall.Row.{Row}
 use Rattle.pef_model.specs.declared.hypercall.RowKind.TheVariants.{Reflected}
 use Rattle.pef_model.specs.declared.command.Code.TheVariants.{USuccess, HUnsupported, HFunction, HHardware}

@@ -1,5 +1,5 @@
 -- Tables, computed of guests made by hand: what each phase and each kind of page let the hypervisor do, and what an access meets.
-use Rattle.std.specs.Prelude.{◌≡◌, ℕ, ◌==◌, Bool, true, false, if◌then◌else◌, List, [], ◌∷◌, map, replicate, Some, None}
+use Rattle.std.specs.Prelude.{◌≡◌, ℕ, ◌==◌, Bool, true, false, if◌then◌else◌, List, [], ◌∷◌, ◌++◌, map, replicate, Some, None}
 use Rattle.pef_model.specs.declared.state.Phase.{Phase}
 use Rattle.pef_model.specs.declared.state.Phase.TheVariants as phase
 use Rattle.pef_model.specs.declared.state.Kind.{Kind}
@@ -7,21 +7,24 @@ use Rattle.pef_model.specs.declared.state.Kind.TheVariants.{Invalid, Secure, Out
 use Rattle.pef_model.specs.declared.state.Way.{Way}
 use Rattle.pef_model.specs.declared.state.Way.TheVariants.{Inward, Outward}
 use Rattle.pef_model.specs.declared.state.Pending.TheVariants as pending
-use Rattle.pef_model.specs.declared.state.Pending.TheVariants.{Irq}
+use Rattle.pef_model.specs.declared.state.Pending.TheVariants.{Irq, Fault, Victim, EsmStart, EsmNeed, EsmDone}
 use Rattle.pef_model.specs.declared.state.VState.{VState}
 use Rattle.pef_model.specs.declared.state.VState.TheVariants.{Idle, Fresh, Running, Parked}
+use Rattle.pef_model.specs.declared.state.Run.{Run}
+use Rattle.pef_model.specs.declared.state.Regs.{Regs}
+use Rattle.pef_model.specs.declared.state.Work.TheVariants as work
 use Rattle.pef_model.specs.declared.state.Ctx.{Ctx}
 use Rattle.pef_model.specs.declared.state.Ctx.TheVariants as ctx
 use Rattle.pef_model.specs.declared.command.Code.TheVariants.{USuccess, UParameter, UP2, UP3, UP5, UBusy, UPermission, UInvalid}
 use Rattle.pef_model.specs.declared.command.Cmd.{Cmd}
-use Rattle.pef_model.specs.declared.command.Cmd.TheVariants.{HEnter, UPate, URegslot, UUnregslot, GLd, GIrq}
+use Rattle.pef_model.specs.declared.command.Cmd.TheVariants.{HEnter, UPate, URegslot, UUnregslot, UReturn, GLd, GIrq, Go}
 use Rattle.pef_model.specs.declared.entry.Exit.TheVariants as exit
 use Rattle.pef_model.specs.declared.entry.Answer.{Answer}
-use Rattle.pef_model.specs.declared.entry.Answer.TheVariants.{Val, Ret, Step, Enter, Exit, Again, Hole, Nothing}
+use Rattle.pef_model.specs.declared.entry.Answer.TheVariants.{Val, Ret, Step, Enter, Exit, Again, Hole, Context, Nothing}
 use Rattle.pef_model.specs.Plan.{Plan, plan_of}
 use Rattle.pef_model.specs.GuestPart.{Page, Meeting, NoPlace, Moves, Private, Normal, Unshared, Unbacked, Away, invalid_page, new_vcpu, start_part, meets}
-use Rattle.pef_model.specs.Guest.{Guest, start_guest}
-use Rattle.pef_model.specs.Deed.{deed_guest}
+use Rattle.pef_model.specs.Guest.{Guest, start_guest, registers_of_hypervisor}
+use Rattle.pef_model.specs.Deed.{Deed, deed_guest}
 use Rattle.pef_model.specs.RunLaw.{small_config, return_with}
 use Rattle.pef_model.specs.RefusalLaw.{page_out_to, page_in_from}
 
@@ -57,9 +60,13 @@ guest_in phase page state = record (start_guest small_plan 1) {
 abbrev pub without_slots : Guest → Guest
 without_slots g = record g { part = record g.part { slots = [] } }
 
--- the answer of a command at a guest in this context, where each doubleword of a normal frame is the frame's number, with this vCPU selected, where a secure frame is free or none is
+-- what a command does at a guest in this context, where each doubleword of a normal frame is the frame's number, with this vCPU selected, where a secure frame is free or none is
+abbrev pub deed_selecting : Ctx → ℕ → Guest → Bool → Cmd → Deed
+deed_selecting before vid g free cmd = deed_guest small_plan g (λ n offset. n) free (record { before = before; lpid = 1; vid = vid; last = Nothing; hand = []; register = 0 }) cmd
+
+-- its answer
 abbrev pub answer_selecting : Ctx → ℕ → Guest → Bool → Cmd → Answer
-answer_selecting before vid g free cmd = (deed_guest small_plan g (λ n offset. n) free (record { before = before; lpid = 1; vid = vid; last = Nothing; hand = []; register = 0 }) cmd).answer
+answer_selecting before vid g free cmd = (deed_selecting before vid g free cmd).answer
 
 -- with vCPU 0 selected
 abbrev pub answer_at : Ctx → Guest → Bool → Cmd → Answer
@@ -83,6 +90,48 @@ guest_with_one_vcpu = record (start_guest small_plan 1) { part = record (start_p
 -- what UV_RETURN answers there, by the vCPU that is selected
 abbrev pub ReturnsToSelected : Type 0
 ReturnsToSelected = map (λ vid. answer_selecting ctx.Hv vid guest_with_one_vcpu true (return_with 0)) (0 ∷ 1 ∷ 2 ∷ []) ≡ Ret UInvalid ∷ Enter ∷ Ret UInvalid ∷ []
+
+-- states of a vCPU that is to try its instruction again, and of one that waits in a call of its own
+abbrev pub faulted_states : List VState
+faulted_states = Parked (Fault 1) ∷ Parked (Victim 1) ∷ []
+
+abbrev pub called_states : List VState
+called_states = Parked (pending.Share 1) ∷ Parked (pending.Unshare 1) ∷ Parked (pending.UnshareAll 1) ∷ Parked EsmStart ∷ Parked (EsmNeed 1) ∷ Parked EsmDone ∷ []
+
+-- vCPU 0 of guest 1 in its first generation
+abbrev pub first_vcpu : Run
+first_vcpu = record { lpid = 1; vid = 0; generation = 1 }
+
+-- the context after UV_RETURN to vCPU 0 of a guest that is Secure
+abbrev pub context_returned : VState → Ctx
+context_returned state = (deed_selecting ctx.Hv 0 (guest_in phase.Secure invalid_page state) true (return_with 0)).after
+
+-- the registers of a vCPU that is taken up with R0 of 9 and R2 of 0x500, and had these before
+abbrev pub registers_before : Regs
+registers_before = record { gpr = replicate 32 7; nip = 0x100; srr0 = 0x20 }
+
+abbrev pub registers_returned : VState → Regs
+registers_returned state =
+    registers_of_hypervisor (record (guest_in phase.Secure invalid_page state) { registers = λ vid. registers_before }) 0 Enter (UReturn 9 0x500 (replicate 9 8)) 0
+
+-- what UV_RETURN does with a vCPU in these states
+pub record ReturnsToEach : Type 0 where
+  -- it takes the vCPU up in a guest that is Starting or Secure
+  pub answers :
+      map (λ phase. map (λ state. answer_at ctx.Hv (guest_in phase invalid_page state) true (return_with 0)) (faulted_states ++ called_states)) phases
+      ≡ replicate 2 (replicate 8 (Ret UInvalid)) ++ (replicate 2 (replicate 8 Enter) ++ replicate 8 (Ret UInvalid) ∷ [])
+  -- which goes on as a guest, and in its call
+  pub guests : map context_returned (Fresh ∷ Parked Irq ∷ Parked (pending.Hcall 8) ∷ faulted_states) ≡ replicate 5 (ctx.Guest first_vcpu)
+  pub calls :
+      map context_returned called_states
+      ≡ ctx.Uv (work.Share first_vcpu) ∷ ctx.Uv (work.Unshare first_vcpu) ∷ ctx.Uv (work.UnshareAll first_vcpu) ∷ replicate 3 (ctx.Uv (work.Esm first_vcpu))
+  -- no register of R0 to R31 takes anything, R2 interrupts it as a guest, and counts for nothing in its call
+  pub interrupted : map registers_returned (Fresh ∷ Parked Irq ∷ faulted_states) ≡ replicate 4 (record registers_before { nip = 0x500; srr0 = 0x100 })
+  pub kept : map registers_returned called_states ≡ replicate 6 registers_before
+  -- a step of its call is none of its context yet
+  pub steps :
+      map (λ call. answer_at (ctx.Uv call) (guest_in phase.Secure invalid_page (Running 1)) true Go) (work.Share first_vcpu ∷ work.Unshare first_vcpu ∷ work.UnshareAll first_vcpu ∷ work.Esm first_vcpu ∷ [])
+      ≡ replicate 4 Context
 
 -- the answers of a call that moves a page in a guest of this phase, one for each of these pages
 abbrev pub answers_in : Phase → List Page → Bool → Cmd → List Answer
@@ -178,6 +227,7 @@ pub record SlotsByPhase : Type 0 where
 pub record TablesByPhase : Type 0 where
   pub returns : ReturnsByPhase
   pub selected : ReturnsToSelected
+  pub each : ReturnsToEach
   pub page_out : PageOutByPhase
   pub page_in : PageInByPhase
   pub yet : NotHereYet

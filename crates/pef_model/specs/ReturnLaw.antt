@@ -18,11 +18,12 @@ use Rattle.pef_model.specs.Target.{vcpu_in}
 use Rattle.pef_model.specs.Hypercalls.{IsTable, row_of}
 use Rattle.pef_model.specs.Guest.{answered_by}
 use Rattle.pef_model.specs.Script.{Line}
-use Rattle.pef_model.specs.History.{IsLegal, part_after}
+use Rattle.pef_model.specs.Deed.{taken_up_in}
+use Rattle.pef_model.specs.History.{Extends, IsLegal, part_after}
 use Rattle.pef_model.specs.RunLaw.{line_at, return_with, answers_of}
 use Rattle.pef_model.specs.StepLaw.{TakesUp, IsInterrupted, registers_of}
 use Rattle.pef_model.specs.SearchLaw.{IsStep}
-use Rattle.pef_model.specs.TransitionLaw.{is_vcpu}
+use Rattle.pef_model.specs.TransitionLaw.{is_vcpu, state_after}
 
 -- R3 is the answer, the outputs are the hypervisor's values in their order, and every other register of R0 to R31 is as it was
 pub record TakesOutputsAlone (row : Row) (r0 : ℕ) (outs old new : List ℕ) : Type 0 where
@@ -66,6 +67,12 @@ EachCallComesBack =
     (plan : Plan) (past since : List Event) (call back : Event) (run : Run) (n r0 r2 : ℕ) (outs : List ℕ) →
     IsLegal plan (back ∷ since ++ call ∷ past) → Answers plan past since call back run n r0 r2 outs →
     ComesBack n r0 r2 outs (registers_of plan past run.lpid run.vid) (registers_of plan (back ∷ since ++ call ∷ past) run.lpid run.vid)
+
+-- a vCPU that UV_RETURN takes up goes on under its guest's generation: in the call in which it waits, and as a guest where it waits in none
+abbrev pub EachReturnGoesOn : Type 0
+EachReturnGoesOn =
+    (plan : Plan) (past : List Event) (e : Event) (lpid vid r0 r2 : ℕ) (outs : List ℕ) → Extends plan past e → TakesUp lpid vid r0 r2 outs e →
+    e.saw.after ≡ taken_up_in (state_after plan past lpid vid) (record { lpid = lpid; vid = vid; generation = (part_after plan past lpid).generation })
 
 -- a guest reads from its console on CPU 0, and has its answer and three outputs on CPU 1, while CPU 0 returns to it too
 abbrev pub return_lines : List Line

@@ -29,9 +29,10 @@ is_in_progress ctx.Hv = false
 is_in_progress (ctx.Uv work) = true
 is_in_progress (ctx.Guest run) = false
 
--- whether nothing can be done at present
+-- whether nothing can be done at present, or no step of the call is here yet
 abbrev pub is_again : Answer → Bool
 is_again answer.Again = true
+is_again answer.Context = true
 is_again a = false
 
 -- whether go* ends with an entry: no call is in progress after it, or nothing can be done at present

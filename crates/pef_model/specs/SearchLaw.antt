@@ -24,7 +24,7 @@ use Rattle.pef_model.specs.GuestPart.{page_of, is_private, ends_guest}
 use Rattle.pef_model.specs.Guest.{Guest, next_word}
 use Rattle.pef_model.specs.Hypercalls.{row_of}
 use Rattle.pef_model.specs.History.{guest_after, last_store, reg, Extends, IsLegal}
-use Rattle.pef_model.specs.StepLaw.{goes_on, goes_on_at, registers_of}
+use Rattle.pef_model.specs.StepLaw.{goes_on, goes_on_at, r2_for, registers_of}
 
 -- what a step decides, by the normal frame and the bytes that it tells: a store of the guest to the address, in no frame, what was in its register
 abbrev pub step_decides : Plan → ℕ → ℕ → List Event → Ctx → Cmd → Answer → Option ℕ → List ℕ → Option ℕ
@@ -89,20 +89,25 @@ assigned_in (ctx.Guest run) g selected vid cmd a r = if vid == run.vid then assi
 abbrev pub decides_register : Plan → ℕ → ℕ → ℕ → List Event → Event → Option ℕ
 decides_register plan lpid vid r past e = if touches_guest plan lpid e then assigned_in e.saw.before (guest_after plan lpid past) e.saw.vid vid e.trace.cmd e.trace.answer r else None
 
+-- the address that a call that comes back to a vCPU gives its next instruction: the one after this
+abbrev pub next_by_work : Option Run → ℕ → ℕ → Answer → Option ℕ
+next_by_work (Some run) vid nip (answer.Ret code) = if vid == run.vid then Some ((nip + 4) % 2 ^ 64) else None
+next_by_work caller vid nip a = None
+
 -- the address that an entry gives the next instruction of a vCPU: the one after, R2 of UV_RETURN, 0 where the guest ends
 abbrev pub next_in : Ctx → Guest → ℕ → ℕ → Cmd → Answer → Option ℕ
 next_in ctx.Hv g selected vid (UPate lpid dw0 dw1) (answer.Ret code) = if ends_guest code dw1 then Some 0 else None
 next_in ctx.Hv g selected vid (UReturn r0 r2 outs) answer.Enter =
-    if vid == selected then Some (if r2 == 0 then goes_on_at (g.part.vcpus vid).state (g.registers vid).nip else r2) else None
+    if vid == selected then Some (if r2_for (g.part.vcpus vid).state r2 == 0 then goes_on_at (g.part.vcpus vid).state (g.registers vid).nip else r2_for (g.part.vcpus vid).state r2) else None
 next_in ctx.Hv g selected vid cmd a = None
-next_in (ctx.Uv work) g selected vid cmd a = None
+next_in (ctx.Uv work) g selected vid cmd a = next_by_work (caller work) vid (g.registers vid).nip a
 next_in (ctx.Guest run) g selected vid cmd a = if (vid == run.vid) && goes_on cmd a then Some (((g.registers vid).nip + 4) % 2 ^ 64) else None
 
--- what an entry gives SRR0: where the vCPU would have gone on, where R2 of UV_RETURN isn't 0, and 0 where the guest ends
+-- what an entry gives SRR0: where the vCPU would have gone on, where R2 of UV_RETURN counts and isn't 0, and 0 where the guest ends
 abbrev pub interrupted_in : Ctx → Guest → ℕ → ℕ → Cmd → Answer → Option ℕ
 interrupted_in ctx.Hv g selected vid (UPate lpid dw0 dw1) (answer.Ret code) = if ends_guest code dw1 then Some 0 else None
 interrupted_in ctx.Hv g selected vid (UReturn r0 r2 outs) answer.Enter =
-    if (vid == selected) && not (r2 == 0) then Some (goes_on_at (g.part.vcpus vid).state (g.registers vid).nip) else None
+    if (vid == selected) && not (r2_for (g.part.vcpus vid).state r2 == 0) then Some (goes_on_at (g.part.vcpus vid).state (g.registers vid).nip) else None
 interrupted_in before g selected vid cmd a = None
 
 -- the same of an entry of a guest

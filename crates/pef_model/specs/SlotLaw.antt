@@ -1,5 +1,5 @@
 -- Memory slots, computed: what a page in no slot meets, and each code of the calls for slots.
-use Rattle.std.specs.Prelude.{◌≡◌, List, [], ◌∷◌, ◌++◌}
+use Rattle.std.specs.Prelude.{◌≡◌, List, [], ◌∷◌}
 use Rattle.pef_model.specs.declared.command.Code.TheVariants.{USuccess, UParameter, UP2, UP3, UP4, UP5}
 use Rattle.pef_model.specs.declared.command.Cmd.TheVariants.{URegslot, UUnregslot, GLi, GLd, GSt}
 use Rattle.pef_model.specs.declared.entry.Answer.TheVariants.{Done, Val, Ret, Enter, Hole}

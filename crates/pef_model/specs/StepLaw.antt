@@ -77,17 +77,24 @@ own_given_in (ctx.Guest run) cmd a shown r = given_by_leaving a shown r
 abbrev pub own_given : Event → ℕ → Option ℕ
 own_given e r = own_given_in e.saw.before e.trace.cmd e.trace.answer e.saw.shown r
 
--- the guest that is selected after a step: the one that the hypervisor selects, or that ran where it leaves
+-- the guest and the vCPU that are selected after a step of this vCPU: its own where it leaves
+abbrev pub lpid_selected : Option Run → Answer → ℕ → ℕ
+lpid_selected (Some run) (answer.Exit exit) old = run.lpid
+lpid_selected vcpu a old = old
+
+abbrev pub vid_selected : Option Run → Answer → ℕ → ℕ
+vid_selected (Some run) (answer.Exit exit) old = run.vid
+vid_selected vcpu a old = old
+
+-- the guest that is selected after a step: the one that the hypervisor selects, or that of the vCPU that leaves
 abbrev pub selected_lpid : Ctx → Cmd → Answer → ℕ → ℕ
-selected_lpid (ctx.Guest run) cmd (answer.Exit exit) old = run.lpid
 selected_lpid ctx.Hv (HSelect lpid vid) answer.Done old = lpid
-selected_lpid before cmd a old = old
+selected_lpid before cmd a old = lpid_selected (vcpu_in before) a old
 
 -- the vCPU that is selected after a step
 abbrev pub selected_vid : Ctx → Cmd → Answer → ℕ → ℕ
-selected_vid (ctx.Guest run) cmd (answer.Exit exit) old = run.vid
 selected_vid ctx.Hv (HSelect lpid vid) answer.Done old = vid
-selected_vid before cmd a old = old
+selected_vid before cmd a old = vid_selected (vcpu_in before) a old
 
 -- what a hypercall lets out that leaves with these registers: its number, and the inputs of the number's row
 abbrev pub let_out_calling : List ℕ → Option Row → List ℕ
@@ -172,6 +179,16 @@ abbrev pub goes_on_at : VState → ℕ → ℕ
 goes_on_at (vstate.Parked (pending.Hcall n)) nip = (nip + 4) % 2 ^ 64
 goes_on_at state nip = nip
 
+-- R2 of UV_RETURN as it counts for a vCPU in this state: where the vCPU goes back into its call, R2 has no effect
+abbrev pub r2_for : VState → ℕ → ℕ
+r2_for (vstate.Parked (pending.Share gfn)) r2 = 0
+r2_for (vstate.Parked (pending.Unshare gfn)) r2 = 0
+r2_for (vstate.Parked (pending.UnshareAll gfn)) r2 = 0
+r2_for (vstate.Parked pending.EsmStart) r2 = 0
+r2_for (vstate.Parked (pending.EsmNeed gfn)) r2 = 0
+r2_for (vstate.Parked pending.EsmDone) r2 = 0
+r2_for state r2 = r2
+
 -- what R2 of UV_RETURN makes of the registers of a vCPU that goes on at an address, beside R0 to R31
 pub record IsInterrupted (r2 address : ℕ) (old new : Regs) : Type 0 where
   -- the next instruction is at the address in R2 where that isn't 0
@@ -183,10 +200,12 @@ pub record IsInterrupted (r2 address : ℕ) (old new : Regs) : Type 0 where
 abbrev pub registers_of : Plan → List Event → ℕ → ℕ → Regs
 registers_of plan past lpid vid = (guest_after plan lpid past).registers vid
 
--- whether UV_RETURN gives a vCPU in this state no value: it hasn't run yet, or an interrupt took it from its CPU
+-- whether UV_RETURN gives a vCPU in this state no value: it hasn't run yet, or waits in a secure guest for something else than the answer of a hypercall
 abbrev pub takes_nothing : VState → Bool
 takes_nothing vstate.Fresh = true
-takes_nothing (vstate.Parked pending.Irq) = true
+takes_nothing (vstate.Parked pending.Exit) = false
+takes_nothing (vstate.Parked (pending.Hcall n)) = false
+takes_nothing (vstate.Parked waits) = true
 takes_nothing other = false
 
 -- what holds of a guest while no step but of its own vCPUs, and the UV_RETURN that takes one up, changes a register: it has one generation, and isn't Starting
@@ -202,10 +221,10 @@ IsAnswered plan past lpid vid value e = Enters lpid vid value e × (((guest_afte
 pub record LeavesRegisters (plan : Plan) (past : List Event) (e : Event) (lpid vid : ℕ) : Type 0 where
   -- its own step moves it on
   pub own : (run : Run) → IsStepOf lpid vid run e → Steps e.trace.cmd e.trace.answer (registers_of plan past lpid vid) (registers_of plan (e ∷ past) lpid vid)
-  -- UV_RETURN that takes it up lets it go on, or interrupts it
+  -- UV_RETURN that takes it up lets it go on, or interrupts it where it goes on as a guest
   pub taken :
       (r0 r2 : ℕ) (outs : List ℕ) → TakesUp lpid vid r0 r2 outs e →
-      IsInterrupted r2 (goes_on_at ((guest_after plan lpid past).part.vcpus vid).state (registers_of plan past lpid vid).nip) (registers_of plan past lpid vid) (registers_of plan (e ∷ past) lpid vid)
+      IsInterrupted (r2_for ((guest_after plan lpid past).part.vcpus vid).state r2) (goes_on_at ((guest_after plan lpid past).part.vcpus vid).state (registers_of plan past lpid vid).nip) (registers_of plan past lpid vid) (registers_of plan (e ∷ past) lpid vid)
   -- h.enter that gives its hypercall an answer gives R3 the value, and leaves the others
   pub answered : (value : ℕ) → IsAnswered plan past lpid vid value e → registers_of plan (e ∷ past) lpid vid ≡ record (registers_of plan past lpid vid) { gpr = slice_set (registers_of plan past lpid vid).gpr 3 value }
   -- UV_WRITE_PATE that ends its guest leaves each register of it zero

@@ -5,7 +5,7 @@ use Rattle.pef_model.specs.declared.state.Way.TheVariants as way
 use Rattle.pef_model.specs.declared.state.Move.{Move}
 use Rattle.pef_model.specs.declared.state.Run.{Run}
 use Rattle.pef_model.specs.declared.state.Work.{Work}
-use Rattle.pef_model.specs.declared.state.Work.TheVariants.{Inward, Outward}
+use Rattle.pef_model.specs.declared.state.Work.TheVariants.{Inward, Outward, Share, Unshare, UnshareAll, Esm}
 use Rattle.pef_model.specs.declared.state.Ctx.{Ctx}
 use Rattle.pef_model.specs.declared.state.Ctx.TheVariants as ctx
 use Rattle.pef_model.specs.declared.aim.Aim.{Aim}
@@ -23,7 +23,7 @@ is_hypervisor ctx.Hv = true
 is_hypervisor (ctx.Uv work) = false
 is_hypervisor (ctx.Guest run) = false
 
--- whether a command is one of a context
+-- whether a command is one of a context; of a guest's call in progress no step is here yet
 abbrev pub is_command_in : Ctx → Cmd → Bool
 is_command_in ctx.Hv (HLd ra) = true
 is_command_in ctx.Hv (HSt ra value) = true
@@ -36,7 +36,8 @@ is_command_in ctx.Hv (UPagein lpid src gpa flags order) = true
 is_command_in ctx.Hv (UPageout lpid dest gpa flags order) = true
 is_command_in ctx.Hv (UReturn r0 r2 outs) = true
 is_command_in ctx.Hv (Dump reg) = true
-is_command_in (ctx.Uv work) Go = true
+is_command_in (ctx.Uv (Inward move)) Go = true
+is_command_in (ctx.Uv (Outward move)) Go = true
 is_command_in (ctx.Guest run) (UPate lpid dw0 dw1) = true
 is_command_in (ctx.Guest run) (URegslot lpid start size flags id) = true
 is_command_in (ctx.Guest run) (UUnregslot lpid id) = true
@@ -68,6 +69,10 @@ work_by way.Outward move = Outward move
 abbrev pub caller : Work → Option Run
 caller (Inward move) = None
 caller (Outward move) = None
+caller (Share run) = Some run
+caller (Unshare run) = Some run
+caller (UnshareAll run) = Some run
+caller (Esm run) = Some run
 
 -- the vCPU whose step it is: the one that runs, or the one whose call is in progress
 abbrev pub vcpu_in : Ctx → Option Run
@@ -90,10 +95,11 @@ abbrev pub is_copying : Ctx → Cmd → Answer → Bool
 is_copying (ctx.Uv (Outward move)) Go answer.Step = true
 is_copying before cmd a = false
 
--- whether the next step of a call in progress uses the page in its CPU's hand: those of a page-out do, and the end of a page-in
+-- whether the next step of a call in progress uses the page in its CPU's hand: those of a page-out do, the end of a page-in, and none of a guest's call
 abbrev pub work_uses_hand : Work → Bool
 work_uses_hand (Inward move) = move.copied
 work_uses_hand (Outward move) = true
+work_uses_hand work = false
 
 -- whether a step uses the page in its CPU's hand
 abbrev pub uses_hand : Ctx → Cmd → Bool
@@ -157,7 +163,7 @@ aim_of_hypervisor selected (UPageout lpid dest gpa flags order) = aim.NamedGuest
 aim_of_hypervisor selected (UReturn r0 r2 outs) = aim.Guest selected
 aim_of_hypervisor selected cmd = aim.Nothing
 
--- the next step of a call in progress aims at the page that moves, and every other command at nothing
+-- the next step of a page's move aims at the page, and every other command at nothing
 abbrev pub aim_of_work : Work → Cmd → Aim
 aim_of_work (Inward move) Go = aim.Move move
 aim_of_work (Outward move) Go = aim.Move move

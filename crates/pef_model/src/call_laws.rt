@@ -2,7 +2,7 @@
 
 ghost use Rattle.pef_model.specs.TableLaw.{NumbersHaveTheirRows, OtherNumbersHaveNone};
 ghost use Rattle.pef_model.specs.ScrubLaw.{EachRowShowsInputsAlone, EachHypercallShowsInputsAlone, SameInputsShowTheSame};
-ghost use Rattle.pef_model.specs.ReturnLaw.{EachRowTakesOutputsAlone, EachCallComesBack, ACallComesBack};
+ghost use Rattle.pef_model.specs.ReturnLaw.{EachRowTakesOutputsAlone, EachCallComesBack, EachReturnGoesOn, ACallComesBack};
 ghost use Rattle.pef_model.specs.CallLaw.{AnswersExactlyWhere};
 ghost use Rattle.pef_model.specs.RandomLaw.{WordsAreGivenInOrder, EachWordIsGivenOnce, NoWordInDeeds, AWordIsGiven, AWordStaysIn};
 
@@ -41,6 +41,12 @@ pub fn each_row_takes_outputs_alone()
 /// answer and its outputs alone, and it goes on after the call.
 pub fn each_call_comes_back()
     ensures { EachCallComesBack }
+{}
+
+/// A vCPU that UV_RETURN takes up goes on in the call in which it waits, and as a guest where it waits in none, under its guest's
+/// generation.
+pub fn each_return_goes_on()
+    ensures { EachReturnGoesOn }
 {}
 
 /// A guest's hypercall is answered on another CPU, and it finds the answer, the outputs, and what else it had.

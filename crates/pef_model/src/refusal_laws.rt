@@ -48,7 +48,7 @@ pub fn pages_of_512_bytes()
 {}
 
 /// What UV_RETURN, UV_PAGE_OUT, UV_PAGE_IN and a load answer, and what an access meets, in a guest of each phase with a page of
-/// each kind; also where no script brings a guest or a page there.
+/// each kind, and what UV_RETURN does by what the vCPU waits for; also where no script brings a guest, a page or a vCPU there.
 pub fn tables_by_phase()
     ensures { TablesByPhase }
 {}

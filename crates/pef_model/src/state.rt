@@ -78,6 +78,22 @@ pub enum Pending {
     Hcall(u8),
     /// An interrupt took it from its CPU.
     Irq,
+    /// The page of this number, which its access met and which is Out.
+    Fault(u32),
+    /// The page of this number to go out, so that a secure frame is free for its access.
+    Victim(u32),
+    /// In UV_SHARE_PAGE, a normal frame for the page of this number.
+    Share(u32),
+    /// In UV_UNSHARE_PAGE, the hypervisor to give up the page of this number.
+    Unshare(u32),
+    /// In UV_UNSHARE_ALL_PAGES, the hypervisor to give up the page of this number.
+    UnshareAll(u32),
+    /// In UV_ESM, H_SVM_INIT_START.
+    EsmStart,
+    /// In UV_ESM, the page of this number.
+    EsmNeed(u32),
+    /// In UV_ESM, H_SVM_INIT_DONE.
+    EsmDone,
 }
 
 /// The state of a vCPU.
@@ -137,6 +153,14 @@ pub enum Work {
     Inward(Move),
     /// UV_PAGE_OUT: the page moves into normal memory.
     Outward(Move),
+    /// UV_SHARE_PAGE of this vCPU.
+    Share(Run),
+    /// UV_UNSHARE_PAGE of this vCPU.
+    Unshare(Run),
+    /// UV_UNSHARE_ALL_PAGES of this vCPU.
+    UnshareAll(Run),
+    /// UV_ESM of this vCPU.
+    Esm(Run),
 }
 
 /// What a CPU is doing.

@@ -1,7 +1,7 @@
 //! A vCPU's registers through one hypercall and back, with values chosen here.
 
 use super::*;
-use pef_model::{Cmd, Code, Pending, Reg, Row, RowKind, VState};
+use pef_model::{Cmd, Code, Ctx, Pending, Reg, Row, RowKind, Run, VState, Work};
 
 const GET_TERM_CHAR: Row = Row {
     number: 11,
@@ -52,4 +52,40 @@ fn an_answer_is_for_the_call_alone(rt: HostRuntime) {
     assert_eq!(rt; vcpu.regs.gpr[5], 8);
     registers::give_code(&mut vcpu.regs.gpr, Code::UBusy);
     assert_eq!(rt; vcpu.regs.gpr[3], 7);
+}
+
+/// A vCPU that waits for this.
+fn parked(pending: Pending) -> Vcpu {
+    let mut vcpu = Vcpu::new(VState::Fresh);
+    vcpu.park(pending);
+    vcpu
+}
+
+#[test]
+fn a_call_goes_on_where_it_left(rt: HostRuntime) {
+    let run = Run {
+        lpid: 3,
+        vid: 1,
+        generation: 2,
+    };
+    assert!(rt; parked(Pending::Share(5)).goes_on_in(run) == Ctx::Uv(Work::Share(run)));
+    assert!(rt; parked(Pending::Unshare(5)).goes_on_in(run) == Ctx::Uv(Work::Unshare(run)));
+    assert!(rt; parked(Pending::UnshareAll(5)).goes_on_in(run) == Ctx::Uv(Work::UnshareAll(run)));
+    assert!(rt; parked(Pending::EsmStart).goes_on_in(run) == Ctx::Uv(Work::Esm(run)));
+    assert!(rt; parked(Pending::EsmNeed(5)).goes_on_in(run) == Ctx::Uv(Work::Esm(run)));
+    assert!(rt; parked(Pending::EsmDone).goes_on_in(run) == Ctx::Uv(Work::Esm(run)));
+    assert!(rt; parked(Pending::EsmNeed(5)).is_waiting());
+    assert_eq!(rt; parked(Pending::Share(5)).address_for(0x500), 0);
+}
+
+#[test]
+fn an_access_is_tried_again(rt: HostRuntime) {
+    let run = Run {
+        lpid: 3,
+        vid: 1,
+        generation: 2,
+    };
+    assert!(rt; parked(Pending::Fault(5)).goes_on_in(run) == Ctx::Guest(run));
+    assert!(rt; parked(Pending::Victim(5)).is_waiting());
+    assert_eq!(rt; parked(Pending::Victim(5)).address_for(0x500), 0x500);
 }

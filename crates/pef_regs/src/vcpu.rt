@@ -1,13 +1,14 @@
 //! A vCPU waits, runs, and waits again where it has left, with its registers.
 
 ghost use Rattle.std.specs.Prelude.{◌≡◌, IfSome, slice_index, slice_set};
-ghost use Rattle.pef_model.specs.Guest.{entered_at, answered_by, answered_with, at_next_instruction};
-ghost use Rattle.pef_model.specs.Deed.{is_waiting};
+ghost use Rattle.pef_model.specs.GuestPart.{call_of_state};
+ghost use Rattle.pef_model.specs.Guest.{entered_at, address_for, answered_by, answered_with, at_next_instruction};
+ghost use Rattle.pef_model.specs.Deed.{is_waiting, taken_up_in};
 ghost use Rattle.pef_model.specs.Entry.{can_be_entered};
 ghost use Rattle.pef_model.specs.Hypercalls.{IsRow};
 
 use crate::registers;
-use pef_model::{Pending, Reg, Regs, Row, VState};
+use pef_model::{Ctx, Pending, Reg, Regs, Row, Run, VState, Work};
 
 /// A vCPU of a guest.
 #[derive(Clone, Copy)]
@@ -43,9 +44,34 @@ impl Vcpu {
         ensures { result ≡ is_waiting self.now.state }
     {
         match self.state {
-            VState::Fresh | VState::Parked(Pending::Irq) | VState::Parked(Pending::Hcall(_)) =>
-                true,
             VState::Idle | VState::Running(_) | VState::Parked(Pending::Exit) => false,
+            VState::Fresh | VState::Parked(_) => true,
+        }
+    }
+
+    /// In what context it goes on once UV_RETURN has taken it up, as this vCPU of its guest: in the call in which it waits, and as
+    /// a guest where it waits in none.
+    pub fn goes_on_in(&self, run: Run) -> Ctx
+        ensures { result ≡ taken_up_in self.now.state run }
+    {
+        match self.state {
+            VState::Parked(Pending::Share(_)) => Ctx::Uv(Work::Share(run)),
+            VState::Parked(Pending::Unshare(_)) => Ctx::Uv(Work::Unshare(run)),
+            VState::Parked(Pending::UnshareAll(_)) => Ctx::Uv(Work::UnshareAll(run)),
+            VState::Parked(Pending::EsmStart | Pending::EsmDone) => Ctx::Uv(Work::Esm(run)),
+            VState::Parked(Pending::EsmNeed(_)) => Ctx::Uv(Work::Esm(run)),
+            _ => Ctx::Guest(run),
+        }
+    }
+
+    /// R2 of UV_RETURN as it counts for it: none where it goes back into its call.
+    pub fn address_for(&self, r2: u64) -> u64
+        ensures { result ≡ address_for (call_of_state self.now.state) r2 }
+    {
+        match self.state {
+            VState::Parked(Pending::Share(_) | Pending::Unshare(_) | Pending::UnshareAll(_)) => 0,
+            VState::Parked(Pending::EsmStart | Pending::EsmNeed(_) | Pending::EsmDone) => 0,
+            _ => r2,
         }
     }
 
