@@ -25,7 +25,7 @@ use Rattle.pef_model.specs.declared.entry.Answer.TheVariants as answer
 use Rattle.pef_model.specs.Commands.{IsCommand}
 use Rattle.pef_model.specs.Plan.{Plan}
 use Rattle.pef_model.specs.Event.{Event, Mark}
-use Rattle.pef_model.specs.Target.{Alone, AtGuest, AtFrame, frame_of, has_real_place, is_guest, target_in, aim_in, aim_of_hypervisor, aim_of_work, aim_of_running, target_of_aim}
+use Rattle.pef_model.specs.Target.{Alone, AtGuest, AtFrame, frame_of, has_real_place, is_guest, target_in, aim_in, aim_of_hypervisor, aim_of_work, aim_of_running, target_of_aim, caller}
 use Rattle.pef_model.specs.Cpu.{CpuPart}
 use Rattle.pef_model.specs.Guest.{Guest as GuestWhole}
 use Rattle.pef_model.specs.Deed.{deed_guest}
@@ -37,11 +37,11 @@ use Rattle.pef_guest.specs.declared.cpu.Cpu.{Cpu}
 use Rattle.pef_guest.specs.declared.guest.Guest.{Guest}
 use Rattle.pef_guest.specs.Keeps.{KeepsLife, KeepsMovers}
 use Rattle.pef_guest.specs.Aims.{guest_aimed, changes_life, guest_of}
-use Rattle.pef_guest.specs.Ready.{MayEnd, HasRoomFor, ReadyIn, RoomIn, IsReadyFor, IsReadyPool, WorksAt}
+use Rattle.pef_guest.specs.Ready.{MayEnd, HasRoomFor, ReadyIn, RoomIn, IsReadyFor, IsReadyPool, RunsAt, WorksAt}
 use Rattle.pef_guest.specs.Refused.{RefusesCpu, RefusesGuest, SameGuest, BackWith, IsGone, Refuses}
 use Rattle.pef_guest.specs.Does.{is_any_free, entry_at_guest, NormalPart, DoesLent}
 use Rattle.pef_core.specs.Normal.{NormalState}
-use Rattle.pef_core.specs.State.{State, IsVcpu, HasVcpu, MayRun, IsMoveOf, IsWholeMachine, Works}
+use Rattle.pef_core.specs.State.{State, IsVcpu, HasVcpu, MayRun, Runs, IsMoveOf, IsWholeMachine, Works}
 use Rattle.pef_core.specs.Steps.{Continues}
 use Rattle.pef_core.specs.Refused.{OnCpu, ChangesGuest, RefusesPage, LeavesRest}
 use Rattle.pef_core.specs.Does.{Targets, DoesStep}
@@ -133,6 +133,7 @@ in_range plan guests normal n l vid c cmd k count selects works is = by_aim (aim
   by_context ctx.Hv works = hypervisor_in (length guests) l cmd (of_vcpu l vid selects)
   by_context (ctx.Uv (Inward move)) works = work_in (length guests) (Inward move) move cmd (inl refl) (works.least, move_below guests normal (record { cpu = n; way = way.Inward }) move works)
   by_context (ctx.Uv (Outward move)) works = work_in (length guests) (Outward move) move cmd (inr refl) (works.least, move_below guests normal (record { cpu = n; way = way.Outward }) move works)
+  by_context (ctx.Uv work) works = tt
   by_context (ctx.Guest run) works = running_in (length guests) run.lpid cmd (of_vcpu run.lpid run.vid works.0)
 
   by_aim : (a : Aim) → IsIn (length guests) a → target_of_aim plan a ≡ AtGuest k → IsGuestIn (length guests) k
@@ -172,6 +173,7 @@ module _ {S : Type 0} (takes : S → ℕ → ℕ → Type 0) (old : State S) (n 
   )
   ready_in (ctx.Uv (Inward move)) at works = of_move way.Inward move (moves_in move cpu.lpid (i + 1) cmd at) works
   ready_in (ctx.Uv (Outward move)) at works = of_move way.Outward move (moves_out move cpu.lpid (i + 1) cmd at) works
+  ready_in (ctx.Uv work) at works = absurd cc
   ready_in (ctx.Guest run) at works =
       let is : run.lpid ≡ i + 1 = runs_at run cpu.lpid (i + 1) cmd at in
       let place : run.lpid - 1 ≡ i = omega arith in
@@ -217,17 +219,23 @@ module _ {S : Type 0} (takes : S → ℕ → ℕ → Type 0) (old : State S) (n 
           has = subst (λ (o : Option (Guest S)). HasVcpu o vid) (sym (get_set old.guests i guest new_guest s.here) ∙ ap (slice_get (slice_set old.guests i new_guest)) place) below;
         }
 
+    -- and so is one that runs or whose call is in progress
+    runs_on : (runs : Option Run) → RunsAt new_guest runs → Runs (slice_set old.guests i new_guest) runs
+    runs_on None h = tt
+    runs_on (Some run) h =
+        let is : run.lpid ≡ i + 1 = h.0 ∙ lpid_is in
+        let place : i ≡ run.lpid - 1 = omega arith in
+        let life = h.1 in
+        (vcpu_here run.lpid run.vid h.0 h.2, subst (λ (o : Option (Guest S)). MayRun o run.generation) (sym (get_set old.guests i guest new_guest s.here) ∙ ap (slice_get (slice_set old.guests i new_guest)) place) (omega (arith, life), λ same. h.3))
+
     works_on : (c : Ctx) → WorksAt new_guest new_cpu c → Works (slice_set old.guests i new_guest) old.normal n c
     works_on ctx.Hv h = tt
     works_on (ctx.Uv (Inward move)) h =
         begun_move old.guests old.normal n cpu new_cpu i guest new_guest s.is_cpu does.keeps s.here way.Inward move s.is_guest.lpid s.is_guest.normal number h.lpid h.generation h.mover h.frame
     works_on (ctx.Uv (Outward move)) h =
         begun_move old.guests old.normal n cpu new_cpu i guest new_guest s.is_cpu does.keeps s.here way.Outward move s.is_guest.lpid s.is_guest.normal number h.lpid h.generation h.mover h.frame
-    works_on (ctx.Guest run) h =
-        let is : run.lpid ≡ i + 1 = h.0 ∙ lpid_is in
-        let place : i ≡ run.lpid - 1 = omega arith in
-        let life = h.1 in
-        (vcpu_here run.lpid run.vid h.0 h.2, subst (λ (o : Option (Guest S)). MayRun o run.generation) (sym (get_set old.guests i guest new_guest s.here) ∙ ap (slice_get (slice_set old.guests i new_guest)) place) (omega (arith, life), λ same. h.3))
+    works_on (ctx.Uv work) h = runs_on (caller work) h
+    works_on (ctx.Guest run) h = runs_on (Some run) h
 
     selects : ((new_cpu.lpid ≡ cpu.lpid) × (new_cpu.vid ≡ cpu.vid)) ⊎ ((new_cpu.lpid ≡ new_guest.lpid) × (new_cpu.vid < length new_guest.vcpus.items)) → IsVcpu (slice_set old.guests i new_guest) new_cpu.lpid new_cpu.vid
     selects (inl same) =
@@ -312,6 +320,7 @@ module _ {S : Type 0} (takes : S → ℕ → ℕ → Type 0) (old : State S) (n 
     leaves (ctx.Uv (Outward move)) at answer.Context h life kept = absurd h
     leaves (ctx.Uv (Inward move)) at b h life kept = tt
     leaves (ctx.Uv (Outward move)) at b h life kept = tt
+    leaves (ctx.Uv work) at b h life kept = absurd cc
     leaves (ctx.Guest run) at (answer.Ret code) h life kept = λ refusal. let refused = h refusal in guest_only (kept refl) run (runs_at run cpu.lpid (i + 1) cmd at) (λ g x. RefusesGuest run.vid g x code) refused.1 refused.0 refused.2
     leaves (ctx.Guest run) at answer.Hole h life kept = guest_only (kept refl) run (runs_at run cpu.lpid (i + 1) cmd at) SameGuest h.0 h.1.0 h.1.1
     leaves (ctx.Guest run) at answer.Again h life kept = guest_only (kept refl) run (runs_at run cpu.lpid (i + 1) cmd at) SameGuest h.0 h.1.0 h.1.1

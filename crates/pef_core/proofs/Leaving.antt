@@ -86,5 +86,7 @@ steps_aside n (ctx.Uv (Inward move)) cmd m new k (answer.Ret UP2) h = h
 steps_aside n (ctx.Uv (Inward move)) cmd m new k a h = h
 steps_aside n (ctx.Uv (Outward move)) cmd m new k (answer.Ret UParameter) h = h
 steps_aside n (ctx.Uv (Outward move)) cmd m new k a h = h
+steps_aside n (ctx.Uv work) cmd m new k (answer.Ret UParameter) h = h
+steps_aside n (ctx.Uv work) cmd m new k a h = h
 steps_aside n (ctx.Guest run) cmd m new k (answer.Ret code) h = h
 steps_aside n (ctx.Guest run) cmd m new k a h = h

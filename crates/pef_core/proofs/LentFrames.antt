@@ -54,6 +54,7 @@ nothing_written shift n bytes (ctx.Guest run) cmd a none = refl
 nothing_written shift n bytes (ctx.Uv (Inward move)) cmd a none = refl
 nothing_written shift n bytes (ctx.Uv (Outward move)) Go a none = refl
 nothing_written shift n bytes (ctx.Uv (Outward move)) cmd a none = refl
+nothing_written shift n bytes (ctx.Uv work) cmd a none = refl
 
 module _ (old new : NormalState) (left : List ℕ) where
   -- they are as many, and of one size

@@ -4,7 +4,7 @@ use Rattle.std.specs.Prelude.{slice_get, slice_set}
 use Rattle.std.proofs.Math.ListN.{length-set}
 use Rattle.std.proofs.lemmas.Bool.{and_parts}
 use Rattle.std.proofs.lemmas.Bool.Decides.{nat_tests}
-use Rattle.pef_model.specs.declared.state.Work.TheVariants.{Inward, Outward}
+use Rattle.pef_model.specs.declared.state.Work.TheVariants.{Inward, Outward, Share, Unshare, UnshareAll, Esm}
 use Rattle.pef_model.specs.declared.state.Ctx.{Ctx}
 use Rattle.pef_model.specs.declared.state.Ctx.TheVariants as ctx
 use Rattle.pef_model.specs.declared.state.Tag.{Tag}
@@ -101,6 +101,7 @@ frame_below guests normal plan k n l (ctx.Uv (Inward move)) Go count works at = 
 frame_below guests normal plan k n l (ctx.Uv (Inward move)) cmd count works at = absurd at
 frame_below guests normal plan k n l (ctx.Uv (Outward move)) Go count works at = subst (λ (x : ℕ). x < length normal.frames) (sym at.1) works.frame
 frame_below guests normal plan k n l (ctx.Uv (Outward move)) cmd count works at = absurd at
+frame_below guests normal plan k n l (ctx.Uv work) cmd count works at = absurd at
 frame_below guests normal plan k n l (ctx.Guest run) cmd count works at = absurd (no_running plan n l run cmd at)
 
 -- a copied move is still one of the machine's
@@ -108,12 +109,17 @@ works_copied : {S : Type 0} (guests : List (Guest S)) (normal : NormalState) (k 
 works_copied guests normal k ctx.Hv works = works
 works_copied guests normal k (ctx.Uv (Inward move)) works = record { least = works.least; moves = works.moves; frame = works.frame }
 works_copied guests normal k (ctx.Uv (Outward move)) works = record { least = works.least; moves = works.moves; frame = works.frame }
+works_copied guests normal k (ctx.Uv work) works = works
 works_copied guests normal k (ctx.Guest run) works = works
 
 pub unpooled : (plan : Plan) (n : ℕ) (bytes : List ℕ) (ask : Ask) (c : Ctx) (cmd : Cmd) → (deed_frame_in c plan n bytes ask cmd).pool ≡ None
 unpooled plan n bytes ask ctx.Hv cmd = refl
 unpooled plan n bytes ask (ctx.Uv (Inward move)) cmd = refl
 unpooled plan n bytes ask (ctx.Uv (Outward move)) cmd = refl
+unpooled plan n bytes ask (ctx.Uv (Share run)) cmd = refl
+unpooled plan n bytes ask (ctx.Uv (Unshare run)) cmd = refl
+unpooled plan n bytes ask (ctx.Uv (UnshareAll run)) cmd = refl
+unpooled plan n bytes ask (ctx.Uv (Esm run)) cmd = refl
 unpooled plan n bytes ask (ctx.Guest run) cmd = refl
 
 -- it is told by the entry
@@ -121,6 +127,7 @@ pub framed : (plan : Plan) (n l : ℕ) (bytes : List ℕ) (ask : Ask) (c : Ctx) 
 framed plan n l bytes ask ctx.Hv cmd is = refl
 framed plan n l bytes ask (ctx.Uv (Inward move)) cmd is = refl
 framed plan n l bytes ask (ctx.Uv (Outward move)) cmd is = refl
+framed plan n l bytes ask (ctx.Uv work) cmd is = absurd cc
 framed plan n l bytes ask (ctx.Guest run) cmd is = absurd (no_running plan n l run cmd (frame_of_aim plan n (aim_in (ctx.Guest run) l cmd) is))
 
 -- and the step is one at a frame
@@ -222,12 +229,9 @@ module _ {S : Type 0} (takes : S → ℕ → ℕ → Type 0) (old : State S) (n 
       frame_leaves ctx.Hv answer.Done h = tt
       frame_leaves ctx.Hv (answer.Val value) h = tt
       frame_leaves ctx.Hv answer.Step h = tt
-      frame_leaves (ctx.Uv (Inward move)) answer.Done h = tt
-      frame_leaves (ctx.Uv (Inward move)) (answer.Val value) h = tt
-      frame_leaves (ctx.Uv (Inward move)) answer.Step h = tt
-      frame_leaves (ctx.Uv (Outward move)) answer.Done h = tt
-      frame_leaves (ctx.Uv (Outward move)) (answer.Val value) h = tt
-      frame_leaves (ctx.Uv (Outward move)) answer.Step h = tt
+      frame_leaves (ctx.Uv work) answer.Done h = tt
+      frame_leaves (ctx.Uv work) (answer.Val value) h = tt
+      frame_leaves (ctx.Uv work) answer.Step h = tt
       frame_leaves (ctx.Guest run) answer.Done h = tt
       frame_leaves (ctx.Guest run) (answer.Val value) h = tt
       frame_leaves (ctx.Guest run) answer.Step h = tt

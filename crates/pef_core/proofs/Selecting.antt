@@ -14,7 +14,7 @@ use Rattle.pef_model.specs.Event.{Mark}
 use Rattle.pef_model.specs.Cpu.{CpuPart, next_cpu}
 use Rattle.pef_model.specs.Registers.{with_code}
 use Rattle.pef_model.specs.Target.{Ask}
-use Rattle.pef_model.specs.Deed.{answering, answer_alone, answer_select, deed_alone}
+use Rattle.pef_model.specs.Deed.{answering, answer_select, deed_alone}
 use Rattle.pef_model.specs.History.{entry_of, ask_of}
 use Rattle.pef_guest.specs.declared.cpu.Cpu.{Cpu}
 use Rattle.pef_guest.specs.Refused.{RefusesCpu}

@@ -22,7 +22,7 @@ use Rattle.pef_model.specs.Entry.{enter_code}
 use Rattle.pef_model.specs.declared.state.Phase.{Phase}
 use Rattle.pef_model.specs.declared.state.Phase.TheVariants as phase
 use Rattle.pef_guest.proofs.Deeds.{share_running, share_guest}
-use Rattle.pef_model.specs.Deed.{deed_interrupt, deed_guest_in, deed_gone, answering, returning, deed_running, deed_access, deed_return, deed_page_out, deed_page_out_begin, deed_enter, may_return_in, is_waiting}
+use Rattle.pef_model.specs.Deed.{deed_interrupt, deed_guest_in, deed_gone, answering, returning, deed_running, deed_access, deed_return, deed_page_out, deed_page_out_begin, deed_enter, may_return_in, is_waiting, taken_up_in}
 use Rattle.pef_guest.specs.declared.cpu.Cpu.{Cpu}
 use Rattle.pef_guest.specs.declared.guest.Guest.{Guest}
 use Rattle.pef_guest.specs.Aims.{guest_aimed, uses_pool, frame_met, frame_running}
@@ -46,7 +46,7 @@ store_asks plan run g found any ask rs gpa = access_asks ask answer.Done (λ n. 
 -- UV_RETURN asks for none
 pub return_asks_none : (g : GuestPart) (ask : Ask) → is_some (deed_return g ask).pool ≡ false
 return_asks_none g ask = by_test (may_return_in g.phase && is_waiting (g.vcpus ask.vid).state) where
-  by_test : (b : Bool) → is_some (if b then record (answering ask answer.Enter) { after = ctx.Guest (record { lpid = ask.lpid; vid = ask.vid; generation = g.generation }) } else answering ask (answer.Ret UInvalid)).pool ≡ false
+  by_test : (b : Bool) → is_some (if b then record (answering ask answer.Enter) { after = taken_up_in (g.vcpus ask.vid).state (record { lpid = ask.lpid; vid = ask.vid; generation = g.generation }) } else answering ask (answer.Ret UInvalid)).pool ≡ false
   by_test true = refl
   by_test false = refl
 
@@ -124,6 +124,7 @@ wants_uses guest cpu ctx.Hv l k (UPagein lpid src gpa flags order) at wants = re
 wants_uses guest cpu ctx.Hv l k cmd at wants = cc
 wants_uses guest cpu (ctx.Uv (Inward move)) l k cmd at wants = let ends = ends_in move l k cmd at in rw ends.is ends.copied
 wants_uses guest cpu (ctx.Uv (Outward move)) l k cmd at wants = let ends = ends_out move l k cmd at in rw ends.is ends.copied
+wants_uses guest cpu (ctx.Uv work) l k cmd at wants = absurd wants
 wants_uses guest cpu (ctx.Guest run) l k (GLd rd gpa) at wants = refl
 wants_uses guest cpu (ctx.Guest run) l k (GSt rs gpa) at wants = refl
 wants_uses guest cpu (ctx.Guest run) l k cmd at wants = (let none = wants.1 in cc)
@@ -136,3 +137,4 @@ not_true false none = refl
 pub goes_on : (work : Work) (l k : ℕ) (cmd : Cmd) → guest_aimed (ctx.Uv work) l cmd ≡ Some k → cmd ≡ Go
 goes_on (Inward move) l k cmd is = (ends_in move l k cmd is).is
 goes_on (Outward move) l k cmd is = (ends_out move l k cmd is).is
+goes_on work l k cmd is = absurd cc

@@ -1,5 +1,5 @@
 -- A machine stays whole where a CPU, a guest, the pool or the normal frames change as a step changes them.
-use Rattle.std.proofs.Common.{◌≡◌, ◌≢◌, ℕ, zero, suc, ◌+◌, ◌-◌, ◌^◌, ◌<◌, ◌==◌, nat_lt, cond, if◌then◌else◌, List, [], ◌∷◌, ◌++◌, length, true, Option, Some, inl, inr, refl, ap, sym, subst, ◌∙◌, arith, length-set}
+use Rattle.std.proofs.Common.{◌≡◌, ◌≢◌, ℕ, zero, suc, ◌+◌, ◌-◌, ◌^◌, ◌<◌, ◌==◌, nat_lt, cond, if◌then◌else◌, List, [], ◌∷◌, ◌++◌, length, true, Option, Some, None, inl, inr, refl, ap, sym, subst, ◌∙◌, arith, length-set}
 use Rattle.std.specs.Prelude.{slice_get, slice_set}
 use Rattle.std.specs.List.{count_by, flat_map}
 use Rattle.std.proofs.lemmas.List.Sums.{sum_by-append}
@@ -12,6 +12,7 @@ use Rattle.pef_model.specs.declared.state.Run.{Run}
 use Rattle.pef_model.specs.declared.state.Work.TheVariants.{Inward, Outward}
 use Rattle.pef_model.specs.declared.state.Ctx.{Ctx}
 use Rattle.pef_model.specs.declared.state.Ctx.TheVariants as ctx
+use Rattle.pef_model.specs.Target.{caller}
 use Rattle.pef_frames.specs.Frame.{FrameState, numbers_of}
 use Rattle.pef_frames.specs.Pool.{PoolState}
 use Rattle.pef_frames.specs.PoolLaw.{times_free}
@@ -22,7 +23,7 @@ use Rattle.pef_guest.specs.Whole.{IsWhole}
 use Rattle.pef_guest.specs.Ready.{may_run_in}
 use Rattle.pef_guest.specs.Keeps.{IsNextPhase, KeepsGuest, KeepsFrames, KeepsMovers, times_held}
 use Rattle.pef_core.specs.Normal.{NormalState}
-use Rattle.pef_core.specs.State.{State, IsCpuOf, IsGuestOf, IsVcpu, HasVcpu, MayRun, MovesPage, IsMoveOf, Works, FramesOnce, IsWholeMachine, guest_at}
+use Rattle.pef_core.specs.State.{State, IsCpuOf, IsGuestOf, IsVcpu, HasVcpu, MayRun, MovesPage, IsMoveOf, Runs, Works, FramesOnce, IsWholeMachine, guest_at}
 use Rattle.pef_core.proofs.Lists.{each_set, each_map}
 
 -- what holds of the element at a place, after another was put in
@@ -59,15 +60,17 @@ module _ {S : Type 0} (guests : List (Guest S)) (i : ℕ) (g g' : Guest S) (is :
     frame = h.frame;
   }
 
-  -- a vCPU that a CPU runs still may run
-  pub runs_stay : (normal : NormalState) (n : ℕ) (run : Run) → Works guests normal n (ctx.Guest run) → Works (slice_set guests i g') normal n (ctx.Guest run)
-  runs_stay normal n run h = (vcpu_stays run.lpid run.vid h.0, may_run_stays run.lpid run.generation h.1)
+  -- a vCPU that a CPU runs, or whose call it has in progress, still may run
+  pub runs_stay : (runs : Option Run) → Runs guests runs → Runs (slice_set guests i g') runs
+  runs_stay None h = tt
+  runs_stay (Some run) h = (vcpu_stays run.lpid run.vid h.0, may_run_stays run.lpid run.generation h.1)
 
   works_stay : (normal : NormalState) (n k : ℕ) (c : Ctx) → k ≢ n → KeepsMovers n g g' → Works guests normal k c → Works (slice_set guests i g') normal k c
   works_stay normal n k ctx.Hv other movers h = tt
   works_stay normal n k (ctx.Uv (Inward move)) other movers h = move_stays normal n (record { cpu = k; way = way.Inward }) move other movers h
   works_stay normal n k (ctx.Uv (Outward move)) other movers h = move_stays normal n (record { cpu = k; way = way.Outward }) move other movers h
-  works_stay normal n k (ctx.Guest run) other movers h = runs_stay normal k run h
+  works_stay normal n k (ctx.Uv work) other movers h = runs_stay (caller work) h
+  works_stay normal n k (ctx.Guest run) other movers h = runs_stay (Some run) h
 
   -- a CPU of the machine still is one, after a step of another
   pub cpu_stays : (normal : NormalState) (n k : ℕ) (cpu : Cpu) → k ≢ n → KeepsMovers n g g' → IsCpuOf guests normal k cpu → IsCpuOf (slice_set guests i g') normal k cpu
@@ -87,6 +90,7 @@ works_with : {S : Type 0} (guests : List (Guest S)) (old new : NormalState) (n :
 works_with guests old new n ctx.Hv count h = tt
 works_with guests old new n (ctx.Uv (Inward move)) count h = move_with guests old new (record { cpu = n; way = way.Inward }) move count h
 works_with guests old new n (ctx.Uv (Outward move)) count h = move_with guests old new (record { cpu = n; way = way.Outward }) move count h
+works_with guests old new n (ctx.Uv work) count h = h
 works_with guests old new n (ctx.Guest run) count h = h
 
 pub cpu_with : {S : Type 0} (guests : List (Guest S)) (old new : NormalState) (n : ℕ) (cpu : Cpu) → new.shift ≡ old.shift → length new.frames ≡ length old.frames → IsCpuOf guests old n cpu → IsCpuOf guests new n cpu

@@ -76,6 +76,7 @@ abbrev pub WantsPool : {S : Type 0} → Guest S → Cpu → Ctx → Cmd → Type
 WantsPool guest cpu ctx.Hv cmd = call_asks guest cmd ≡ true
 WantsPool guest cpu (ctx.Uv (Inward move)) cmd = IsRefusedIn guest cpu.hand move
 WantsPool guest cpu (ctx.Uv (Outward move)) cmd = move.generation ≡ guest.generation
+WantsPool guest cpu (ctx.Uv work) cmd = ⊥
 WantsPool guest cpu (ctx.Guest run) cmd = (run.generation ≡ guest.generation) × (command_asks guest cmd ≡ true)
 
 -- a step at a guest touches the pool exactly where this says so, whatever guest and CPU of the model are shown, unless it is a digest collision

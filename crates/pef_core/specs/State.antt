@@ -4,9 +4,11 @@ use Rattle.std.specs.List.{count_by, flat_map}
 use Rattle.pef_model.specs.declared.state.Way.TheVariants as way
 use Rattle.pef_model.specs.declared.state.Mover.{Mover}
 use Rattle.pef_model.specs.declared.state.Move.{Move}
+use Rattle.pef_model.specs.declared.state.Run.{Run}
 use Rattle.pef_model.specs.declared.state.Work.TheVariants.{Inward, Outward}
 use Rattle.pef_model.specs.declared.state.Ctx.{Ctx}
 use Rattle.pef_model.specs.declared.state.Ctx.TheVariants as ctx
+use Rattle.pef_model.specs.Target.{caller}
 use Rattle.pef_frames.specs.Frame.{numbers_of}
 use Rattle.pef_frames.specs.Pool.{PoolState}
 use Rattle.pef_pages.specs.Pages.{mover_at, held}
@@ -55,12 +57,18 @@ pub record IsMoveOf {S : Type 0} (guests : List (Guest S)) (normal : NormalState
   pub moves : MovesPage (guest_at guests move.lpid) move.generation move.gfn mover
   pub frame : move.frame < length normal.frames
 
--- what a CPU runs is a vCPU of the machine, and what it moves is a page
+-- a vCPU that runs, or whose call is in progress, is one of the machine, and may run
+abbrev pub Runs : {S : Type 0} → List (Guest S) → Option Run → Type 0
+Runs guests None = Unit {0}
+Runs guests (Some run) = IsVcpu guests run.lpid run.vid × MayRun (guest_at guests run.lpid) run.generation
+
+-- what a CPU runs is a vCPU of the machine, and so is one whose call is in progress; what it moves is a page
 abbrev pub Works : {S : Type 0} → List (Guest S) → NormalState → ℕ → Ctx → Type 0
 Works guests normal n ctx.Hv = Unit {0}
 Works guests normal n (ctx.Uv (Inward move)) = IsMoveOf guests normal (record { cpu = n; way = way.Inward }) move
 Works guests normal n (ctx.Uv (Outward move)) = IsMoveOf guests normal (record { cpu = n; way = way.Outward }) move
-Works guests normal n (ctx.Guest run) = IsVcpu guests run.lpid run.vid × MayRun (guest_at guests run.lpid) run.generation
+Works guests normal n (ctx.Uv work) = Runs guests (caller work)
+Works guests normal n (ctx.Guest run) = Runs guests (Some run)
 
 -- a CPU has its number and a hand of one page, selects and runs vCPUs of the machine, and moves its pages
 pub record IsCpuOf {S : Type 0} (guests : List (Guest S)) (normal : NormalState) (n : ℕ) (cpu : Cpu) : Type 0 where

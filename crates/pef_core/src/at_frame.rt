@@ -73,5 +73,6 @@ fn copy(cpu: &mut Cpu, frame: &mut NormalFrame, work: Work, cmd: &Cmd) -> Answer
     match work {
         Work::Inward(page) => pef_move::page_in_copy(cpu, page, frame),
         Work::Outward(page) => pef_move::page_out_copy(cpu, page, frame),
+        Work::Share(_) | Work::Unshare(_) | Work::UnshareAll(_) | Work::Esm(_) => unreachable!(),
     }
 }

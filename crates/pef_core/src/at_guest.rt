@@ -9,7 +9,7 @@ ghost use Rattle.pef_core.specs.Lent.{IsLent, WantsPool, is_page_call, call_asks
 use crate::lent::Inner;
 use pef_frames::{NormalFrame, Pool};
 use pef_guest::{Cpu, Guest};
-use pef_model::{Answer, Cmd, Ctx, Run, Work};
+use pef_model::{Answer, Cmd, Ctx, Run, Way, Work};
 use pef_move::PageCall;
 use pef_seal::Seal;
 
@@ -43,6 +43,7 @@ fn with_pool<S: Seal>(guest: &mut Guest<S>, cpu: &mut Cpu, pool: &mut Pool, cmd:
         Ctx::Hv => call_with_pool(guest, cpu, pool, cmd),
         Ctx::Uv(Work::Inward(inward)) => pef_move::page_in_end_refused(guest, cpu, inward, pool),
         Ctx::Uv(Work::Outward(outward)) => pef_move::page_out_end(guest, cpu, outward, pool),
+        Ctx::Uv(_) => unreachable!(),
         Ctx::Guest(run) => access(guest, cpu, pool, run, cmd),
     }
 }
@@ -132,11 +133,30 @@ fn without_pool<S: Seal>(guest: &mut Guest<S>, cpu: &mut Cpu, cmd: &Cmd) -> Answ
 {
     match cpu.ctx {
         Ctx::Hv => call(guest, cpu, cmd),
-        Ctx::Uv(work) if pef_move::is_late(guest, work) => pef_move::end_late(guest, cpu, work),
-        Ctx::Uv(Work::Inward(inward)) => pef_move::page_in_end(guest, cpu, inward),
-        Ctx::Uv(Work::Outward(_)) => unreachable!(),
+        Ctx::Uv(work) => go(guest, cpu, work, cmd),
         Ctx::Guest(run) if run.generation != guest.generation => pef_reflect::gone(guest, cpu, run),
         Ctx::Guest(run) => command(guest, cpu, run, cmd),
+    }
+}
+
+/// The next step of a call in progress that is lent nothing: a page's move ends, under another generation than the guest's, or
+/// accepted as it comes in.
+fn go<S: Seal>(guest: &mut Guest<S>, cpu: &mut Cpu, work: Work, cmd: &Cmd) -> Answer
+    requires ready { IsReadyFor S.takes cmd.now guest.old cpu.old }
+    requires working { cpu.old.ctx ≡ Ctx.Uv work }
+    requires unwanted { WantsPool guest.old cpu.old cpu.old.ctx cmd.now → ⊥ }
+    ensures { (pool : PoolState) → DoesRow S.takes S.stands S.image cmd.now guest.old guest.new cpu.old cpu.new pool pool result }
+{
+    match work {
+        Work::Inward(page) if pef_move::is_late(guest, page) => {
+            pef_move::end_late(guest, cpu, Way::Inward, page)
+        }
+        Work::Outward(page) if pef_move::is_late(guest, page) => {
+            pef_move::end_late(guest, cpu, Way::Outward, page)
+        }
+        Work::Inward(page) => pef_move::page_in_end(guest, cpu, page),
+        Work::Outward(_) => unreachable!(),
+        Work::Share(_) | Work::Unshare(_) | Work::UnshareAll(_) | Work::Esm(_) => unreachable!(),
     }
 }
 

@@ -119,6 +119,7 @@ fn touches_pool<S: Seal>(guest: &Guest<S>, cpu: &Cpu, cmd: &Cmd) -> bool
         Ctx::Hv => asked_by_call(guest, cmd),
         Ctx::Uv(Work::Inward(page)) => pef_move::refuses_page(guest, cpu, page),
         Ctx::Uv(Work::Outward(page)) => pef_move::gives_frame_back(guest, page),
+        Ctx::Uv(_) => false,
         Ctx::Guest(run) if run.generation != guest.generation => false,
         Ctx::Guest(run) => asked_by_command(guest, run, cmd),
     }

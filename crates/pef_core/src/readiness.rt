@@ -1,10 +1,9 @@
 //! Whether a step may be done at a guest or at a normal frame, by what can be tested of it, the CPU and the pool.
 
-ghost use Rattle.std.specs.Prelude.{◌≡◌, ◌↔◌, ◌^◌, ◌<◌, true, IsTrue, length};
-ghost use Rattle.pef_guest.specs.Ready.{may_run_in};
+ghost use Rattle.std.specs.Prelude.{◌≡◌, ◌↔◌, ◌^◌, true, IsTrue, length, Some};
 ghost use Rattle.pef_guest.specs.Whole.{IsWhole};
 ghost use Rattle.pef_guest.specs.Aims.{guest_aimed};
-ghost use Rattle.pef_guest.specs.Ready.{MayEnd, ReadyIn, IsReadyFor, IsReadyPool};
+ghost use Rattle.pef_guest.specs.Ready.{MayEnd, MayRun, ReadyIn, IsReadyFor, IsReadyPool};
 ghost use Rattle.pef_core.specs.Frames.{IsPageSize, AimsAtFrame, IsReadyAt};
 
 use crate::aim::aim_of;
@@ -15,7 +14,8 @@ use pef_seal::Seal;
 
 /// Whether a command of a CPU may be done at a guest, which is whole: the command aims at it; the CPU's hand is of a page's
 /// size; a page whose move the CPU has in progress, in the guest's generation, is marked as its, and of that way; a vCPU that
-/// it selects or runs is one of the guest's, and the phase lets it run; and fewer than 2^63 steps were done on the guest.
+/// it selects or runs, or whose call it has in progress, is one of the guest's, and the phase lets it run; and fewer than 2^63
+/// steps were done on the guest.
 ///
 /// Of a machine all this holds at each step.
 pub fn ready<S: Seal>(guest: &Guest<S>, cpu: &Cpu, cmd: &Cmd) -> bool
@@ -48,7 +48,7 @@ pub fn ready_pool<S: Seal>(guest: &Guest<S>, cpu: &Cpu, pool: &Pool) -> bool
     match cpu.ctx {
         Ctx::Uv(Work::Inward(page)) => page.generation != guest.generation || pool.room() > 0,
         Ctx::Uv(Work::Outward(page)) => page.generation != guest.generation || pool.room() > 0,
-        Ctx::Hv | Ctx::Guest(_) => true,
+        Ctx::Hv | Ctx::Uv(_) | Ctx::Guest(_) => true,
     }
 }
 
@@ -94,6 +94,8 @@ fn works<S: Seal>(guest: &Guest<S>, cpu: &Cpu) -> bool
         Ctx::Hv => cpu.lpid != guest.lpid || (cpu.vid as usize) < guest.vcpus.len(),
         Ctx::Uv(Work::Inward(page)) => may_end(guest, cpu, Way::Inward, page),
         Ctx::Uv(Work::Outward(page)) => may_end(guest, cpu, Way::Outward, page),
+        Ctx::Uv(Work::Share(run) | Work::Unshare(run)) => may_run(guest, run),
+        Ctx::Uv(Work::UnshareAll(run) | Work::Esm(run)) => may_run(guest, run),
         Ctx::Guest(run) => may_run(guest, run),
     }
 }
@@ -114,7 +116,7 @@ fn may_end<S: Seal>(guest: &Guest<S>, cpu: &Cpu, way: Way, page: Move) -> bool
 
 /// Whether a vCPU is one of the guest's, whose phase lets it run where it is still in the generation.
 fn may_run<S: Seal>(guest: &Guest<S>, run: Run) -> bool
-    ensures { IsTrue result ↔ (run.vid < length guest.now.vcpus.items) × (run.generation ≡ guest.now.generation → may_run_in guest.now.phase ≡ true) }
+    ensures { IsTrue result ↔ MayRun guest.now (Some run) }
 {
     if run.generation != guest.generation {
         return (run.vid as usize) < guest.vcpus.len();

@@ -57,12 +57,12 @@ impl Cpu {
         self.hand.bytes()
     }
 
-    /// A vCPU runs from now on, in a generation of its guest.
-    pub fn enter(&mut self, run: Run) -> Answer
+    /// A vCPU goes on from now on, in this context: it runs, or its call is in progress.
+    pub fn enter(&mut self, after: Ctx) -> Answer
         ensures answer { result ≡ Answer.Enter }
-        ensures cpu { self.new ≡ record self.old { ctx = Ctx.Guest run; last = Answer.Enter } }
+        ensures cpu { self.new ≡ record self.old { ctx = after; last = Answer.Enter } }
     {
-        self.ctx = Ctx::Guest(run);
+        self.ctx = after;
         self.answer(Answer::Enter)
     }
 

@@ -2,4 +2,3 @@ pub mod PageOut
 pub mod Route
 pub mod PageIn
 pub mod Unseal
-pub mod Late

@@ -2,22 +2,22 @@
 
 ghost use Rattle.std.specs.Prelude.{◌≡◌, ◌≢◌, ◌↔◌, ◌^◌, ◌<◌, true, IsTrue};
 ghost use Rattle.pef_model.specs.declared.command.Cmd.{Cmd};
+ghost use Rattle.pef_model.specs.Target.{work_by};
 ghost use Rattle.pef_frames.specs.Pool.{PoolState};
 ghost use Rattle.pef_guest.specs.Whole.{IsWhole};
 ghost use Rattle.pef_guest.specs.Refused.{BackWith, SameGuest};
 ghost use Rattle.pef_guest.specs.Does.{DoesRow};
-ghost use Rattle.pef_move.specs.Late.{move_of};
 
 use pef_guest::{Cpu, Guest};
-use pef_model::{Answer, Code, Ctx, Move, Work};
+use pef_model::{Answer, Code, Ctx, Move, Way};
 use pef_seal::Seal;
 
 /// The end of a move under another generation than the guest's: the call comes back with U_PARAMETER, and nothing changes but the
 /// CPU and counts of steps: the frame may be another page's by now. What it does after the guest's end is this project's own.
-pub fn end_late<S: Seal>(guest: &mut Guest<S>, cpu: &mut Cpu, work: Work) -> Answer
-    requires working { cpu.old.ctx ≡ Ctx.Uv work }
-    requires copied { (move_of work).copied ≡ true }
-    requires late { (move_of work).generation ≢ guest.old.generation }
+pub fn end_late<S: Seal>(guest: &mut Guest<S>, cpu: &mut Cpu, way: Way, page: Move) -> Answer
+    requires working { cpu.old.ctx ≡ Ctx.Uv (work_by way page) }
+    requires copied { page.copied ≡ true }
+    requires late { page.generation ≢ guest.old.generation }
     requires whole { IsWhole S.takes guest.old }
     requires steps { guest.old.steps < 2 ^ 63 }
     ensures does { (pool : PoolState) → DoesRow S.takes S.stands S.image Cmd.Go guest.old guest.new cpu.old cpu.new pool pool result }
@@ -30,18 +30,8 @@ pub fn end_late<S: Seal>(guest: &mut Guest<S>, cpu: &mut Cpu, work: Work) -> Ans
 }
 
 /// Whether a page that is on the move is of another generation than the guest's.
-pub fn is_late<S: Seal>(guest: &Guest<S>, work: Work) -> bool
-    ensures { IsTrue result ↔ ((move_of work).generation ≢ guest.now.generation) }
+pub fn is_late<S: Seal>(guest: &Guest<S>, page: Move) -> bool
+    ensures { IsTrue result ↔ (page.generation ≢ guest.now.generation) }
 {
-    moved(work).generation != guest.generation
-}
-
-/// The page that a call in progress moves.
-fn moved(work: Work) -> Move
-    ensures { result ≡ move_of work }
-{
-    match work {
-        Work::Inward(page) => page,
-        Work::Outward(page) => page,
-    }
+    page.generation != guest.generation
 }

@@ -1,12 +1,10 @@
 -- A vCPU's hypercall leaves, or is answered, as the model's is.
-use Rattle.std.proofs.Common.{◌≡◌, ℕ, ◌<◌, ◌==◌, if◌then◌else◌, arith, inl, List, [], ◌∷◌, drop, slice_set, length, Bool, true, false, refl, ap, sym, subst, ◌∙◌, inr, Option, Some, None, slice_index, get_or}
+use Rattle.std.proofs.Common.{◌≡◌, ℕ, ◌<◌, ◌==◌, if◌then◌else◌, arith, inl, List, [], ◌∷◌, drop, slice_set, length, Bool, true, false, refl, ap, sym, subst, ◌∙◌, inr, Some, None, slice_index, get_or}
 use Rattle.std.specs.Prelude.{slice_get}
 use Rattle.std.proofs.lemmas.Bool.{false≢true}
 use Rattle.std.proofs.lemmas.Bool.Decides.{nat_tests}
 use Rattle.pef_model.specs.declared.state.Phase.{Phase}
 use Rattle.pef_model.specs.declared.state.Phase.TheVariants as phase
-use Rattle.pef_model.specs.declared.state.Pending.{Pending}
-use Rattle.pef_model.specs.declared.state.Pending.TheVariants as pending
 use Rattle.pef_model.specs.declared.state.VState.TheVariants.{Parked}
 use Rattle.pef_model.specs.declared.state.Regs.{Regs}
 use Rattle.pef_model.specs.declared.state.Run.{Run}
@@ -15,7 +13,6 @@ use Rattle.pef_model.specs.declared.state.Ctx.TheVariants as ctx
 use Rattle.pef_model.specs.declared.hypercall.TheConstants.{HCALLS}
 use Rattle.pef_model.specs.declared.hypercall.Row.{Row}
 use Rattle.pef_model.specs.declared.hypercall.RowKind.{RowKind}
-use Rattle.pef_model.specs.declared.hypercall.RowKind.TheVariants.{Reflected}
 use Rattle.pef_model.specs.declared.command.Code.{Code}
 use Rattle.pef_model.specs.declared.command.Code.TheVariants.{HSuccess, HFunction, HHardware}
 use Rattle.pef_model.specs.declared.command.Cmd.TheVariants.{GHcall}
@@ -25,9 +22,9 @@ use Rattle.pef_model.specs.declared.entry.Answer.TheVariants as answer
 use Rattle.pef_model.specs.Plan.{Plan}
 use Rattle.pef_model.specs.Event.{Mark}
 use Rattle.pef_model.specs.Registers.{with_code}
-use Rattle.pef_model.specs.Hypercalls.{row_of, let_out_by}
+use Rattle.pef_model.specs.Hypercalls.{row_of}
 use Rattle.pef_model.specs.Target.{Ask}
-use Rattle.pef_model.specs.Cpu.{CpuPart, left_registers}
+use Rattle.pef_model.specs.Cpu.{CpuPart}
 use Rattle.pef_model.specs.GuestPart.{waits_for, with_parked_vcpu}
 use Rattle.pef_model.specs.Guest.{Guest as GuestWhole, at_next_instruction, next_guest}
 use Rattle.pef_model.specs.Entry.{may_enter_in}
@@ -38,11 +35,11 @@ use Rattle.pef_regs.specs.declared.vcpu.Vcpu.{Vcpu}
 use Rattle.pef_guest.specs.declared.cpu.Cpu.{Cpu}
 use Rattle.pef_guest.specs.declared.guest.Guest.{Guest}
 use Rattle.pef_guest.specs.Leaves.{leaving}
-use Rattle.pef_guest.specs.Does.{is_any_free, DoesRow}
+use Rattle.pef_guest.specs.Does.{DoesRow}
 use Rattle.pef_guest.specs.Ready.{IsRunning}
 use Rattle.pef_regs.specs.Registers.{with_registers}
-use Rattle.pef_guest.specs.Rows.{RowWithPool, ask_running, entry_running}
-use Rattle.pef_guest.specs.Shows.{ShowsCpu, Shows, vcpu_at}
+use Rattle.pef_guest.specs.Rows.{RowWithPool, ask_running}
+use Rattle.pef_guest.specs.Shows.{Shows, vcpu_at}
 use Rattle.pef_guest.specs.Whole.{IsWhole}
 use Rattle.pef_guest.specs.Refused.{RefusesVcpu, Refuses}
 use Rattle.pef_reflect.proofs.OwnRow.{refused_guest}

@@ -5,6 +5,7 @@ use Rattle.pef_model.specs.declared.state.Phase.{Phase}
 use Rattle.pef_model.specs.declared.state.Phase.TheVariants as phase
 use Rattle.pef_model.specs.declared.state.Regs.{Regs}
 use Rattle.pef_model.specs.declared.state.Run.{Run}
+use Rattle.pef_model.specs.declared.state.Ctx.TheVariants as ctx
 use Rattle.pef_model.specs.declared.state.Tag.{Tag}
 use Rattle.pef_model.specs.declared.command.Cmd.TheVariants.{HEnter}
 use Rattle.pef_model.specs.declared.command.Code.{Code}
@@ -69,7 +70,7 @@ module _ {S : Type 0} (stands : S → Tag → List ℕ → List ℕ → Type 0) 
   -- it comes back where the model's does
   refused : (code : Code) → Some code ≡ enter_code plan g.part vid → RefusesAlso (HEnter lpid vid value) code (λ own. own) plan g c mark
   refused code is = record {
-    deed = λ any. ap (λ (o : Option Code). returning (ask_hypervisor c) o (entering c at)) (sym is);
+    deed = λ any. ap (λ (o : Option Code). returning (ask_hypervisor c) o (entering c (ctx.Guest at))) (sym is);
     guest = refl;
     cpu = refl;
   }
@@ -81,12 +82,12 @@ module _ {S : Type 0} (stands : S → Tag → List ℕ → List ℕ → Type 0) 
   refused_vcpu may none = refused UP2 (same_code true false may none)
 
   -- and enters where the model's does
-  pub enters_also : may_enter_in old.phase ≡ true → enters_at old vid ≡ true → EntersAlso (HEnter lpid vid value) (answering_in old vid value) (λ own. own) run plan g c mark
+  pub enters_also : may_enter_in old.phase ≡ true → enters_at old vid ≡ true → EntersAlso (HEnter lpid vid value) (answering_in old vid value) (λ own. own) ctx.Guest run plan g c mark
   enters_also may waits =
       let state = (shows_own stands image plan old g vid shows (is_there old vid waits)).state in record {
         at = at;
         at_is = λ i. record { lpid = sym named i; vid = vid; generation = shows.generation i };
-        deed = λ any. ap (λ (o : Option Code). returning (ask_hypervisor c) o (entering c at)) (sym (same_code true true may waits));
+        deed = λ any. ap (λ (o : Option Code). returning (ask_hypervisor c) o (entering c (ctx.Guest at))) (sym (same_code true true may waits));
         guest = λ i. record g { part = with_running_vcpu g.part vid mark.cpu; registers = put g.registers vid (answered_with (sym state i) (g.registers vid) value); clean = g.clean && true };
         cpu = refl;
       }

@@ -1,14 +1,12 @@
 -- A register of a vCPU is shown as the model's is.
-use Rattle.std.proofs.Common.{◌≡◌, ℕ, ◌+◌, List, length, refl, ap, sym, subst, inl, arith, slice_index}
+use Rattle.std.proofs.Common.{ℕ, ◌+◌, List, length, refl, sym, subst, inl, arith, slice_index}
 use Rattle.pef_model.specs.declared.state.Regs.{Regs}
 use Rattle.pef_model.specs.declared.state.Run.{Run}
 use Rattle.pef_model.specs.declared.state.Tag.{Tag}
 use Rattle.pef_model.specs.declared.command.Cmd.TheVariants.{Dump}
 use Rattle.pef_model.specs.declared.entry.Answer.{Answer}
 use Rattle.pef_model.specs.declared.entry.Answer.TheVariants.{Val}
-use Rattle.pef_model.specs.Plan.{Plan}
-use Rattle.pef_model.specs.GuestPart.{put}
-use Rattle.pef_model.specs.Guest.{Guest as GuestWhole, next_guest}
+use Rattle.pef_model.specs.Guest.{next_guest}
 use Rattle.pef_model.specs.Deed.{answering}
 use Rattle.pef_model.specs.History.{entry_of}
 use Rattle.pef_model.proofs.Puts.{put-same}

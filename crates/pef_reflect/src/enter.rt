@@ -2,8 +2,8 @@
 
 ghost use Rattle.std.specs.Prelude.{◌≡◌, ℕ, ◌^◌, ◌&&◌, ◌<◌, ◌≤◌, nat_lt, length};
 ghost use Rattle.std.specs.Vec.{with_item};
-ghost use Rattle.pef_model.specs.Guest.{entered_at, returned_to};
-ghost use Rattle.pef_model.specs.Deed.{is_waiting, may_return_in};
+ghost use Rattle.pef_model.specs.Guest.{returned_by};
+ghost use Rattle.pef_model.specs.Deed.{is_waiting, may_return_in, taken_up_in};
 ghost use Rattle.pef_model.specs.Entry.{can_be_entered};
 ghost use Rattle.pef_frames.specs.Pool.{PoolState};
 ghost use Rattle.pef_guest.specs.Shows.{vcpu_at};
@@ -15,9 +15,10 @@ use pef_guest::{Cpu, Guest, registers};
 use pef_model::{Answer, Cmd, Code, Ctx, Run, VState};
 use pef_seal::Seal;
 
-/// UV_RETURN of the hypervisor: the selected vCPU runs from now on, and goes on behind the hypercall with which it has left, with R0
-/// in its R3 and the call's outputs of `outs` from its R4 on. U_INVALID where its guest is neither Starting nor Secure,
-/// or where the vCPU is neither Fresh nor Parked.
+/// UV_RETURN of the hypervisor: the selected vCPU goes on, behind the hypercall with which it has left, with R0 in its R3 and the
+/// call's outputs of `outs` from its R4 on; at the instruction whose access left; or in the call of its own in which it left. R2
+/// not 0 is the address at which it goes on as a guest. U_INVALID where its guest is neither Starting nor Secure, or where the
+/// vCPU is neither Fresh nor Parked.
 pub fn uv_return<S: Seal>(
     guest: &mut Guest<S>,
     cpu: &mut Cpu,
@@ -79,7 +80,7 @@ pub fn enter_normal<S: Seal>(guest: &mut Guest<S>, cpu: &mut Cpu, vid: u64, valu
     let vcpu = &mut guest.vcpus[run.vid as usize];
     vcpu.give_answer(value);
     vcpu.take_up(cpu.number, run.generation, 0);
-    cpu.enter(run)
+    cpu.enter(Ctx::Guest(run))
 }
 
 /// Whether UV_RETURN takes up a vCPU of a guest.
@@ -97,8 +98,8 @@ fn has_vcpu_to_enter<S: Seal>(guest: &Guest<S>, vid: u64) -> bool
     vid < guest.vcpus.len() as u64 && guest.vcpus[vid as usize].can_be_entered()
 }
 
-/// A vCPU of the guest runs on the CPU from now on, with the answer of the hypercall for which it waits, if it waits for one; at
-/// R2's address, where that isn't 0.
+/// A vCPU of the guest goes on, on this CPU, in the call in which it waits, or as a guest: with the answer of the hypercall for which
+/// it waits, if it waits for one, and at R2's address, where that isn't 0.
 fn take_up<S: Seal>(
     guest: &mut Guest<S>,
     cpu: &mut Cpu,
@@ -109,11 +110,13 @@ fn take_up<S: Seal>(
 ) -> Answer
     requires { run.vid < length guest.old.vcpus.items }
     ensures answer { result ≡ Answer.Enter }
-    ensures guest { guest.new ≡ record guest.old { vcpus = with_item guest.old.vcpus run.vid (record { state = VState.Running cpu.old.number; generation = run.generation; regs = entered_at (returned_to (vcpu_at guest.old run.vid).state (vcpu_at guest.old run.vid).regs r0 outs.now) r2 }) } }
-    ensures cpu { cpu.new ≡ record cpu.old { ctx = Ctx.Guest run; last = Answer.Enter } }
+    ensures guest { guest.new ≡ record guest.old { vcpus = with_item guest.old.vcpus run.vid (record { state = VState.Running cpu.old.number; generation = run.generation; regs = returned_by (vcpu_at guest.old run.vid).state (vcpu_at guest.old run.vid).regs r0 r2 outs.now }) } }
+    ensures cpu { cpu.new ≡ record cpu.old { ctx = taken_up_in (vcpu_at guest.old run.vid).state run; last = Answer.Enter } }
 {
     let vcpu = &mut guest.vcpus[run.vid as usize];
+    let after = vcpu.goes_on_in(run);
+    let address = vcpu.address_for(r2);
     bring_answer(vcpu, r0, outs);
-    vcpu.take_up(cpu.number, run.generation, r2);
-    cpu.enter(run)
+    vcpu.take_up(cpu.number, run.generation, address);
+    cpu.enter(after)
 }

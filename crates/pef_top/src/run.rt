@@ -52,12 +52,12 @@ fn run_once<S: Seal, K: Sink>(
 }
 
 /// Whether `go*` ends with a step of a CPU, which is below the number of CPUs: no call is in progress after it, or it answers
-/// that nothing can be done at present.
+/// that nothing can be done, at present or in such a call.
 fn ends_all<S: Seal>(machine: &Machine<S>, cpu: u8, answer: &Answer) -> bool
     requires { cpu < length machine.now.cpus }
     ensures { IfSome (slice_get machine.now.cpus cpu) (λ own. result ≡ (not (is_in_progress own.ctx) || is_again answer.now)) }
 {
-    !machine.is_in_progress(cpu) || matches!(answer, Answer::Again)
+    !machine.is_in_progress(cpu) || matches!(answer, Answer::Again | Answer::Context)
 }
 
 /// Does `go` on a line's CPU again and again, until no call is in progress or nothing can be done at present, and writes

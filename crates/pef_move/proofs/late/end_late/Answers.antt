@@ -19,5 +19,5 @@ returns-clause-does g c pool =
       works = works_back _ c.args.cpu.now c.come_back.new.self UParameter back;
       pool_stays = λ unused. refl;
       refused = rw (c.requires.working, c.come_back.ensures.answer) (c.come_back.ensures.cpu, (search rules, refl));
-      row = rw (c.come_back.ensures.answer, c.come_back.ensures.cpu) (late_makes g.S.Seal.takes g.S.Seal.stands g.S.Seal.image c.args.guest.now c.args.cpu.now pool c.args.work c.requires.working c.requires.copied c.requires.late);
+      row = rw (c.come_back.ensures.answer, c.come_back.ensures.cpu) (late_makes g.S.Seal.takes g.S.Seal.stands g.S.Seal.image c.args.guest.now c.args.cpu.now pool c.args.way c.args.page c.requires.working c.requires.copied c.requires.late);
     }

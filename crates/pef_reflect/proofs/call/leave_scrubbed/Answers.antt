@@ -1,9 +1,7 @@
-use Rattle.std.proofs.Common.{rules, ◌≡◌, ℕ, List, length, ap, sym, ◌∙◌}
-use Rattle.pef_model.specs.declared.state.Regs.{Regs}
+use Rattle.std.proofs.Common.{◌≡◌, ℕ, List, length, ap, sym}
 use Rattle.pef_model.specs.declared.state.Ctx.TheVariants as ctx
 use Rattle.pef_model.specs.declared.entry.Exit.TheVariants.{Hcall}
 use Rattle.pef_model.specs.declared.entry.Answer.TheVariants.{Exit}
-use Rattle.pef_model.specs.Hypercalls.{scrubbed}
 use Rattle.pef_model.proofs.Hypercalls.{shows_scrubbed}
 use Rattle.pef_reflect.proofs.call.leave_scrubbed.Goals as goal
 

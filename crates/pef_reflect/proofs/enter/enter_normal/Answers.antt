@@ -1,4 +1,5 @@
 use Rattle.std.proofs.Common.{refl, sym, ◌∙◌}
+use Rattle.pef_model.specs.declared.state.Ctx.TheVariants as ctx
 use Rattle.pef_model.specs.declared.command.Cmd.TheVariants.{HEnter}
 use Rattle.pef_model.specs.declared.command.Code.TheVariants.{UParameter, UP2}
 use Rattle.pef_guest.proofs.OneVcpu.{is_at}
@@ -14,8 +15,8 @@ returns g c pool lpid named =
     let below = is_there c.args.guest.now c.args.vid waits in
     let vcpu = is_at c.args.guest.now c.args.vid c.index_mut-vcpu.result.now below c.index_mut-vcpu.ensures.value in
     rw (c.enter.ensures.answer, c.enter.ensures.cpu, c.take_up.ensures, c.give_answer.ensures, vcpu)
-    (takes_up g.S.Seal.takes g.S.Seal.stands g.S.Seal.image (HEnter lpid c.args.vid c.args.value) (answering_in c.args.guest.now c.args.vid c.args.value) (λ own. own) c.args.guest.now c.args.cpu.now pool _ refl below
-    c.requires.hypervisor refl (may_run c.args.guest.now.phase may) c.requires.whole
+    (takes_up g.S.Seal.takes g.S.Seal.stands g.S.Seal.image (HEnter lpid c.args.vid c.args.value) (answering_in c.args.guest.now c.args.vid c.args.value) (λ own. own) ctx.Guest c.args.guest.now c.args.cpu.now pool _ refl below
+    (λ runs. runs) c.requires.hypervisor refl (may_run c.args.guest.now.phase may) c.requires.whole
     (λ plan whole part mark shows shows_cpu. enters_also g.S.Seal.stands g.S.Seal.image lpid c.args.vid c.args.value c.args.guest.now named plan whole part mark shows may waits))
 
 pub returns-then-not-may_enter : goal.returns-then-not-may_enter
