@@ -9,7 +9,7 @@ use Rattle.pef_model.specs.declared.state.Ctx.TheVariants as ctx
 use Rattle.pef_model.specs.declared.command.Code.{Code}
 use Rattle.pef_model.specs.declared.command.Code.TheVariants.{USuccess, UParameter, UP2, UP3, UP4, UP5, UFunction, UBusy}
 use Rattle.pef_model.specs.declared.command.Cmd.{Cmd}
-use Rattle.pef_model.specs.declared.command.Cmd.TheVariants.{HLd, HSt, HSelect, HEnter, UPate, URegslot, UUnregslot, UPagein, UPageout, UReturn, Go}
+use Rattle.pef_model.specs.declared.command.Cmd.TheVariants.{HLd, HSt, HSelect, HEnter, UPate, URegslot, UUnregslot, UPagein, UPageout, UInval, UReturn, Go}
 use Rattle.pef_model.specs.Plan.{Plan}
 use Rattle.pef_model.specs.Event.{Event, Mark, mark_of}
 use Rattle.pef_model.specs.Target.{Ask, Alone, AtGuest, AtFrame, frame_of, has_real_place, target_in, is_command_in}
@@ -102,6 +102,10 @@ unregister_can : (plan : Plan) (past : List Event) (ask : Ask) (lpid id : ℕ) (
     Can ctx.Hv (UUnregslot lpid id) (deed_after plan past (record ask { before = ctx.Hv }) (UUnregslot lpid id) (if b then AtGuest lpid else Alone))
 unregister_can plan past ask lpid id b = grind (arith, common_steps)
 
+inval_can : (plan : Plan) (past : List Event) (ask : Ask) (lpid gpa order : ℕ) (b : Bool) →
+    Can ctx.Hv (UInval lpid gpa order) (deed_after plan past (record ask { before = ctx.Hv }) (UInval lpid gpa order) (if b then AtGuest lpid else Alone))
+inval_can plan past ask lpid gpa order b = grind (arith, common_steps)
+
 inward_can : (plan : Plan) (past : List Event) (ask : Ask) (move : Move) (b : Bool) → move.copied ≡ b →
     Can (ctx.Uv (Inward move)) Go (deed_after plan past (record ask { before = ctx.Uv (Inward move) }) Go (if b then AtGuest move.lpid else AtFrame move.frame))
 inward_can plan past ask move b copied = grind (arith, common_steps)
@@ -125,6 +129,7 @@ deed_can plan past ctx.Hv ask (URegslot lpid start size flags id) = register_can
 deed_can plan past ctx.Hv ask (UUnregslot lpid id) = unregister_can plan past ask lpid id (nat_le 1 lpid && nat_le lpid plan.guests)
 deed_can plan past ctx.Hv ask (UPagein lpid src gpa flags order) = page_in_can plan past ask lpid src gpa flags order (nat_le 1 lpid && nat_le lpid plan.guests)
 deed_can plan past ctx.Hv ask (UPageout lpid dest gpa flags order) = page_out_can plan past ask lpid dest gpa flags order (nat_le 1 lpid && nat_le lpid plan.guests)
+deed_can plan past ctx.Hv ask (UInval lpid gpa order) = inval_can plan past ask lpid gpa order (nat_le 1 lpid && nat_le lpid plan.guests)
 deed_can plan past ctx.Hv ask (UReturn r0 r2 outs) = return_can (guest_after plan ask.lpid past).part (record ask { before = ctx.Hv }) r0 r2 outs
 deed_can plan past ctx.Hv ask cmd = refl
 deed_can plan past (ctx.Uv (Inward move)) ask Go = inward_can plan past ask move move.copied refl

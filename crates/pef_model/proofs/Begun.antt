@@ -18,7 +18,7 @@ use Rattle.pef_model.specs.Plan.{Plan}
 use Rattle.pef_model.specs.Event.{Event}
 use Rattle.pef_model.specs.Target.{touches_cpu}
 use Rattle.pef_model.specs.Cpu.{CpuPart, start_cpu, next_cpu}
-use Rattle.pef_model.specs.GuestPart.{Page, GuestPart, invalid_page, secured, begun_out, ended_out, begun_in, refused_in}
+use Rattle.pef_model.specs.GuestPart.{Page, GuestPart, invalid_page, secured, begun_out, ended_out, begun_in, refused_in, unmapped}
 use Rattle.pef_model.specs.PageOut.{sealed_page}
 use Rattle.pef_model.specs.History.{cpu_after, guest_after, Extends, IsLegal, begins_out_in, begins_out, last_begun}
 use Rattle.pef_model.specs.MoveLaw.{LastSealedIsBegun, VersionsCountPageOuts}
@@ -26,11 +26,11 @@ use Rattle.pef_model.proofs.Folds.{same_test, test_same, counts}
 use Rattle.pef_model.proofs.Puts.{put_in, here_or_elsewhere, put_in-here, put_in-elsewhere, IsElsewhere}
 use Rattle.pef_model.proofs.Outcomes.{Outcome, outcome}
 use Rattle.pef_model.proofs.Steps.{ctx_after}
-use Rattle.pef_model.proofs.Changes.{Change, Quiet, Begins, Copies, Ends, Drops, Comes, Reads, Accepts, Refuses, Takes, Parked, Gone, Backs, Writes, Slots, Selected, LeavesCpu}
+use Rattle.pef_model.proofs.Changes.{Change, Quiet, Begins, Copies, Ends, Drops, Comes, Reads, Accepts, Refuses, Takes, Parked, Gone, Backs, Writes, Slots, Unmaps, Selected, LeavesCpu}
 use Rattle.pef_model.proofs.ChangeOf.{change}
 use Rattle.pef_model.proofs.Fields.{field_after, same_field, kept_field, entry_field}
 use Rattle.pef_model.proofs.Works.{outward, moves_none}
-use Rattle.pef_model.proofs.Moving.{IsMoving}
+use Rattle.pef_model.proofs.Moving.{IsMoving, unmapped_out}
 use Rattle.pef_model.proofs.Paging.{pages, AllMoved, all_moved}
 
 -- a page-out that begins leaves the hypervisor with a call in progress
@@ -65,6 +65,7 @@ pub data PageStep (old new : Page) (begins : Bool) (bytes seal : List ℕ) : Typ
   Ended : begins ≡ false → (hand : List ℕ) (cpu : ℕ) → IsMoving way.Outward old hand cpu → new ≡ ended_out old → PageStep old new begins bytes seal
   Coming : begins ≡ false → (cpu : ℕ) → new ≡ begun_in old cpu → PageStep old new begins bytes seal
   Refused : begins ≡ false → new ≡ refused_in old → PageStep old new begins bytes seal
+  Unmapped : begins ≡ false → new ≡ unmapped old → PageStep old new begins bytes seal
   Secured : begins ≡ false → new ≡ secured old → PageStep old new begins bytes seal
 
 -- a page that has begun so often, the last time with these bytes
@@ -116,6 +117,9 @@ counted_after old new begins bytes seal count last (Coming none cpu is) h =
 counted_after old new begins bytes seal count last (Refused none is) h =
     counted_still new begins bytes count last none (subst (λ (page : Page). IsCounted page count last) (sym is)
     (record { version = h.version; sealed = h.sealed; pending = λ n rests. cc }))
+counted_after old new begins bytes seal count last (Unmapped none is) h =
+    counted_still new begins bytes count last none (subst (λ (page : Page). IsCounted page count last) (sym is)
+    (record { version = h.version; sealed = λ out. h.sealed (unmapped_out old.kind out); pending = h.pending }))
 counted_after old new begins bytes seal count last (Secured none is) h =
     counted_still new begins bytes count last none (subst (λ (page : Page). IsCounted page count last) (sym is)
     (record { version = h.version; sealed = λ out. cc; pending = λ n rests. cc }))
@@ -218,6 +222,11 @@ module _ (plan : Plan) (past : List Event) (e : Event) (extends : Extends plan p
       page_kept (none_begins _ _ _ x.cpu_is (λ move hypervisor call. cc)) (entry_field plan past e (λ (g : GuestPart). g.pages) x.lpid x.base x.length_ x.parts refl refl)
   page_step all (Slots x) =
       page_kept (none_begins _ _ _ x.cpu_is (λ move hypervisor call. cc)) (same_field plan past e (λ (g : GuestPart). g.pages) _ _ x.parts refl)
+  page_step all (Unmaps x) =
+      let none = none_begins _ _ _ x.cpu_is (λ move hypervisor call. cc) in
+      page_put x.lpid x.gfn _ (field_after plan past e (λ (g : GuestPart). g.pages) _ _ x.parts)
+      (λ p q is. Unmapped none (is ∙ ap unmapped (old_page x.lpid x.gfn p q)))
+      (λ elsewhere. none)
   page_step all (Selected x) =
       page_kept (none_begins _ _ _ x.cpu_is (λ move hypervisor call. cc)) (kept_field plan past e (λ (g : GuestPart). g.pages) x.parts)
 

@@ -8,7 +8,7 @@ use Rattle.std.proofs.lemmas.List.{get_or_append_left, get_or-append_right, get_
 use Rattle.std.proofs.lemmas.Option.{slice_get-get_or, slice_get_past}
 use Rattle.pef_model.specs.declared.command.Code.{Code}
 use Rattle.pef_model.specs.declared.command.Cmd.{Cmd}
-use Rattle.pef_model.specs.declared.command.Cmd.TheVariants.{HLd, UPate, URegslot, UUnregslot, UPagein, UPageout, UReturn}
+use Rattle.pef_model.specs.declared.command.Cmd.TheVariants.{HLd, UPate, URegslot, UUnregslot, UPagein, UPageout, UInval, UReturn}
 use Rattle.pef_model.specs.Registers.{Call, number_of, call_of, with_call, with_return, loaded, with_code, value_of_call, value_loaded, value_returned}
 use Rattle.pef_model.specs.Commands.{IsCommand}
 use Rattle.pef_model.proofs.Folds.{test_same}
@@ -25,6 +25,7 @@ has_room (URegslot lpid start size flags id) k = grind arith
 has_room (UUnregslot lpid id) k = grind arith
 has_room (UPagein lpid src gpa flags order) k = grind arith
 has_room (UPageout lpid dest gpa flags order) k = grind arith
+has_room (UInval lpid gpa order) k = grind arith
 has_room (UReturn r0 r2 outs) k = let nine = k.2 in omega (arith, nine)
 has_room (HLd ra) k = tt
 has_room cmd k = tt

@@ -4,7 +4,7 @@ use Rattle.pef_model.specs.declared.state.Work.TheVariants.{Inward, Outward}
 use Rattle.pef_model.specs.declared.state.Ctx.{Ctx}
 use Rattle.pef_model.specs.declared.state.Ctx.TheVariants as ctx
 use Rattle.pef_model.specs.declared.command.Cmd.{Cmd}
-use Rattle.pef_model.specs.declared.command.Cmd.TheVariants.{HLd, HSt, HSelect, HEnter, UPate, URegslot, UUnregslot, UPagein, UPageout, UReturn, GLi, GAdd, GXor, GLd, GSt, GHcall, GIrq, Go, Dump}
+use Rattle.pef_model.specs.declared.command.Cmd.TheVariants.{HLd, HSt, HSelect, HEnter, UPate, URegslot, UUnregslot, UPagein, UPageout, UInval, UReturn, GLi, GAdd, GXor, GLd, GSt, GHcall, GIrq, Go, Dump}
 use Rattle.pef_model.specs.Plan.{Plan}
 use Rattle.pef_model.specs.Event.{Event, Mark, mark_of}
 use Rattle.pef_model.specs.Target.{has_real_place}
@@ -13,6 +13,7 @@ use Rattle.pef_model.specs.History.{cpu_after, next_entry_by, Extends}
 use Rattle.pef_model.proofs.Changes.{Change, asked, refused}
 use Rattle.pef_model.proofs.HypervisorChanges.{load, store, return, page_out, named, go}
 use Rattle.pef_model.proofs.PageInChanges.{page_in, go_in}
+use Rattle.pef_model.proofs.Unmapped.{inval}
 use Rattle.pef_model.proofs.EntryChanges.{select, enter, write, register, unregister}
 use Rattle.pef_model.proofs.GuestChanges.{at_own}
 
@@ -34,6 +35,8 @@ change_in plan past cpu mark ctx.Hv h (UPagein lpid src gpa flags order) = named
     (record { ctx_is = refl; hand_is = refl; lpid_is = refl }) (page_in plan past cpu mark h lpid src gpa flags order)
 change_in plan past cpu mark ctx.Hv h (UPageout lpid dest gpa flags order) = named plan past cpu mark h (UPageout lpid dest gpa flags order) lpid (nat_le 1 lpid && nat_le lpid plan.guests) refl
     (record { ctx_is = refl; hand_is = refl; lpid_is = refl }) (page_out plan past cpu mark h lpid dest gpa flags order)
+change_in plan past cpu mark ctx.Hv h (UInval lpid gpa order) = named plan past cpu mark h (UInval lpid gpa order) lpid (nat_le 1 lpid && nat_le lpid plan.guests) refl
+    (record { ctx_is = refl; hand_is = refl; lpid_is = refl }) (inval plan past cpu mark h lpid gpa order)
 change_in plan past cpu mark ctx.Hv h (UReturn r0 r2 outs) = return plan past cpu mark h r0 r2 outs
 change_in plan past cpu mark ctx.Hv h (GLi rd value) = refused plan past cpu mark ctx.Hv h (GLi rd value) (record { ctx_is = refl; hand_is = refl; lpid_is = refl }) refl
 change_in plan past cpu mark ctx.Hv h (GAdd rd ra rb) = refused plan past cpu mark ctx.Hv h (GAdd rd ra rb) (record { ctx_is = refl; hand_is = refl; lpid_is = refl }) refl
@@ -58,6 +61,7 @@ change_in plan past cpu mark (ctx.Guest run) h (URegslot lpid start size flags i
 change_in plan past cpu mark (ctx.Guest run) h (UUnregslot lpid id) = at_own plan past cpu mark run h (UUnregslot lpid id) refl
 change_in plan past cpu mark (ctx.Guest run) h (UPagein lpid src gpa flags order) = at_own plan past cpu mark run h (UPagein lpid src gpa flags order) refl
 change_in plan past cpu mark (ctx.Guest run) h (UPageout lpid dest gpa flags order) = at_own plan past cpu mark run h (UPageout lpid dest gpa flags order) refl
+change_in plan past cpu mark (ctx.Guest run) h (UInval lpid gpa order) = at_own plan past cpu mark run h (UInval lpid gpa order) refl
 change_in plan past cpu mark (ctx.Guest run) h (UReturn r0 r2 outs) = at_own plan past cpu mark run h (UReturn r0 r2 outs) refl
 change_in plan past cpu mark (ctx.Guest run) h (GLi rd value) = at_own plan past cpu mark run h (GLi rd value) refl
 change_in plan past cpu mark (ctx.Guest run) h (GAdd rd ra rb) = at_own plan past cpu mark run h (GAdd rd ra rb) refl

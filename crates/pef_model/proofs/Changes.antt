@@ -16,11 +16,12 @@ use Rattle.pef_model.specs.Plan.{Plan, IsWithin}
 use Rattle.pef_model.specs.Event.{Event, Mark}
 use Rattle.pef_model.specs.Target.{Ask, Target, Alone, AtGuest, target_in, target_of, vcpu_in, is_guest}
 use Rattle.pef_model.specs.Cpu.{CpuPart, next_cpu}
-use Rattle.pef_model.specs.GuestPart.{GuestPart, put, is_invalid, next_part, with_secure_page, with_running_vcpu, with_parked_vcpu, with_page_leaving, with_page_out, with_page_coming, with_page_refused, with_entry, ended_normal}
+use Rattle.pef_model.specs.GuestPart.{GuestPart, put, is_invalid, next_part, with_secure_page, with_running_vcpu, with_parked_vcpu, with_page_leaving, with_page_out, with_page_coming, with_page_refused, with_page_unmapped, with_entry, ended_normal}
 use Rattle.pef_model.specs.Entry.{may_write_in, may_enter_in}
 use Rattle.pef_model.specs.Guest.{next_guest}
 use Rattle.pef_model.specs.PageOut.{sealed_page}
 use Rattle.pef_model.specs.PageIn.{may_page_in_in}
+use Rattle.pef_model.specs.PageInval.{may_be_dropped}
 use Rattle.pef_model.specs.Deed.{Deed, may_return_in}
 use Rattle.pef_model.specs.History.{guest_after, pool_after, frame_after, deed_after, ask_of, entry_of, part_after, begins_out}
 use Rattle.pef_model.proofs.Folds.{test_same}
@@ -165,6 +166,18 @@ pub record ChangesSlots (plan : Plan) (past : List Event) (cpu : CpuPart) (e : E
   pub parts : PutsPart plan past e lpid (record (part_after plan past lpid) { slots = slots; words = words })
   pub pool : pool_after plan (e ∷ past) ≡ pool_after plan past
 
+-- a page that is Invalid or Shared loses its normal frame
+pub record UnmapsPage (plan : Plan) (past : List Event) (cpu : CpuPart) (e : Event) : Type 0 where
+  pub lpid : ℕ
+  pub gfn : ℕ
+  pub drops : may_be_dropped ((part_after plan past lpid).pages gfn).kind ≡ true
+  pub placed : gfn < plan.pages
+  pub number : IsWithin 1 plan.guests lpid
+  pub allowed : may_page_in_in (part_after plan past lpid).phase ≡ true
+  pub cpu_is : LeavesCpu cpu e cpu.ctx cpu.hand cpu.lpid
+  pub parts : PutsPart plan past e lpid (with_page_unmapped (part_after plan past lpid) gfn)
+  pub pool : pool_after plan (e ∷ past) ≡ pool_after plan past
+
 -- a vCPU is selected
 pub record Selects (plan : Plan) (past : List Event) (cpu : CpuPart) (e : Event) : Type 0 where
   pub lpid : ℕ
@@ -226,6 +239,7 @@ pub data Change (plan : Plan) (past : List Event) (cpu : CpuPart) (e : Event) : 
   Backs : BacksPage plan past cpu e → Change plan past cpu e
   Writes : WritesEntry plan past cpu e → Change plan past cpu e
   Slots : ChangesSlots plan past cpu e → Change plan past cpu e
+  Unmaps : UnmapsPage plan past cpu e → Change plan past cpu e
   Selected : Selects plan past cpu e → Change plan past cpu e
 
 -- what holds of a guest in normal memory with this entry, and of one that ends, holds where the entry is set

@@ -7,12 +7,12 @@ use Rattle.pef_model.specs.declared.state.Kind.TheVariants as kind
 use Rattle.pef_model.specs.declared.state.Mover.{Mover}
 use Rattle.pef_model.specs.Plan.{Plan}
 use Rattle.pef_model.specs.Event.{Event}
-use Rattle.pef_model.specs.GuestPart.{Page, GuestPart, is_secure, put, secured, begun_out, begun_in, ended_out, refused_in, has_secure_frame, sum_below}
+use Rattle.pef_model.specs.GuestPart.{Page, GuestPart, is_secure, put, secured, begun_out, begun_in, ended_out, refused_in, unmapped, has_secure_frame, sum_below}
 use Rattle.pef_model.specs.History.{cpu_after, pool_after, IsLegal}
 use Rattle.pef_model.specs.CountLaw.{frames_held, FramesAreCounted}
 use Rattle.pef_model.proofs.Puts.{put-here, put-other, put_in, here_or_elsewhere, put_in-elsewhere}
-use Rattle.pef_model.proofs.Orders.{invalid_not_secure, out_not_secure}
-use Rattle.pef_model.proofs.Changes.{Change, Quiet, Begins, Copies, Ends, Drops, Comes, Reads, Accepts, Refuses, Takes, Parked, Gone, Backs, Writes, Slots, Selected}
+use Rattle.pef_model.proofs.Orders.{invalid_not_secure, out_not_secure, unmapped_secure}
+use Rattle.pef_model.proofs.Changes.{Change, Quiet, Begins, Copies, Ends, Drops, Comes, Reads, Accepts, Refuses, Takes, Parked, Gone, Backs, Writes, Slots, Unmaps, Selected}
 use Rattle.pef_model.proofs.ChangeOf.{change}
 use Rattle.pef_model.proofs.Fields.{field_after, same_field, kept_field, entry_field}
 use Rattle.pef_model.specs.Target.{vcpu_in}
@@ -173,6 +173,11 @@ module _ (plan : Plan) (past : List Event) (e : Event) where
       Puts x.run.lpid x.gfn (secured old) (cpu.runs x.run (ap vcpu_in x.before)) x.placed (field_after plan past e (λ (g : GuestPart). g.pages) _ _ x.parts) (omega arith)
   frame_step all ranged placed (Writes x) = Stays (entry_field plan past e (λ (g : GuestPart). g.pages) x.lpid x.base x.length_ x.parts refl refl) x.pool
   frame_step all ranged placed (Slots x) = Stays (same_field plan past e (λ (g : GuestPart). g.pages) _ _ x.parts refl) x.pool
+  frame_step all ranged placed (Unmaps x) =
+      let old : Page = pages plan past x.lpid x.gfn in
+      let same : held (unmapped old) ≡ held old = ap (λ (b : Bool). if b || is_some old.mover then 1 else 0) (unmapped_secure old) in
+      let pool = x.pool in
+      Puts x.lpid x.gfn (unmapped old) x.number x.placed (field_after plan past e (λ (g : GuestPart). g.pages) _ _ x.parts) (omega arith)
   frame_step all ranged placed (Selected x) = Stays (kept_field plan past e (λ (g : GuestPart). g.pages) x.parts) x.pool
 
 -- the frames are counted, and each page that has one is one of the plan's

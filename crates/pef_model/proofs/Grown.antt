@@ -6,7 +6,7 @@ use Rattle.std.proofs.Math.Seq.{take-append_seam, take-length}
 use Rattle.std.proofs.lemmas.Bool.{ne_eqb}
 use Rattle.pef_model.specs.Plan.{Plan}
 use Rattle.pef_model.specs.Event.{Event}
-use Rattle.pef_model.specs.GuestPart.{Page, GuestPart, put, secured, begun_out, begun_in, refused_in, ended_out, is_secure, with_secure_page, with_running_vcpu, with_parked_vcpu, with_page_leaving, with_page_out, with_page_coming, with_page_refused}
+use Rattle.pef_model.specs.GuestPart.{Page, GuestPart, put, secured, begun_out, begun_in, refused_in, unmapped, ended_out, is_secure, with_secure_page, with_running_vcpu, with_parked_vcpu, with_page_leaving, with_page_out, with_page_coming, with_page_refused, with_page_unmapped}
 use Rattle.pef_model.specs.CountLaw.{OrderGrows}
 use Rattle.pef_model.specs.History.{part_after}
 use Rattle.pef_model.proofs.Folds.{same_test}
@@ -14,7 +14,7 @@ use Rattle.pef_model.proofs.Times.{times, times_passed, times_stopped, same_filt
 use Rattle.pef_model.proofs.Puts.{put-here, put-other}
 use Rattle.pef_model.proofs.Changes.{entry_gives}
 use Rattle.pef_model.proofs.Parts.{IsKept, holds_after}
-use Rattle.pef_model.proofs.Orders.{times-behind}
+use Rattle.pef_model.proofs.Orders.{times-behind, unmapped_secure}
 
 -- each page in a guest's order is Secure
 abbrev IsListed : GuestPart → Type 0
@@ -52,6 +52,7 @@ listed_kept g h = record {
   ];
   written = λ dw0 dw1. entry_gives IsListed g dw0 dw1 h h;
   slots = λ slots. h;
+  unmapped = λ at gfn some. secure_put g at (unmapped (g.pages at)) (λ secure. unmapped_secure (g.pages at) ∙ secure) gfn (h gfn some);
   drawn = λ words. h;
 }
 
@@ -88,6 +89,7 @@ grows_kept g h = record {
       (take-append_seam g.order (at ∷ []));
   written = λ dw0 dw1. entry_gives (Grows g) g dw0 dw1 (all_still g refl (λ gfn secure. secure)) (all_still g refl (λ gfn secure. secure));
   slots = λ slots. all_still (record g { slots = slots }) refl (λ gfn secure. secure);
+  unmapped = λ at. all_still (with_page_unmapped g at) refl (secure_put g at (unmapped (g.pages at)) (λ secure. unmapped_secure (g.pages at) ∙ secure));
   drawn = λ words. all_still (record g { words = words }) refl (λ gfn secure. secure);
 } where
   all_still : (new : GuestPart) → new.order ≡ g.order → ((gfn : ℕ) → is_secure (g.pages gfn) ≡ true → is_secure (new.pages gfn) ≡ true) → Grows g new

@@ -11,7 +11,7 @@ use Rattle.pef_model.specs.declared.state.Mover.{Mover}
 use Rattle.pef_model.specs.declared.state.Run.{Run}
 use Rattle.pef_model.specs.declared.state.Ctx.TheVariants as ctx
 use Rattle.pef_model.specs.declared.command.Cmd.{Cmd}
-use Rattle.pef_model.specs.declared.command.Cmd.TheVariants.{HLd, HSt, HSelect, HEnter, UPate, URegslot, UUnregslot, UPagein, UPageout, UReturn, GLi, GAdd, GXor, GLd, GSt, GHcall, GIrq, Go, Dump}
+use Rattle.pef_model.specs.declared.command.Cmd.TheVariants.{HLd, HSt, HSelect, HEnter, UPate, URegslot, UUnregslot, UPagein, UPageout, UInval, UReturn, GLi, GAdd, GXor, GLd, GSt, GHcall, GIrq, Go, Dump}
 use Rattle.pef_model.specs.declared.entry.Exit.{Exit}
 use Rattle.pef_model.specs.declared.entry.Exit.TheVariants as exit
 use Rattle.pef_model.specs.declared.entry.Answer.{Answer}
@@ -188,6 +188,7 @@ module _ (plan : Plan) (past : List Event) (cpu : CpuPart) (mark : Mark) (run : 
   running (UUnregslot lpid id) same target = at_one plan past cpu _ run.lpid (record { ctx_is = sym h; hand_is = refl; lpid_is = refl }) target refl refl
   running (UPagein lpid src gpa flags order) same target = at_one plan past cpu _ run.lpid (record { ctx_is = sym h; hand_is = refl; lpid_is = refl }) target refl refl
   running (UPageout lpid dest gpa flags order) same target = at_one plan past cpu _ run.lpid (record { ctx_is = sym h; hand_is = refl; lpid_is = refl }) target refl refl
+  running (UInval lpid gpa order) same target = at_one plan past cpu _ run.lpid (record { ctx_is = sym h; hand_is = refl; lpid_is = refl }) target refl refl
   running (UReturn r0 r2 outs) same target = at_one plan past cpu _ run.lpid (record { ctx_is = sym h; hand_is = refl; lpid_is = refl }) target refl refl
   running (GLi rd value) same target = at_one plan past cpu _ run.lpid (record { ctx_is = sym h; hand_is = refl; lpid_is = refl }) target refl refl
   running (GAdd rd ra rb) same target = at_one plan past cpu _ run.lpid (record { ctx_is = sym h; hand_is = refl; lpid_is = refl }) target refl refl

@@ -14,7 +14,7 @@ use Rattle.pef_model.proofs.PageBytes.{page_has_its_length}
 use Rattle.pef_model.proofs.Filled.{sealed_pages_fill}
 use Rattle.pef_model.proofs.Written.{frame_written}
 use Rattle.pef_model.proofs.Whole.{all_whole, writes_fill}
-use Rattle.pef_model.proofs.Changes.{Change, Quiet, Begins, Copies, Ends, Drops, Comes, Reads, Accepts, Refuses, Takes, Parked, Gone, Backs, Writes, Slots, Selected}
+use Rattle.pef_model.proofs.Changes.{Change, Quiet, Begins, Copies, Ends, Drops, Comes, Reads, Accepts, Refuses, Takes, Parked, Gone, Backs, Writes, Slots, Unmaps, Selected}
 use Rattle.pef_model.proofs.ChangeOf.{change}
 use Rattle.pef_model.proofs.Fields.{hands, hands_after, same_hands}
 
@@ -61,6 +61,7 @@ hands_by config past e range fill (Gone x) = fill_again config past e (same_hand
 hands_by config past e range fill (Backs x) = fill_again config past e (same_hands (plan_of config) past e _ _ x.cpu_is) fill.hands
 hands_by config past e range fill (Writes x) = fill_again config past e (same_hands (plan_of config) past e _ _ x.cpu_is) fill.hands
 hands_by config past e range fill (Slots x) = fill_again config past e (same_hands (plan_of config) past e _ _ x.cpu_is) fill.hands
+hands_by config past e range fill (Unmaps x) = fill_again config past e (same_hands (plan_of config) past e _ _ x.cpu_is) fill.hands
 hands_by config past e range fill (Selected x) = fill_again config past e (same_hands (plan_of config) past e _ _ x.cpu_is) fill.hands
 
 -- each frame keeps it, whatever an entry writes there

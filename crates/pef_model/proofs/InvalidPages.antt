@@ -9,7 +9,7 @@ use Rattle.pef_model.specs.declared.state.Run.{Run}
 use Rattle.pef_model.specs.declared.state.Ctx.{Ctx}
 use Rattle.pef_model.specs.declared.state.Ctx.TheVariants as ctx
 use Rattle.pef_model.specs.declared.command.Cmd.{Cmd}
-use Rattle.pef_model.specs.declared.command.Cmd.TheVariants.{GLd, GSt}
+use Rattle.pef_model.specs.declared.command.Cmd.TheVariants.{UInval, GLd, GSt}
 use Rattle.pef_model.specs.declared.command.Code.TheVariants.{USuccess}
 use Rattle.pef_model.specs.declared.state.Work.TheVariants.{Inward, Outward}
 use Rattle.pef_model.specs.declared.entry.Answer.{Answer}
@@ -17,39 +17,41 @@ use Rattle.pef_model.specs.declared.entry.Answer.TheVariants.{Done, Val, Ret}
 use Rattle.pef_model.specs.declared.entry.PoolSaw.{PoolSaw}
 use Rattle.pef_model.specs.Plan.{Plan}
 use Rattle.pef_model.specs.Event.{Event, newest}
-use Rattle.pef_model.specs.GuestPart.{GuestPart, page_of}
+use Rattle.pef_model.specs.GuestPart.{GuestPart, page_of, unmapped_kind}
 use Rattle.pef_model.specs.Deed.{Deed}
 use Rattle.pef_model.specs.History.{guest_after, Extends, last_store, reg, page_after}
 use Rattle.pef_model.proofs.Folds.{same_test, test_same}
 use Rattle.pef_model.specs.SearchLaw.{step_decides, decides_doubleword}
-use Rattle.pef_model.specs.TransitionLaw.{kind_given, kind_by}
+use Rattle.pef_model.specs.TransitionLaw.{kind_given}
 use Rattle.pef_model.specs.GuestLaw.{InvalidPageIsZero}
-use Rattle.pef_model.proofs.Outcomes.{outcome}
+use Rattle.pef_model.proofs.KindsLeft.{each_entry_leaves_kinds}
 use Rattle.pef_model.proofs.Stores.{last_store_is_newest}
 use Rattle.pef_model.proofs.DeedOf.{deed_is}
-
--- how an entry leaves a page's kind
-kinds : (plan : Plan) (past : List Event) (e : Event) (lpid gfn : ℕ) → Extends plan past e → (page_after plan (e ∷ past) lpid gfn).kind ≡ kind_by plan (guest_after plan lpid past).part e lpid gfn
-kinds plan past e lpid gfn extends = let given = outcome plan past e extends in grind (arith, common_steps)
 
 secure_not_invalid : kind.Secure ≡ kind.Invalid → ⊥
 secure_not_invalid h = cc
 
-out_not_invalid : kind.Out ≡ kind.Invalid → ⊥
-out_not_invalid h = cc
+-- a page without its normal frame is Invalid where it was
+unmapped_invalid : (k : Kind) → unmapped_kind k ≡ kind.Invalid → k ≡ kind.Invalid
+unmapped_invalid kind.Invalid h = refl
+unmapped_invalid kind.Secure h = cc
+unmapped_invalid kind.Out h = cc
+unmapped_invalid (kind.Shared frame fresh) h = cc
 
 -- no entry makes a page Invalid
-by_page : (b : Bool) (new old : Kind) → (new ≡ kind.Invalid → ⊥) → unwrap_or (if b then Some new else None) old ≡ kind.Invalid → old ≡ kind.Invalid
-by_page true new old other h = absurd (other h)
-by_page false new old other h = h
+by_page : (b : Bool) (new old : Kind) → (new ≡ kind.Invalid → old ≡ kind.Invalid) → unwrap_or (if b then Some new else None) old ≡ kind.Invalid → old ≡ kind.Invalid
+by_page true new old was h = was h
+by_page false new old was h = h
 
-invalid_before : (plan : Plan) (g : GuestPart) (lpid gfn : ℕ) (c : Ctx) (cmd : Cmd) (a : Answer) (pool : Option PoolSaw) (old : Kind) →
-    unwrap_or (kind_given plan g lpid gfn c cmd a pool) old ≡ kind.Invalid → old ≡ kind.Invalid
-invalid_before plan g lpid gfn (ctx.Guest run) (GLd rd gpa) (Val value) (Some saw) old h = by_page ((run.lpid == lpid) && (page_of plan gpa == gfn)) kind.Secure old secure_not_invalid h
-invalid_before plan g lpid gfn (ctx.Guest run) (GSt rs gpa) Done (Some saw) old h = by_page ((run.lpid == lpid) && (page_of plan gpa == gfn)) kind.Secure old secure_not_invalid h
-invalid_before plan g lpid gfn (ctx.Uv (Inward move)) cmd (Ret USuccess) pool old h = by_page ((move.lpid == lpid) && (move.gfn == gfn)) kind.Secure old secure_not_invalid h
-invalid_before plan g lpid gfn (ctx.Uv (Outward move)) cmd (Ret USuccess) pool old h = by_page ((move.lpid == lpid) && (move.gfn == gfn)) kind.Out old out_not_invalid h
-invalid_before plan g lpid gfn c cmd a pool old h = h
+invalid_before : (plan : Plan) (g : GuestPart) (lpid gfn : ℕ) (c : Ctx) (cmd : Cmd) (a : Answer) (pool : Option PoolSaw) →
+    unwrap_or (kind_given plan g lpid gfn c cmd a pool) (g.pages gfn).kind ≡ kind.Invalid → (g.pages gfn).kind ≡ kind.Invalid
+invalid_before plan g lpid gfn (ctx.Guest run) (GLd rd gpa) (Val value) (Some saw) h = by_page ((run.lpid == lpid) && (page_of plan gpa == gfn)) kind.Secure (g.pages gfn).kind (λ is. cc) h
+invalid_before plan g lpid gfn (ctx.Guest run) (GSt rs gpa) Done (Some saw) h = by_page ((run.lpid == lpid) && (page_of plan gpa == gfn)) kind.Secure (g.pages gfn).kind (λ is. cc) h
+invalid_before plan g lpid gfn (ctx.Uv (Inward move)) cmd (Ret USuccess) pool h = by_page ((move.lpid == lpid) && (move.gfn == gfn)) kind.Secure (g.pages gfn).kind (λ is. cc) h
+invalid_before plan g lpid gfn (ctx.Uv (Outward move)) cmd (Ret USuccess) pool h = by_page ((move.lpid == lpid) && (move.gfn == gfn)) kind.Out (g.pages gfn).kind (λ is. cc) h
+invalid_before plan g lpid gfn ctx.Hv (UInval named gpa order) (Ret USuccess) pool h =
+    by_page ((named == lpid) && (page_of plan gpa == gfn)) (unmapped_kind (g.pages gfn).kind) (g.pages gfn).kind (unmapped_invalid (g.pages gfn).kind) h
+invalid_before plan g lpid gfn c cmd a pool h = h
 
 -- a store to an address that was done leaves the page Secure
 store_secures : (plan : Plan) (past : List Event) (e : Event) (run : Run) (rs gpa : ℕ) → Extends plan past e → e.saw.before ≡ ctx.Guest run → e.trace.cmd ≡ GSt rs gpa → e.trace.answer ≡ Done → e.saw.frame ≡ None →
@@ -60,7 +62,7 @@ store_secures plan past e run rs gpa extends before cmd_is done own =
     let pool_is = ap (λ (d : Deed). d.pool) told_deed in
     let here = same_test run.lpid in
     let there = same_test (page_of plan gpa) in
-    kinds plan past e run.lpid (page_of plan gpa) extends ∙ grind (arith, common_steps)
+    each_entry_leaves_kinds plan past e run.lpid (page_of plan gpa) extends ∙ grind (arith, common_steps)
 
 -- the store that an entry is
 record IsStoreBy (lpid gpa : ℕ) (c : Ctx) (cmd : Cmd) (a : Answer) (frame : Option ℕ) : Type 0 where
@@ -88,8 +90,8 @@ zero_after : (plan : Plan) (past : List Event) (e : Event) (lpid gpa : ℕ) → 
 zero_after plan past e lpid gpa extends invalid earlier = by_decision (decides_doubleword plan lpid gpa past e) refl where
   before : last_store plan past lpid gpa ≡ 0
   before = earlier (
-      invalid_before plan (guest_after plan lpid past).part lpid (page_of plan gpa) e.saw.before e.trace.cmd e.trace.answer e.saw.pool (page_after plan past lpid (page_of plan gpa)).kind
-      (sym (kinds plan past e lpid (page_of plan gpa) extends) ∙ invalid))
+      invalid_before plan (guest_after plan lpid past).part lpid (page_of plan gpa) e.saw.before e.trace.cmd e.trace.answer e.saw.pool
+      (sym (each_entry_leaves_kinds plan past e lpid (page_of plan gpa) extends) ∙ invalid))
 
   by_decision : (o : Option ℕ) → decides_doubleword plan lpid gpa past e ≡ o → last_store plan (e ∷ past) lpid gpa ≡ 0
   by_decision None is =

@@ -36,6 +36,7 @@ pub mod HypervisorChanges
 pub mod PageInChanges
 pub mod GuestChanges
 pub mod EntryChanges
+pub mod Unmapped
 pub mod ChangeOf
 pub mod Fields
 pub mod Moving
@@ -83,6 +84,7 @@ pub mod SoundReports
 pub mod DeedOf
 pub mod ContextAnswers
 pub mod AccessAnswers
+mod KindsLeft
 pub mod InvalidPages
 pub mod TagBytes
 pub mod ToldEntries
@@ -98,6 +100,7 @@ mod PartedAddresses
 mod BeginAnswers
 mod EntryAnswers
 mod SlotAnswers
+mod InvalAnswers
 mod SlotChanges
 pub mod SlotsApart
 mod ExitAnswers

@@ -6,16 +6,17 @@ use Rattle.pef_model.specs.declared.state.Phase.TheVariants.{Absent, Normal}
 use Rattle.pef_model.specs.declared.state.Work.TheVariants.{Inward}
 use Rattle.pef_model.specs.declared.state.Ctx.{Ctx}
 use Rattle.pef_model.specs.declared.state.Ctx.TheVariants as ctx
+use Rattle.pef_model.specs.declared.command.Code.{Code}
 use Rattle.pef_model.specs.declared.command.Code.TheVariants.{USuccess, UP2, UP3, UPermission}
 use Rattle.pef_model.specs.declared.command.Cmd.{Cmd}
-use Rattle.pef_model.specs.declared.command.Cmd.TheVariants.{HEnter, UPate, UPagein, UPageout, UReturn, GLd, GSt, GIrq}
+use Rattle.pef_model.specs.declared.command.Cmd.TheVariants.{HEnter, UPate, UPagein, UPageout, UInval, UReturn, GLd, GSt, GIrq}
 use Rattle.pef_model.specs.declared.entry.Answer.{Answer}
 use Rattle.pef_model.specs.declared.entry.Answer.TheVariants.{Done, Val, Ret, Step, Enter, Exit}
 use Rattle.pef_model.specs.declared.entry.PoolSaw.{PoolSaw}
 use Rattle.pef_model.specs.Plan.{Plan}
 use Rattle.pef_model.specs.Event.{Event}
 use Rattle.pef_model.specs.Target.{Alone, AtGuest, target_in, is_guest, touches_guest}
-use Rattle.pef_model.specs.GuestPart.{GuestPart, with_entry, ended_normal, part_of_access, part_in}
+use Rattle.pef_model.specs.GuestPart.{GuestPart, page_of, with_entry, ended_normal, part_of_inval, part_of_access, part_in}
 use Rattle.pef_model.specs.Guest.{Guest, next_guest}
 use Rattle.pef_model.specs.PageOut.{has_frame}
 use Rattle.pef_model.specs.Entry.{has_frames, may_write_in}
@@ -34,6 +35,10 @@ written_life g dw0 dw1 = by_length (dw1 == 0) where
   by_length true = refl
   by_length false = refl
 
+inval_life : (g : GuestPart) (code : Code) (gfn : ℕ) → life_of (part_of_inval g code gfn) ≡ life_of g
+inval_life g USuccess gfn = refl
+inval_life g code gfn = refl
+
 access_life : (g : GuestPart) (gfn : ℕ) (pool : Option PoolSaw) → life_of (part_of_access g gfn pool) ≡ life_of g
 access_life g gfn None = refl
 access_life g gfn (Some saw) = refl
@@ -48,6 +53,7 @@ aimed_life plan g pool v cpu bytes lpid l ctx.Hv (UPate named dw0 dw1) (Ret USuc
       by_place true u = u
       by_place false u = cc
 aimed_life plan g pool v cpu bytes lpid l ctx.Hv (UPate named dw0 dw1) (Ret code) t = refl
+aimed_life plan g pool v cpu bytes lpid l ctx.Hv (UInval named gpa order) (Ret code) t = inval_life g code (page_of plan gpa)
 aimed_life plan g pool v cpu bytes lpid l ctx.Hv cmd (Ret code) t = refl
 aimed_life plan g pool v cpu bytes lpid l ctx.Hv (UReturn r0 r2 outs) Enter t = refl
 aimed_life plan g pool v cpu bytes lpid l ctx.Hv (HEnter named vid value) Enter t = refl

@@ -1,12 +1,15 @@
 -- Pages on the move and the calls that move them, as steps change them.
-use Rattle.std.proofs.Common.{◌≡◌, ◌≢◌, ℕ, List, refl, ap, sym, subst, ◌∙◌, inl, inr, Option, Some, None}
+use Rattle.std.proofs.Common.{◌≡◌, ◌≢◌, ℕ, List, true, false, refl, ap, sym, subst, ◌∙◌, inl, inr, Option, Some, None}
 use Rattle.std.proofs.lemmas.Bool.{cases_eq}
 use Rattle.pef_model.specs.declared.state.Way.{Way}
 use Rattle.pef_model.specs.declared.state.Way.TheVariants as way
 use Rattle.pef_model.specs.declared.state.Mover.{Mover}
+use Rattle.pef_model.specs.declared.state.Kind.{Kind}
+use Rattle.pef_model.specs.declared.state.Kind.TheVariants as kind
 use Rattle.pef_model.specs.declared.state.Ctx.{Ctx}
 use Rattle.pef_model.specs.declared.state.Ctx.TheVariants as ctx
-use Rattle.pef_model.specs.GuestPart.{Page, put}
+use Rattle.pef_model.specs.GuestPart.{Page, put, unmapped, unmapped_kind}
+use Rattle.pef_model.specs.PageInval.{may_be_dropped}
 use Rattle.pef_model.specs.MoveLaw.{KeepsWhatIsSealed}
 use Rattle.pef_model.proofs.Works.{PageMove, work_of, with_copy, one_move, one_call, kind_on}
 use Rattle.pef_model.proofs.Puts.{put-here, put-other, put_in, IsElsewhere, here_or_elsewhere, put_in-here, put_in-elsewhere}
@@ -40,6 +43,23 @@ pub record AreMoved (ctxs : ℕ → Ctx) (hands : ℕ → List ℕ) (pages : ℕ
   pub moves : (n : ℕ) (work : PageMove) → ctxs n ≡ ctx.Uv (work_of work) → work.move.generation ≡ generations work.move.lpid → IsMoving work.way (page_named pages work) (hands n) n
   pub moved : (lpid gfn : ℕ) (mover : Mover) → (pages lpid gfn).mover ≡ Some mover → HasCall (ctxs mover.cpu) mover.way lpid gfn (generations lpid)
   pub keeps : (lpid gfn : ℕ) → KeepsWhatIsSealed (pages lpid gfn)
+
+-- a page without its normal frame is Out exactly where it was
+pub unmapped_out : (k : Kind) → unmapped_kind k ≡ kind.Out → k ≡ kind.Out
+unmapped_out kind.Invalid h = cc
+unmapped_out kind.Secure h = cc
+unmapped_out kind.Out h = refl
+unmapped_out (kind.Shared frame fresh) h = cc
+
+-- so it keeps what is sealed
+keeps_unmapped : (page : Page) → KeepsWhatIsSealed page → KeepsWhatIsSealed (unmapped page)
+keeps_unmapped page old =
+    record { sealed = ((λ some. ap unmapped_kind (old.sealed.0 some)), (λ out. old.sealed.1 (unmapped_out page.kind out))); pending = old.pending }
+
+-- and a page that moves isn't Invalid or Shared
+moves_undropped : (way : Way) (k : Kind) → k ≡ kind_on way → may_be_dropped k ≡ true → ⊥
+moves_undropped way.Inward k is drops = let none : false ≡ true = ap may_be_dropped (sym is) ∙ drops in cc
+moves_undropped way.Outward k is drops = let none : false ≡ true = ap may_be_dropped (sym is) ∙ drops in cc
 
 -- a context has one call in progress
 one_work : (c : Ctx) (work other : PageMove) → c ≡ ctx.Uv (work_of work) → c ≡ ctx.Uv (work_of other) → work ≡ other
@@ -171,6 +191,23 @@ module _ (ctxs : ℕ → Ctx) (hands : ℕ → List ℕ) (pages : ℕ → ℕ �
       | inr elsewhere ↦ h.moved lpid gfn mover (mover_else l g new lpid gfn mover elsewhere is)
     ];
     keeps = λ lpid gfn. kept l g new lpid gfn keeps;
+  }
+
+  -- a page that is Invalid or Shared loses its normal frame
+  pub moved_unmapped : (l g : ℕ) → may_be_dropped (pages l g).kind ≡ true → AreMoved ctxs hands (put_in pages l g (unmapped (pages l g))) generations
+  moved_unmapped l g drops = record {
+    moves = λ n work is same.
+        let moving = h.moves n work is same in
+        let apart : IsElsewhere l g work.move.lpid work.move.gfn = (λ p q.
+        moves_undropped work.way (page_named pages work).kind moving.kind_is
+        (ap (λ (x : ℕ). may_be_dropped (pages x work.move.gfn).kind) p ∙ ap (λ (x : ℕ). may_be_dropped (pages l x).kind) q ∙ drops)) in
+        subst (λ (page : Page). IsMoving work.way page (hands n) n) (sym (put_in-elsewhere pages l g (unmapped (pages l g)) work.move.lpid work.move.gfn apart)) moving;
+    moved = λ lpid gfn mover is. elim (here_or_elsewhere l g lpid gfn) [
+      | inl (p, q) ↦ h.moved lpid gfn mover
+          (ap (λ (x : ℕ). (pages x gfn).mover) p ∙ ap (λ (x : ℕ). (pages l x).mover) q ∙ mover_put l g (unmapped (pages l g)) lpid gfn mover p q is)
+      | inr elsewhere ↦ h.moved lpid gfn mover (mover_else l g (unmapped (pages l g)) lpid gfn mover elsewhere is)
+    ];
+    keeps = λ lpid gfn. kept l g (unmapped (pages l g)) lpid gfn (keeps_unmapped (pages l g) (h.keeps l g));
   }
 
   -- a page at rest begins to move

@@ -7,12 +7,12 @@ use Rattle.pef_model.specs.declared.state.Kind.{Kind}
 use Rattle.pef_model.specs.declared.state.Kind.TheVariants as kind
 use Rattle.pef_model.specs.Plan.{Plan}
 use Rattle.pef_model.specs.Event.{Event}
-use Rattle.pef_model.specs.GuestPart.{Page, GuestPart, put, secured, begun_out, begun_in, refused_in, ended_out, is_invalid, is_secure, with_secure_page, with_page_out}
+use Rattle.pef_model.specs.GuestPart.{Page, GuestPart, put, secured, begun_out, begun_in, refused_in, unmapped, unmapped_kind, ended_out, is_invalid, is_secure, with_secure_page, with_page_out}
 use Rattle.pef_model.specs.History.{cpu_after, IsLegal, part_after}
 use Rattle.pef_model.proofs.Folds.{same_test}
 use Rattle.pef_model.proofs.Times.{times, times-append, times_passed, times_stopped}
 use Rattle.pef_model.proofs.Puts.{put-here, put-other}
-use Rattle.pef_model.proofs.Changes.{Change, Quiet, Begins, Copies, Ends, Drops, Comes, Reads, Accepts, Refuses, Takes, Parked, Gone, Backs, Writes, Slots, Selected, KeepsParts, PutsPart, entry_gives}
+use Rattle.pef_model.proofs.Changes.{Change, Quiet, Begins, Copies, Ends, Drops, Comes, Reads, Accepts, Refuses, Takes, Parked, Gone, Backs, Writes, Slots, Unmaps, Selected, KeepsParts, PutsPart, entry_gives}
 use Rattle.pef_model.proofs.ChangeOf.{change}
 use Rattle.pef_model.proofs.Fields.{holds_same, holds_one}
 use Rattle.pef_model.proofs.Works.{inward}
@@ -26,6 +26,15 @@ invalid_not_secure page h = by_kind page.kind h where
   by_kind kind.Secure h = cc
   by_kind kind.Out h = refl
   by_kind (kind.Shared frame fresh) h = refl
+
+-- a page without its normal frame is Secure where it was
+pub unmapped_secure : (page : Page) → is_secure (unmapped page) ≡ is_secure page
+unmapped_secure page = by_kind page.kind where
+  by_kind : (k : Kind) → is_secure (record page { kind = unmapped_kind k }) ≡ is_secure (record page { kind = k })
+  by_kind kind.Invalid = refl
+  by_kind kind.Secure = refl
+  by_kind kind.Out = refl
+  by_kind (kind.Shared frame fresh) = refl
 
 -- a guest's order has the page as often as it is Secure
 abbrev CountsPage : ℕ → GuestPart → Type 0
@@ -105,6 +114,10 @@ counts_by plan past e all h (Backs x) =
 counts_by plan past e all h (Writes x) =
     counts_one plan past e _ _ x.parts (entry_gives (λ (g : GuestPart). (gfn : ℕ) → CountsPage gfn g) (part_after plan past x.lpid) x.base x.length_ (h x.lpid) (h x.lpid)) h
 counts_by plan past e all h (Slots x) = counts_one plan past e _ _ x.parts (h x.lpid) h
+counts_by plan past e all h (Unmaps x) =
+    let g : GuestPart = part_after plan past x.lpid in
+    counts_one plan past e _ _ x.parts (counts_put g x.gfn (unmapped (g.pages x.gfn)) g.order (h x.lpid) (λ gfn other. refl)
+    (h x.lpid x.gfn ∙ ap (λ (b : Bool). if b then 1 else 0) (sym (unmapped_secure (g.pages x.gfn))))) h
 counts_by plan past e all h (Selected x) = counts_same plan past e x.parts h
 
 -- so an order has each Secure page once after a legal history

@@ -12,7 +12,7 @@ use Rattle.pef_model.specs.declared.state.Ctx.TheVariants as ctx
 use Rattle.pef_model.specs.declared.command.Code.{Code}
 use Rattle.pef_model.specs.declared.command.Code.TheVariants.{USuccess, UParameter, UInvalid}
 use Rattle.pef_model.specs.declared.command.Cmd.{Cmd}
-use Rattle.pef_model.specs.declared.command.Cmd.TheVariants.{HLd, HSt, HSelect, HEnter, UPate, URegslot, UUnregslot, UPagein, UPageout, UReturn, GLi, GAdd, GXor, GLd, GSt, GHcall, GIrq, Go, Dump}
+use Rattle.pef_model.specs.declared.command.Cmd.TheVariants.{HLd, HSt, HSelect, HEnter, UPate, URegslot, UUnregslot, UPagein, UPageout, UInval, UReturn, GLi, GAdd, GXor, GLd, GSt, GHcall, GIrq, Go, Dump}
 use Rattle.pef_model.specs.declared.entry.Exit.TheVariants as exit
 use Rattle.pef_model.specs.declared.entry.Answer.{Answer}
 use Rattle.pef_model.specs.declared.entry.Answer.TheVariants.{Done, Val, Ret, Step, Enter, Exit, Again, Gone, Hole, Context}
@@ -69,6 +69,8 @@ Outcome ctx.Hv (UPagein lpid src gpa flags order) a after shown = ⊥
 Outcome ctx.Hv (UPageout lpid dest gpa flags order) Step after shown = Begins lpid after × (shown ≡ [])
 Outcome ctx.Hv (UPageout lpid dest gpa flags order) (Ret code) after shown = (after ≡ ctx.Hv) × (shown ≡ [])
 Outcome ctx.Hv (UPageout lpid dest gpa flags order) a after shown = ⊥
+Outcome ctx.Hv (UInval lpid gpa order) (Ret code) after shown = (after ≡ ctx.Hv) × (shown ≡ [])
+Outcome ctx.Hv (UInval lpid gpa order) a after shown = ⊥
 Outcome ctx.Hv (UReturn r0 r2 outs) Enter after shown = shown ≡ []
 Outcome ctx.Hv (UReturn r0 r2 outs) (Ret code) after shown = (after ≡ ctx.Hv) × (shown ≡ [])
 Outcome ctx.Hv (UReturn r0 r2 outs) a after shown = ⊥
@@ -100,6 +102,7 @@ Outcome (ctx.Guest run) (URegslot lpid start size flags id) (Ret code) after sho
 Outcome (ctx.Guest run) (UUnregslot lpid id) (Ret code) after shown = after ≡ ctx.Guest run
 Outcome (ctx.Guest run) (UPagein lpid src gpa flags order) (Ret code) after shown = after ≡ ctx.Guest run
 Outcome (ctx.Guest run) (UPageout lpid dest gpa flags order) (Ret code) after shown = after ≡ ctx.Guest run
+Outcome (ctx.Guest run) (UInval lpid gpa order) (Ret code) after shown = after ≡ ctx.Guest run
 Outcome (ctx.Guest run) (UReturn r0 r2 outs) (Ret code) after shown = after ≡ ctx.Guest run
 Outcome (ctx.Guest run) (GLi rd value) Done after shown = after ≡ ctx.Guest run
 Outcome (ctx.Guest run) (GAdd rd ra rb) Done after shown = after ≡ ctx.Guest run
@@ -292,6 +295,12 @@ unregister_comes : (plan : Plan) (past : List Event) (asked : Ask) (lpid id : �
 unregister_comes plan past asked lpid id false = (refl, refl)
 unregister_comes plan past asked lpid id true = (refl, refl)
 
+-- and UV_PAGE_INVAL
+inval_comes : (plan : Plan) (past : List Event) (asked : Ask) (lpid gpa order : ℕ) (b : Bool) →
+    Comes ctx.Hv (UInval lpid gpa order) (deed_after plan past (record asked { before = ctx.Hv }) (UInval lpid gpa order) (if b then AtGuest lpid else Alone))
+inval_comes plan past asked lpid gpa order false = (refl, refl)
+inval_comes plan past asked lpid gpa order true = (refl, refl)
+
 -- a step's deed has such an outcome
 pub deed_comes : (plan : Plan) (past : List Event) (c : Ctx) (asked : Ask) (cmd : Cmd) →
     Comes c cmd (deed_after plan past (record asked { before = c }) cmd (target_in plan c asked.lpid cmd))
@@ -304,6 +313,7 @@ deed_comes plan past ctx.Hv asked (URegslot lpid start size flags id) = register
 deed_comes plan past ctx.Hv asked (UUnregslot lpid id) = unregister_comes plan past asked lpid id (nat_le 1 lpid && nat_le lpid plan.guests)
 deed_comes plan past ctx.Hv asked (UPagein lpid src gpa flags order) = page_in_comes plan past asked lpid src gpa flags order (nat_le 1 lpid && nat_le lpid plan.guests)
 deed_comes plan past ctx.Hv asked (UPageout lpid dest gpa flags order) = page_out_comes plan past asked lpid dest gpa flags order (nat_le 1 lpid && nat_le lpid plan.guests)
+deed_comes plan past ctx.Hv asked (UInval lpid gpa order) = inval_comes plan past asked lpid gpa order (nat_le 1 lpid && nat_le lpid plan.guests)
 deed_comes plan past ctx.Hv asked (UReturn r0 r2 outs) = return_comes (guest_after plan asked.lpid past).part asked r0 r2 outs
 deed_comes plan past ctx.Hv asked cmd = (refl, refl)
 deed_comes plan past (ctx.Uv (Inward move)) asked Go = inward_comes plan past asked move move.copied

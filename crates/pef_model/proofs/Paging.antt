@@ -22,10 +22,10 @@ use Rattle.pef_model.specs.MoveLaw.{KeepsWhatIsSealed, EachCpuMovesItsPage, Each
 use Rattle.pef_model.specs.CountLaw.{EachNormalGuestIsPlain}
 use Rattle.pef_model.specs.Target.{work_by}
 use Rattle.pef_model.proofs.Fields.{ctxs, hands, ctxs_after, hands_after, same_ctxs, same_hands, field_after, same_field, kept_field, entry_field, holds_same, holds_one}
-use Rattle.pef_model.proofs.Changes.{Change, Quiet, Begins, Copies, Ends, Drops, Comes, Reads, Accepts, Refuses, Takes, Parked, Gone, Backs, Writes, Slots, Selected, KeepsParts, PutsPart, may_run_in, is_backed_in, entry_gives}
+use Rattle.pef_model.proofs.Changes.{Change, Quiet, Begins, Copies, Ends, Drops, Comes, Reads, Accepts, Refuses, Takes, Parked, Gone, Backs, Writes, Slots, Unmaps, Selected, KeepsParts, PutsPart, may_run_in, is_backed_in, entry_gives}
 use Rattle.pef_model.proofs.ChangeOf.{change}
 use Rattle.pef_model.proofs.Works.{PageMove, inward, outward, work_of, moves_none}
-use Rattle.pef_model.proofs.Moving.{AreMoved, IsMoving, moved_on, moved_copied, moved_dropped, moved_backed, moved_begun, moved_ended, moved_renewed}
+use Rattle.pef_model.proofs.Moving.{AreMoved, IsMoving, moved_on, moved_copied, moved_dropped, moved_backed, moved_unmapped, moved_begun, moved_ended, moved_renewed}
 use Rattle.pef_model.proofs.Puts.{put-same}
 use Rattle.pef_model.proofs.Reached.{all_reached}
 use Rattle.pef_model.proofs.Running.{all_run, runs_in}
@@ -165,6 +165,7 @@ module _ (plan : Plan) (past : List Event) (e : Event) (legal : IsLegal plan pas
       (entry_gives (λ (p : GuestPart). AreMoved (ctxs plan past) (hands plan past) (pages plan past) (put (generations plan past) x.lpid p.generation)) g x.base x.length_
       (carry refl refl refl (λ i n. sym (put-same (generations plan past) x.lpid n) i) all)
       (moved_renewed _ _ _ _ m all x.lpid (g.generation + 1) rest (λ n work is here now. let low = reached n work is here in omega arith)))
+  moved_by (Unmaps x) = one_page _ _ (same_ctxs plan past e _ _ x.cpu_is) (same_hands plan past e _ _ x.cpu_is) x.parts refl (moved_unmapped _ _ _ _ m all x.lpid x.gfn x.drops)
   moved_by (Selected x) = no_parts (same_ctxs plan past e _ _ x.cpu_is) (same_hands plan past e _ _ x.cpu_is) x.parts all
 
   -- a page that moves in its guest's generation is none of a guest that isn't to be secure
@@ -191,6 +192,7 @@ module _ (plan : Plan) (past : List Event) (e : Event) (legal : IsLegal plan pas
   plain_by (Backs x) = holds_one plan past e IsPlain _ _ x.parts (λ may. absurd (backed_not_plain _ (runs_in plan past (all_run plan past legal) m x.run x.before x.generation) x.backed may)) plain
   plain_by (Writes x) = holds_one plan past e IsPlain _ _ x.parts (entry_gives IsPlain (part_after plan past x.lpid) x.base x.length_ (λ may. plain x.lpid x.allowed) (λ may. plain x.lpid x.allowed)) plain
   plain_by (Slots x) = holds_one plan past e IsPlain _ _ x.parts (plain x.lpid) plain
+  plain_by (Unmaps x) = holds_one plan past e IsPlain _ _ x.parts (λ may. absurd (in_not_plain _ x.allowed may)) plain
   plain_by (Selected x) = holds_same plan past e IsPlain x.parts plain
 
 -- so it is after a legal history

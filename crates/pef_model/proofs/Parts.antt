@@ -15,12 +15,12 @@ use Rattle.pef_model.specs.declared.state.Ctx.TheVariants as ctx
 use Rattle.pef_model.specs.declared.command.Code.{Code}
 use Rattle.pef_model.specs.declared.command.Code.TheVariants.{USuccess, UP2}
 use Rattle.pef_model.specs.declared.command.Cmd.{Cmd}
-use Rattle.pef_model.specs.declared.command.Cmd.TheVariants.{HEnter, UPate, URegslot, UUnregslot, UPagein, UPageout, UReturn, GLd, GSt, GHcall, GIrq}
+use Rattle.pef_model.specs.declared.command.Cmd.TheVariants.{HEnter, UPate, URegslot, UUnregslot, UPagein, UPageout, UInval, UReturn, GLd, GSt, GHcall, GIrq}
 use Rattle.pef_model.specs.declared.entry.PoolSaw.{PoolSaw}
 use Rattle.pef_model.specs.declared.entry.Answer.{Answer}
 use Rattle.pef_model.specs.declared.entry.Answer.TheVariants.{Done, Val, Ret, Step, Enter, Exit}
 use Rattle.pef_model.specs.Slots.{registered_by, unregistered_by}
-use Rattle.pef_model.specs.GuestPart.{GuestPart, Page, VcpuPart, part_of_write, part_of_hypervisor, part_of_work, part_of_access, part_of_guest, part_in, page_of, slot_asked, waits_for, start_phase, with_secure_page, with_running_vcpu, with_parked_vcpu, with_page_leaving, with_page_out, with_page_coming, with_page_refused, has_word, with_entry}
+use Rattle.pef_model.specs.GuestPart.{GuestPart, Page, VcpuPart, part_of_write, part_of_inval, part_of_hypervisor, part_of_work, part_of_access, part_of_guest, part_in, page_of, slot_asked, waits_for, start_phase, with_secure_page, with_running_vcpu, with_parked_vcpu, with_page_leaving, with_page_out, with_page_coming, with_page_refused, with_page_unmapped, has_word, with_entry}
 use Rattle.pef_model.specs.Guest.{Guest, next_guest}
 use Rattle.pef_model.specs.History.{guest_after, part_after}
 use Rattle.pef_model.proofs.Changes.{entry_gives, may_run_in}
@@ -37,12 +37,17 @@ pub record IsKept (P : GuestPart → Type 0) (g : GuestPart) : Type 0 where
   pub secure : (gfn : ℕ) → P (with_secure_page g gfn)
   pub written : (dw0 dw1 : ℕ) → P (with_entry g dw0 dw1)
   pub slots : (slots : List Slot) → P (record g { slots = slots })
+  pub unmapped : (gfn : ℕ) → P (with_page_unmapped g gfn)
   pub drawn : (words : ℕ) → P (record g { words = words })
 
 module _ (P : GuestPart → Type 0) (plan : Plan) (g : GuestPart) (k : IsKept P g) where
   by_write : (code : Code) (dw0 dw1 : ℕ) → P (part_of_write g code dw0 dw1)
   by_write USuccess dw0 dw1 = k.written dw0 dw1
   by_write code dw0 dw1 = k.same
+
+  by_inval : (code : Code) (gfn : ℕ) → P (part_of_inval g code gfn)
+  by_inval USuccess gfn = k.unmapped gfn
+  by_inval code gfn = k.same
 
   by_hypervisor : (vid cpu : ℕ) (bytes : List ℕ) (a : Answer) (cmd : Cmd) → P (part_of_hypervisor plan g vid cpu bytes a cmd)
   by_hypervisor vid cpu bytes Step (UPageout lpid dest gpa flags order) = k.leaving (page_of plan gpa) cpu bytes
@@ -52,6 +57,7 @@ module _ (P : GuestPart → Type 0) (plan : Plan) (g : GuestPart) (k : IsKept P 
   by_hypervisor vid cpu bytes (Ret code) (UPate lpid dw0 dw1) = by_write code dw0 dw1
   by_hypervisor vid cpu bytes (Ret code) (URegslot lpid start size flags id) = k.slots (registered_by code g.slots (slot_asked plan start size id))
   by_hypervisor vid cpu bytes (Ret code) (UUnregslot lpid id) = k.slots (unregistered_by code g.slots id)
+  by_hypervisor vid cpu bytes (Ret code) (UInval lpid gpa order) = by_inval code (page_of plan gpa)
   by_hypervisor vid cpu bytes a cmd = k.same
 
   by_work : (bytes : List ℕ) (a : Answer) (work : Work) → P (part_of_work g bytes a work)
@@ -101,6 +107,7 @@ life_kept P g h written = record {
   secure = λ gfn. h (with_secure_page g gfn).pages g.vcpus (with_secure_page g gfn).order g.slots g.words;
   written = written;
   slots = λ slots. h g.pages g.vcpus g.order slots g.words;
+  unmapped = λ gfn. h (with_page_unmapped g gfn).pages g.vcpus g.order g.slots g.words;
   drawn = λ words. h g.pages g.vcpus g.order g.slots words;
 }
 

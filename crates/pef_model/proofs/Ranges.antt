@@ -11,7 +11,7 @@ use Rattle.pef_model.specs.Cpu.{CpuPart, next_cpu}
 use Rattle.pef_model.specs.History.{cpu_after, IsLegal}
 use Rattle.pef_model.proofs.Puts.{put-here, put-other}
 use Rattle.pef_model.proofs.Works.{one_vcpu}
-use Rattle.pef_model.proofs.Changes.{Change, Quiet, Begins, Copies, Ends, Drops, Comes, Reads, Accepts, Refuses, Takes, Parked, Gone, Backs, Writes, Slots, Selected, LeavesCpu}
+use Rattle.pef_model.proofs.Changes.{Change, Quiet, Begins, Copies, Ends, Drops, Comes, Reads, Accepts, Refuses, Takes, Parked, Gone, Backs, Writes, Slots, Unmaps, Selected, LeavesCpu}
 use Rattle.pef_model.proofs.ChangeOf.{change}
 use Rattle.pef_model.proofs.Fields.{cpus_after}
 
@@ -51,6 +51,7 @@ ranged_by plan past cpu e ranged (Gone x) = left_calm plan cpu e _ _ _ x.cpu_is 
 ranged_by plan past cpu e ranged (Backs x) = left_calm plan cpu e _ _ _ x.cpu_is ranged.selects ranged.runs
 ranged_by plan past cpu e ranged (Writes x) = left_calm plan cpu e _ _ _ x.cpu_is ranged.selects ranged.runs
 ranged_by plan past cpu e ranged (Slots x) = left_calm plan cpu e _ _ _ x.cpu_is ranged.selects ranged.runs
+ranged_by plan past cpu e ranged (Unmaps x) = left_calm plan cpu e _ _ _ x.cpu_is ranged.selects ranged.runs
 ranged_by plan past cpu e ranged (Selected x) = left_calm plan cpu e _ _ _ x.cpu_is x.number ranged.runs
 
 -- so it is after a legal history

@@ -14,7 +14,7 @@ use Rattle.pef_model.specs.MoveLaw.{EachMoveIsOfAGeneration}
 use Rattle.pef_model.proofs.Works.{PageMove, inward, outward, work_of, with_copy, one_move, one_call, moves_none, one_vcpu}
 use Rattle.pef_model.proofs.Puts.{put-here, put-other}
 use Rattle.pef_model.proofs.Parts.{generation_grows}
-use Rattle.pef_model.proofs.Changes.{Change, Quiet, Begins, Copies, Ends, Drops, Comes, Reads, Accepts, Refuses, Takes, Parked, Gone, Backs, Writes, Slots, Selected}
+use Rattle.pef_model.proofs.Changes.{Change, Quiet, Begins, Copies, Ends, Drops, Comes, Reads, Accepts, Refuses, Takes, Parked, Gone, Backs, Writes, Slots, Unmaps, Selected}
 use Rattle.pef_model.proofs.ChangeOf.{change}
 use Rattle.pef_model.proofs.Fields.{cpus_after, of_each}
 
@@ -69,6 +69,7 @@ reached_by plan past cpu e reached (Gone x) = subst (Reached (generations plan p
 reached_by plan past cpu e reached (Backs x) = subst (Reached (generations plan past)) (sym x.cpu_is.ctx_is) reached
 reached_by plan past cpu e reached (Writes x) = subst (Reached (generations plan past)) (sym x.cpu_is.ctx_is) reached
 reached_by plan past cpu e reached (Slots x) = subst (Reached (generations plan past)) (sym x.cpu_is.ctx_is) reached
+reached_by plan past cpu e reached (Unmaps x) = subst (Reached (generations plan past)) (sym x.cpu_is.ctx_is) reached
 reached_by plan past cpu e reached (Selected x) = subst (Reached (generations plan past)) (sym x.cpu_is.ctx_is) reached
 
 -- so it is after a legal history

@@ -17,7 +17,7 @@ use Rattle.pef_model.proofs.Puts.{put-here, put-other, put_in, IsElsewhere, put_
 use Rattle.pef_model.proofs.Parts.{settled, secure_where_runs}
 use Rattle.pef_model.proofs.Reached.{all_reached}
 use Rattle.pef_model.proofs.Works.{one_vcpu}
-use Rattle.pef_model.proofs.Changes.{Change, may_run_in, entry_gives, Quiet, Begins, Copies, Ends, Drops, Comes, Reads, Accepts, Refuses, Takes, Parked, Gone, Backs, Writes, Slots, Selected, LeavesCpu, KeepsParts, PutsPart}
+use Rattle.pef_model.proofs.Changes.{Change, may_run_in, entry_gives, Quiet, Begins, Copies, Ends, Drops, Comes, Reads, Accepts, Refuses, Takes, Parked, Gone, Backs, Writes, Slots, Unmaps, Selected, LeavesCpu, KeepsParts, PutsPart}
 use Rattle.pef_model.proofs.ChangeOf.{change}
 use Rattle.pef_model.proofs.Fields.{ctxs, of_each, ctxs_after, same_ctxs, field_after, same_field, kept_field}
 
@@ -206,6 +206,7 @@ run_by plan past e legal all (Parked x) =
 run_by plan past e legal all (Gone x) = keeps_guests plan past e x.parts (runs_none plan past e _ _ _ all x.cpu_is (λ run is. cc))
 run_by plan past e legal all (Backs x) = keeps_vcpus plan past e _ _ x.parts refl refl refl (carry (same_ctxs plan past e _ _ x.cpu_is) refl refl refl all)
 run_by plan past e legal all (Slots x) = keeps_vcpus plan past e _ _ x.parts refl refl refl (carry (same_ctxs plan past e _ _ x.cpu_is) refl refl refl all)
+run_by plan past e legal all (Unmaps x) = keeps_vcpus plan past e _ _ x.parts refl refl refl (carry (same_ctxs plan past e _ _ x.cpu_is) refl refl refl all)
 run_by plan past e legal all (Writes x) =
     let g : GuestPart = part_after plan past x.lpid in
     let new : GuestPart = with_entry g x.base x.length_ in

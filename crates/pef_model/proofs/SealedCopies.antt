@@ -18,12 +18,13 @@ use Rattle.pef_model.specs.PageOut.{tag_of, private_page, sealed_page}
 use Rattle.pef_model.specs.Authority.{InSealedBytes, authority_by}
 use Rattle.pef_model.specs.History.{cpu_after, guest_after, part_after, last_store, IsLegal, begins_out_in, begins_out}
 use Rattle.pef_model.specs.MoveLaw.{OutPageIsSealed}
-use Rattle.pef_model.proofs.Changes.{Change, Quiet, Begins, Copies, Ends, Drops, Comes, Reads, Accepts, Refuses, Takes, Parked, Gone, Backs, Writes, Slots, Selected, WritesEntry}
+use Rattle.pef_model.proofs.Changes.{Change, Quiet, Begins, Copies, Ends, Drops, Comes, Reads, Accepts, Refuses, Takes, Parked, Gone, Backs, Writes, Slots, Unmaps, Selected, WritesEntry}
 use Rattle.pef_model.proofs.ChangeOf.{change}
 use Rattle.pef_model.proofs.Fields.{same_field, kept_field}
 use Rattle.pef_model.proofs.Paging.{pages, generations, AllPlain, all_plain, all_moved}
 use Rattle.pef_model.proofs.Puts.{put-other}
-use Rattle.pef_model.proofs.Begun.{PageStep, Stays, Begun, Ended, Coming, Refused, Secured, not_both_ways, page_step}
+use Rattle.pef_model.proofs.Moving.{unmapped_out}
+use Rattle.pef_model.proofs.Begun.{PageStep, Stays, Begun, Ended, Coming, Refused, Unmapped, Secured, not_both_ways, page_step}
 use Rattle.pef_model.proofs.PageBytes.{same_page_bytes}
 use Rattle.pef_model.proofs.KeptStores.{StoresNothing, others_store_nothing, content_stays}
 use Rattle.pef_model.proofs.Away.{Fails, IsAway, moves_away, out_away, away_stores_nothing}
@@ -45,6 +46,7 @@ stays_or_written plan past e (Parked x) = inl (same_field plan past e (λ (g : G
 stays_or_written plan past e (Gone x) = inl (kept_field plan past e (λ (g : GuestPart). g.generation) x.parts)
 stays_or_written plan past e (Backs x) = inl (same_field plan past e (λ (g : GuestPart). g.generation) _ _ x.parts refl)
 stays_or_written plan past e (Slots x) = inl (same_field plan past e (λ (g : GuestPart). g.generation) _ _ x.parts refl)
+stays_or_written plan past e (Unmaps x) = inl (same_field plan past e (λ (g : GuestPart). g.generation) _ _ x.parts refl)
 stays_or_written plan past e (Selected x) = inl (kept_field plan past e (λ (g : GuestPart). g.generation) x.parts)
 stays_or_written plan past e (Writes x) = inr x
 
@@ -82,6 +84,7 @@ begun_secure old new begins bytes seal (Begun begun cpu secure sealed is) some =
 begun_secure old new begins bytes seal (Ended none hand cpu moving is) some = let no : true ≡ false = sym some ∙ none in cc
 begun_secure old new begins bytes seal (Coming none cpu is) some = let no : true ≡ false = sym some ∙ none in cc
 begun_secure old new begins bytes seal (Refused none is) some = let no : true ≡ false = sym some ∙ none in cc
+begun_secure old new begins bytes seal (Unmapped none is) some = let no : true ≡ false = sym some ∙ none in cc
 begun_secure old new begins bytes seal (Secured none is) some = let no : true ≡ false = sym some ∙ none in cc
 
 -- a step that begins a page-out is no guest's
@@ -125,6 +128,10 @@ copy_after old new begins bytes seal before after (Coming none cpu is) makes h =
 copy_after old new begins bytes seal before after (Refused none is) makes h = subst (λ (page : Page). HasCopy page after) (sym is) (record {
   sealed = λ out. h.sealed out ∙ ap Some (sym (makes.kept (out_away old out) (ap (λ (page : Page). page.version) is)));
   pending = λ n rests. cc;
+})
+copy_after old new begins bytes seal before after (Unmapped none is) makes h = subst (λ (page : Page). HasCopy page after) (sym is) (record {
+  sealed = λ out. h.sealed (unmapped_out old.kind out) ∙ ap Some (sym (makes.kept (out_away old (unmapped_out old.kind out)) (ap (λ (page : Page). page.version) is)));
+  pending = λ cpu moves. h.pending cpu moves ∙ ap Some (sym (makes.kept (moves_away old _ moves) (ap (λ (page : Page). page.version) is)));
 })
 copy_after old new begins bytes seal before after (Secured none is) makes h = subst (λ (page : Page). HasCopy page after) (sym is) (record { sealed = λ out. cc; pending = λ n rests. cc })
 

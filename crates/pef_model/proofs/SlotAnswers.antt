@@ -21,6 +21,7 @@ use Rattle.pef_model.specs.Deed.{Deed}
 use Rattle.pef_model.specs.History.{cpu_after, deed_after, part_after}
 use Rattle.pef_model.specs.CauseLaw.{MayBeRegistered, RegistersExactlyWhere, UnregistersExactlyWhere}
 use Rattle.pef_model.proofs.Folds.{test_same}
+use Rattle.pef_model.proofs.Unmapped.{passed}
 use Rattle.pef_model.proofs.PageCalls.{within_test, test_within}
 use Rattle.pef_model.proofs.DeedOf.{ask_in, deed_is}
 
@@ -35,11 +36,6 @@ abbrev Accepted : Plan → GuestPart → ℕ → ℕ → ℕ → ℕ → Type 0
 Accepted plan g start size flags id =
     (may_change_slots_in g.phase ≡ true) × (has_page plan start ≡ true) × (has_pages plan (page_of plan start) size ≡ true) × (meets_slots g.slots (page_of plan start) (size / 2 ^ plan.shift) ≡ false) × (flags ≡ 0) × (id < 2 ^ 16)
     × (has_id g.slots id ≡ false) × (length g.slots < 32)
-
--- where a test holds that answers a refusal, the call isn't accepted
-passed : (b : Bool) (code rest : Code) → (code ≡ USuccess → ⊥) → (if b then code else rest) ≡ USuccess → (b ≡ false) × (rest ≡ USuccess)
-passed true code rest refuses h = absurd (refuses h)
-passed false code rest refuses h = (refl, h)
 
 all_passed : (plan : Plan) (g : GuestPart) (start size flags id : ℕ) → register_code plan g start size flags id ≡ USuccess → Accepted plan g start size flags id
 all_passed plan g start size flags id h =

@@ -6,7 +6,7 @@ use Rattle.pef_model.specs.declared.state.Ctx.TheVariants as ctx
 use Rattle.pef_model.specs.declared.command.Code.{Code}
 use Rattle.pef_model.specs.declared.command.Code.TheVariants.{USuccess, UP2}
 use Rattle.pef_model.specs.declared.command.Cmd.{Cmd}
-use Rattle.pef_model.specs.declared.command.Cmd.TheVariants.{HEnter, UPate, URegslot, UUnregslot, UPagein, UPageout, UReturn, GLd, GSt, GIrq}
+use Rattle.pef_model.specs.declared.command.Cmd.TheVariants.{HEnter, UPate, URegslot, UUnregslot, UPagein, UPageout, UInval, UReturn, GLd, GSt, GIrq}
 use Rattle.pef_model.specs.declared.entry.Answer.{Answer}
 use Rattle.pef_model.specs.declared.entry.Answer.TheVariants.{Done, Val, Ret, Step, Enter, Exit}
 use Rattle.pef_model.specs.declared.entry.PoolSaw.{PoolSaw}
@@ -14,7 +14,7 @@ use Rattle.pef_model.specs.Plan.{Plan, IsWithin}
 use Rattle.pef_model.specs.Event.{Event}
 use Rattle.pef_model.specs.Target.{Alone, AtGuest, target_in, is_guest, touches_guest}
 use Rattle.pef_model.specs.Slots.{without}
-use Rattle.pef_model.specs.GuestPart.{GuestPart, slot_asked, part_of_write, part_of_access, part_in}
+use Rattle.pef_model.specs.GuestPart.{GuestPart, page_of, slot_asked, part_of_write, part_of_inval, part_of_access, part_in}
 use Rattle.pef_model.specs.Guest.{Guest, next_guest}
 use Rattle.pef_model.specs.History.{guest_after, part_after, Extends}
 use Rattle.pef_model.specs.TransitionLaw.{slots_given, EachEntryLeavesSlots}
@@ -22,10 +22,14 @@ use Rattle.pef_model.proofs.Changes.{entry_gives}
 use Rattle.pef_model.proofs.PageCalls.{test_within}
 use Rattle.pef_model.proofs.SlotAnswers.{registers_exactly_where, unregisters_exactly_where}
 
--- a partition entry that is set, and an access, leave them
+-- a partition entry that is set, a page's frame that is taken, and an access leave them
 write_slots : (g : GuestPart) (code : Code) (dw0 dw1 : ℕ) → (part_of_write g code dw0 dw1).slots ≡ g.slots
 write_slots g USuccess dw0 dw1 = entry_gives (λ (new : GuestPart). new.slots ≡ g.slots) g dw0 dw1 refl refl
 write_slots g code dw0 dw1 = refl
+
+inval_slots : (g : GuestPart) (code : Code) (gfn : ℕ) → (part_of_inval g code gfn).slots ≡ g.slots
+inval_slots g USuccess gfn = refl
+inval_slots g code gfn = refl
 
 access_slots : (g : GuestPart) (gfn : ℕ) (pool : Option PoolSaw) → (part_of_access g gfn pool).slots ≡ g.slots
 access_slots g gfn None = refl
@@ -46,6 +50,7 @@ aimed_slots plan g pool v cpu bytes lpid l ctx.Hv (UUnregslot named id) (Ret USu
 aimed_slots plan g pool v cpu bytes lpid l ctx.Hv (URegslot named start size flags id) (Ret code) t = refl
 aimed_slots plan g pool v cpu bytes lpid l ctx.Hv (UUnregslot named id) (Ret code) t = refl
 aimed_slots plan g pool v cpu bytes lpid l ctx.Hv (UPate named dw0 dw1) (Ret code) t = write_slots g code dw0 dw1
+aimed_slots plan g pool v cpu bytes lpid l ctx.Hv (UInval named gpa order) (Ret code) t = inval_slots g code (page_of plan gpa)
 aimed_slots plan g pool v cpu bytes lpid l ctx.Hv cmd (Ret code) t = refl
 aimed_slots plan g pool v cpu bytes lpid l ctx.Hv (UReturn r0 r2 outs) Enter t = refl
 aimed_slots plan g pool v cpu bytes lpid l ctx.Hv (HEnter named vid value) Enter t = refl

@@ -12,7 +12,7 @@ use Rattle.pef_model.specs.declared.state.Ctx.{Ctx}
 use Rattle.pef_model.specs.declared.state.Ctx.TheVariants as ctx
 use Rattle.pef_model.specs.declared.command.TheConstants.{EXTERNAL_INTERRUPT}
 use Rattle.pef_model.specs.declared.command.Cmd.{Cmd}
-use Rattle.pef_model.specs.declared.command.Cmd.TheVariants.{HLd, HSt, HSelect, HEnter, UPate, URegslot, UUnregslot, UPagein, UPageout, UReturn, Go, Dump}
+use Rattle.pef_model.specs.declared.command.Cmd.TheVariants.{HLd, HSt, HSelect, HEnter, UPate, URegslot, UUnregslot, UPagein, UPageout, UInval, UReturn, Go, Dump}
 use Rattle.pef_model.specs.declared.entry.Exit.TheVariants as exit
 use Rattle.pef_model.specs.declared.entry.Answer.{Answer}
 use Rattle.pef_model.specs.declared.entry.Answer.TheVariants.{Done, Val, Ret, Step, Exit, Gone, Context}
@@ -51,6 +51,7 @@ context_leaves cpu ctx.Hv after (URegslot lpid start size flags id) shown bytes 
 context_leaves cpu ctx.Hv after (UUnregslot lpid id) shown bytes before h = absurd h
 context_leaves cpu ctx.Hv after (UPagein lpid src gpa flags order) shown bytes before h = absurd h
 context_leaves cpu ctx.Hv after (UPageout lpid dest gpa flags order) shown bytes before h = absurd h
+context_leaves cpu ctx.Hv after (UInval lpid gpa order) shown bytes before h = absurd h
 context_leaves cpu ctx.Hv after (UReturn r0 r2 outs) shown bytes before h = absurd h
 context_leaves cpu ctx.Hv after (Dump reg) shown bytes before h = absurd h
 context_leaves cpu ctx.Hv after cmd shown bytes before h = (λ i. record cpu { ctx = (h.0 ∙ sym before) i })

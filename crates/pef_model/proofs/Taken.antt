@@ -9,7 +9,7 @@ use Rattle.pef_model.specs.declared.state.Pending.TheVariants as pending
 use Rattle.pef_model.specs.declared.state.VState.{VState}
 use Rattle.pef_model.specs.declared.state.VState.TheVariants as vstate
 use Rattle.pef_model.specs.declared.command.Cmd.{Cmd}
-use Rattle.pef_model.specs.declared.command.Cmd.TheVariants.{HEnter, UPate, UPagein, UReturn, GLd, GSt, GHcall, GIrq}
+use Rattle.pef_model.specs.declared.command.Cmd.TheVariants.{HEnter, UPate, UPagein, UInval, UReturn, GLd, GSt, GHcall, GIrq}
 use Rattle.pef_model.specs.declared.command.Code.{Code}
 use Rattle.pef_model.specs.declared.command.Code.TheVariants.{USuccess, UP2}
 use Rattle.pef_model.specs.declared.state.Work.TheVariants.{Inward, Outward}
@@ -20,25 +20,28 @@ use Rattle.pef_model.specs.declared.entry.PoolSaw.{PoolSaw}
 use Rattle.pef_model.specs.Plan.{Plan}
 use Rattle.pef_model.specs.Event.{Event}
 use Rattle.pef_model.specs.Target.{Ask, Alone, AtGuest, caller, is_guest, target_in, touches_guest}
-use Rattle.pef_model.specs.GuestPart.{GuestPart, VcpuPart, new_vcpu, waits_for, ends_guest, ended_normal, part_of_write, part_in, part_of_access}
+use Rattle.pef_model.specs.GuestPart.{GuestPart, VcpuPart, new_vcpu, waits_for, ends_guest, ended_normal, part_of_write, part_of_inval, part_in, part_of_access, page_of}
 use Rattle.pef_model.specs.Guest.{Guest, next_guest}
 use Rattle.pef_model.specs.Entry.{enter_code}
+use Rattle.pef_model.specs.PageInval.{page_inval_code}
 use Rattle.pef_model.specs.Deed.{answering, returning}
 use Rattle.pef_model.specs.History.{cpu_after, guest_after, ask_of, deed_after, Extends}
 use Rattle.pef_model.specs.TransitionLaw.{waits_by, is_vcpu, state_given, taken_given, EachEntryLeavesStates}
 use Rattle.pef_model.proofs.Folds.{same_test, test_same, either_same}
 use Rattle.pef_model.proofs.Outcomes.{Outcome, outcome}
 
--- where h.enter enters, and where UV_WRITE_PATE ends a guest, this test holds
+-- where h.enter enters, UV_WRITE_PATE ends a guest, or UV_PAGE_INVAL is accepted, this test holds
 abbrev pub IsThere : Bool → Cmd → Answer → Type 0
 IsThere there (HEnter lpid vid value) Enter = there ≡ true
 IsThere there (UPate lpid dw0 dw1) (Ret code) = ends_guest code dw1 ≡ true → there ≡ true
+IsThere there (UInval lpid gpa order) (Ret USuccess) = there ≡ true
 IsThere there cmd a = Unit {0}
 
 -- whether the guest that one of these commands names is one of the machine
 abbrev pub is_there : Plan → Cmd → Bool
 is_there plan (HEnter lpid vid value) = nat_le 1 lpid && nat_le lpid plan.guests
 is_there plan (UPate lpid dw0 dw1) = nat_le 1 lpid && nat_le lpid plan.guests
+is_there plan (UInval lpid gpa order) = nat_le 1 lpid && nat_le lpid plan.guests
 is_there plan cmd = true
 
 enter_there : (plan : Plan) (past : List Event) (asked : Ask) (lpid vid value : ℕ) (b : Bool) →
@@ -60,6 +63,14 @@ write_there : (plan : Plan) (past : List Event) (asked : Ask) (lpid dw0 dw1 : �
 write_there plan past asked lpid dw0 dw1 false = λ ends. ends
 write_there plan past asked lpid dw0 dw1 true = λ ends. refl
 
+inval_there : (plan : Plan) (past : List Event) (asked : Ask) (lpid gpa order : ℕ) (b : Bool) →
+    IsThere b (UInval lpid gpa order) (deed_after plan past (record asked { before = ctx.Hv }) (UInval lpid gpa order) (if b then AtGuest lpid else Alone)).answer
+inval_there plan past asked lpid gpa order false = tt
+inval_there plan past asked lpid gpa order true = by_code (page_inval_code plan (guest_after plan lpid past).part gpa order) where
+  by_code : (code : Code) → IsThere true (UInval lpid gpa order) (Ret code)
+  by_code USuccess = refl
+  by_code code = tt
+
 -- so it is of a command of the hypervisor
 abbrev pub IsThereIn : Ctx → Plan → Cmd → Answer → Type 0
 IsThereIn ctx.Hv plan cmd a = IsThere (is_there plan cmd) cmd a
@@ -68,6 +79,7 @@ IsThereIn c plan cmd a = Unit {0}
 deed_there : (plan : Plan) (past : List Event) (c : Ctx) (asked : Ask) (cmd : Cmd) → IsThereIn c plan cmd (deed_after plan past (record asked { before = c }) cmd (target_in plan c asked.lpid cmd)).answer
 deed_there plan past ctx.Hv asked (HEnter lpid vid value) = enter_there plan past asked lpid vid value (nat_le 1 lpid && nat_le lpid plan.guests)
 deed_there plan past ctx.Hv asked (UPate lpid dw0 dw1) = write_there plan past asked lpid dw0 dw1 (nat_le 1 lpid && nat_le lpid plan.guests)
+deed_there plan past ctx.Hv asked (UInval lpid gpa order) = inval_there plan past asked lpid gpa order (nat_le 1 lpid && nat_le lpid plan.guests)
 deed_there plan past ctx.Hv asked cmd = tt
 deed_there plan past (ctx.Uv work) asked cmd = tt
 deed_there plan past (ctx.Guest run) asked cmd = tt
@@ -106,6 +118,10 @@ module _ (plan : Plan) (g : GuestPart) (pool : Option PoolSaw) (v cpu : ℕ) (by
   access_keeps gfn None = refl
   access_keeps gfn (Some saw) = refl
 
+  inval_keeps : (code : Code) (gfn : ℕ) → (part_of_inval g code gfn).vcpus vid ≡ g.vcpus vid
+  inval_keeps USuccess gfn = refl
+  inval_keeps code gfn = refl
+
   write_gives : (code : Code) (dw0 dw1 : ℕ) → (part_of_write g code dw0 dw1).vcpus vid ≡ unwrap_or (if ends_guest code dw1 then Some (new_vcpu vstate.Idle) else None) (g.vcpus vid)
   write_gives USuccess dw0 dw1 = by_length (dw1 == 0) where
     by_length : (b : Bool) →
@@ -121,6 +137,7 @@ module _ (plan : Plan) (g : GuestPart) (pool : Option PoolSaw) (v cpu : ℕ) (by
   vcpu_by ctx.Hv (HEnter lpid entered value) Enter = put_vcpu g.vcpus vid entered (taken_up g cpu)
   vcpu_by ctx.Hv cmd Enter = refl
   vcpu_by ctx.Hv (UPate lpid dw0 dw1) (Ret code) = write_gives code dw0 dw1
+  vcpu_by ctx.Hv (UInval lpid gpa order) (Ret code) = inval_keeps code (page_of plan gpa)
   vcpu_by ctx.Hv cmd (Ret code) = refl
   vcpu_by ctx.Hv (UPagein lpid src gpa flags order) Step = refl
   vcpu_by ctx.Hv cmd Step = refl

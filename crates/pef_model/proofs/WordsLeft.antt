@@ -13,14 +13,14 @@ use Rattle.pef_model.specs.declared.state.Ctx.TheVariants as ctx
 use Rattle.pef_model.specs.declared.command.Code.{Code}
 use Rattle.pef_model.specs.declared.command.Code.TheVariants.{USuccess, UP2}
 use Rattle.pef_model.specs.declared.command.Cmd.{Cmd}
-use Rattle.pef_model.specs.declared.command.Cmd.TheVariants.{HEnter, UPate, URegslot, UUnregslot, UPagein, UPageout, UReturn, GLd, GSt, GHcall, GIrq}
+use Rattle.pef_model.specs.declared.command.Cmd.TheVariants.{HEnter, UPate, URegslot, UUnregslot, UPagein, UPageout, UInval, UReturn, GLd, GSt, GHcall, GIrq}
 use Rattle.pef_model.specs.declared.entry.Answer.{Answer}
 use Rattle.pef_model.specs.declared.entry.Answer.TheVariants.{Done, Val, Ret, Step, Enter, Exit}
 use Rattle.pef_model.specs.declared.entry.PoolSaw.{PoolSaw}
 use Rattle.pef_model.specs.Plan.{Plan}
 use Rattle.pef_model.specs.Event.{Event}
 use Rattle.pef_model.specs.Target.{touches_guest}
-use Rattle.pef_model.specs.GuestPart.{GuestPart, ended_normal, part_of_write, part_of_access, part_in, page_of}
+use Rattle.pef_model.specs.GuestPart.{GuestPart, ended_normal, part_of_write, part_of_inval, part_of_access, part_in, page_of}
 use Rattle.pef_model.specs.Guest.{Guest, is_drawing, next_guest}
 use Rattle.pef_model.specs.PageOut.{page_out_code, bytes_out}
 use Rattle.pef_model.specs.Deed.{Deed, deed_page_out_begin, returning, deed_running, deed_hypervisor, deed_guest_in, deed_gone}
@@ -38,6 +38,10 @@ module _ (plan : Plan) (g : GuestPart) (pool : Option PoolSaw) (v cpu : ℕ) (by
     by_length false = refl
   write_keeps code dw0 dw1 = refl
 
+  inval_keeps : (code : Code) (gfn : ℕ) → (part_of_inval g code gfn).words ≡ g.words
+  inval_keeps USuccess gfn = refl
+  inval_keeps code gfn = refl
+
   access_keeps : (gfn : ℕ) (pool : Option PoolSaw) → (part_of_access g gfn pool).words ≡ g.words
   access_keeps gfn None = refl
   access_keeps gfn (Some saw) = refl
@@ -50,6 +54,7 @@ module _ (plan : Plan) (g : GuestPart) (pool : Option PoolSaw) (v cpu : ℕ) (by
   words_by ctx.Hv (Ret code) (UPate lpid dw0 dw1) = write_keeps code dw0 dw1
   words_by ctx.Hv (Ret code) (URegslot lpid start size flags id) = refl
   words_by ctx.Hv (Ret code) (UUnregslot lpid id) = refl
+  words_by ctx.Hv (Ret code) (UInval lpid gpa order) = inval_keeps code (page_of plan gpa)
   words_by ctx.Hv a cmd = refl
   words_by (ctx.Uv (Inward move)) (Ret USuccess) cmd = refl
   words_by (ctx.Uv (Inward move)) (Ret UP2) cmd = refl

@@ -7,7 +7,7 @@ use Rattle.pef_model.specs.declared.state.Ctx.TheVariants as ctx
 use Rattle.pef_model.specs.declared.command.Code.{Code}
 use Rattle.pef_model.specs.declared.command.Code.TheVariants.{USuccess, UParameter, UP2, UP3, UP4, UP5, UFunction, UBusy, UPermission, UInvalid, HSuccess, HUnsupported, HFunction, HHardware}
 use Rattle.pef_model.specs.declared.command.Cmd.{Cmd}
-use Rattle.pef_model.specs.declared.command.Cmd.TheVariants.{HLd, HSt, HSelect, HEnter, UPate, URegslot, UUnregslot, UPagein, UPageout, UReturn, GLi, GAdd, GXor, GLd, GSt, GHcall, GIrq, Dump}
+use Rattle.pef_model.specs.declared.command.Cmd.TheVariants.{HLd, HSt, HSelect, HEnter, UPate, URegslot, UUnregslot, UPagein, UPageout, UInval, UReturn, GLi, GAdd, GXor, GLd, GSt, GHcall, GIrq, Dump}
 use Rattle.pef_model.specs.declared.entry.Exit.TheVariants.{Normal, Irq, Hcall}
 use Rattle.pef_model.specs.declared.entry.Answer.{Answer}
 use Rattle.pef_model.specs.declared.entry.Answer.TheVariants.{Done, Val, Ret, Step, Enter, Exit, Again, Gone, Hole, Context}
@@ -73,6 +73,10 @@ can_answer_hypervisor (UPagein lpid src gpa flags order) Step = true
 can_answer_hypervisor (UPagein lpid src gpa flags order) (Ret code) = is_of_page_in code
 can_answer_hypervisor (UPageout lpid dest gpa flags order) Step = true
 can_answer_hypervisor (UPageout lpid dest gpa flags order) (Ret code) = is_of_page_out code
+can_answer_hypervisor (UInval lpid gpa order) (Ret UParameter) = true
+can_answer_hypervisor (UInval lpid gpa order) (Ret UP2) = true
+can_answer_hypervisor (UInval lpid gpa order) (Ret UP3) = true
+can_answer_hypervisor (UInval lpid gpa order) (Ret USuccess) = true
 can_answer_hypervisor (UReturn r0 r2 outs) Enter = true
 can_answer_hypervisor (UReturn r0 r2 outs) (Ret UInvalid) = true
 can_answer_hypervisor (Dump reg) (Val value) = true
@@ -101,6 +105,7 @@ can_answer_vcpu (URegslot lpid start size flags id) (Ret UPermission) = true
 can_answer_vcpu (UUnregslot lpid id) (Ret UPermission) = true
 can_answer_vcpu (UPagein lpid src gpa flags order) (Ret UPermission) = true
 can_answer_vcpu (UPageout lpid dest gpa flags order) (Ret UPermission) = true
+can_answer_vcpu (UInval lpid gpa order) (Ret UPermission) = true
 can_answer_vcpu (UReturn r0 r2 outs) (Ret UInvalid) = true
 can_answer_vcpu (GLi rd value) Done = true
 can_answer_vcpu (GAdd rd ra rb) Done = true

@@ -14,7 +14,7 @@ use Rattle.pef_model.specs.declared.state.Ctx.TheVariants as ctx
 use Rattle.pef_model.specs.declared.command.Code.{Code}
 use Rattle.pef_model.specs.declared.command.Code.TheVariants.{USuccess, UParameter, UP2, UBusy, UPermission, UInvalid, HSuccess, HUnsupported, HFunction, HHardware}
 use Rattle.pef_model.specs.declared.command.Cmd.{Cmd}
-use Rattle.pef_model.specs.declared.command.Cmd.TheVariants.{HLd, HSt, HSelect, HEnter, UPate, URegslot, UUnregslot, UPagein, UPageout, UReturn, GLi, GAdd, GXor, GLd, GSt, GHcall, GIrq, Dump}
+use Rattle.pef_model.specs.declared.command.Cmd.TheVariants.{HLd, HSt, HSelect, HEnter, UPate, URegslot, UUnregslot, UPagein, UPageout, UInval, UReturn, GLi, GAdd, GXor, GLd, GSt, GHcall, GIrq, Dump}
 use Rattle.pef_model.specs.declared.hypercall.TheConstants.{HCALLS}
 use Rattle.pef_model.specs.declared.hypercall.Row.{Row}
 use Rattle.pef_model.specs.declared.hypercall.RowKind.{RowKind}
@@ -32,6 +32,7 @@ use Rattle.pef_model.specs.Hypercalls.{row_of, let_out_by}
 use Rattle.pef_model.specs.Memory.{offset_of}
 use Rattle.pef_model.specs.PageOut.{page_out_code, bytes_out}
 use Rattle.pef_model.specs.PageIn.{page_in_operands, is_last_sealed}
+use Rattle.pef_model.specs.PageInval.{page_inval_code}
 use Rattle.pef_model.specs.Entry.{write_code, enter_code}
 use Rattle.pef_model.specs.SlotCalls.{register_code, unregister_code}
 use Rattle.pef_model.specs.Seal.{doublewords}
@@ -77,6 +78,7 @@ answer_alone plan ctx.Hv (URegslot lpid start size flags id) = answer.Ret UParam
 answer_alone plan ctx.Hv (UUnregslot lpid id) = answer.Ret UParameter
 answer_alone plan ctx.Hv (UPagein lpid src gpa flags order) = answer.Ret UParameter
 answer_alone plan ctx.Hv (UPageout lpid dest gpa flags order) = answer.Ret UParameter
+answer_alone plan ctx.Hv (UInval lpid gpa order) = answer.Ret UParameter
 answer_alone plan before cmd = answer.Context
 
 -- a command that aims at nothing: one that shows a register gives its value
@@ -292,6 +294,7 @@ deed_hypervisor plan g any ask (URegslot lpid start size flags id) = answering a
 deed_hypervisor plan g any ask (UUnregslot lpid id) = answering ask (answer.Ret (unregister_code g.part id))
 deed_hypervisor plan g any ask (UPagein lpid src gpa flags order) = deed_page_in plan g.part any ask lpid src gpa flags order
 deed_hypervisor plan g any ask (UPageout lpid dest gpa flags order) = deed_page_out plan g ask lpid dest gpa flags order
+deed_hypervisor plan g any ask (UInval lpid gpa order) = answering ask (answer.Ret (page_inval_code plan g.part gpa order))
 deed_hypervisor plan g any ask (UReturn r0 r2 outs) = deed_return g.part ask
 deed_hypervisor plan g any ask cmd = answering ask answer.Context
 

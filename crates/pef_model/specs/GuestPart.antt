@@ -17,7 +17,7 @@ use Rattle.pef_model.specs.declared.state.Run.{Run}
 use Rattle.pef_model.specs.declared.state.Ctx.{Ctx}
 use Rattle.pef_model.specs.declared.state.Ctx.TheVariants as ctx
 use Rattle.pef_model.specs.declared.command.Cmd.{Cmd}
-use Rattle.pef_model.specs.declared.command.Cmd.TheVariants.{HEnter, UPate, URegslot, UUnregslot, UPagein, UPageout, UReturn, GLd, GSt, GHcall, GIrq}
+use Rattle.pef_model.specs.declared.command.Cmd.TheVariants.{HEnter, UPate, URegslot, UUnregslot, UPagein, UPageout, UInval, UReturn, GLd, GSt, GHcall, GIrq}
 use Rattle.pef_model.specs.declared.command.Code.{Code}
 use Rattle.pef_model.specs.declared.command.Code.TheVariants.{USuccess, UP2, HSuccess}
 use Rattle.pef_model.specs.declared.entry.Exit.{Exit}
@@ -263,6 +263,26 @@ with_page_coming g gfn cpu = record g { pages = put g.pages gfn (begun_in (g.pag
 abbrev pub with_page_refused : GuestPart → ℕ → GuestPart
 with_page_refused g gfn = record g { pages = put g.pages gfn (refused_in (g.pages gfn)) }
 
+-- a kind without a normal frame: a Shared page loses its own and keeps its mark, and every other has none
+abbrev pub unmapped_kind : Kind → Kind
+unmapped_kind kind.Invalid = kind.Invalid
+unmapped_kind kind.Secure = kind.Secure
+unmapped_kind kind.Out = kind.Out
+unmapped_kind (kind.Shared frame fresh) = kind.Shared None fresh
+
+-- a page that has lost its normal frame, if it is Shared
+abbrev pub unmapped : Page → Page
+unmapped page = record page { kind = unmapped_kind page.kind }
+
+-- a page loses its normal frame
+abbrev pub with_page_unmapped : GuestPart → ℕ → GuestPart
+with_page_unmapped g gfn = record g { pages = put g.pages gfn (unmapped (g.pages gfn)) }
+
+-- after UV_PAGE_INVAL of a page, by the code with which it comes back
+abbrev pub part_of_inval : GuestPart → Code → ℕ → GuestPart
+part_of_inval g USuccess gfn = with_page_unmapped g gfn
+part_of_inval g code gfn = g
+
 -- whether UV_WRITE_PATE of this length, by the code with which it comes back, ends its guest
 abbrev pub ends_guest : Code → ℕ → Bool
 ends_guest USuccess dw1 = dw1 == 0
@@ -294,6 +314,7 @@ part_of_hypervisor plan g vid cpu bytes answer.Enter (HEnter lpid named value) =
 part_of_hypervisor plan g vid cpu bytes (answer.Ret code) (UPate lpid dw0 dw1) = part_of_write g code dw0 dw1
 part_of_hypervisor plan g vid cpu bytes (answer.Ret code) (URegslot lpid start size flags id) = record g { slots = registered_by code g.slots (slot_asked plan start size id) }
 part_of_hypervisor plan g vid cpu bytes (answer.Ret code) (UUnregslot lpid id) = record g { slots = unregistered_by code g.slots id }
+part_of_hypervisor plan g vid cpu bytes (answer.Ret code) (UInval lpid gpa order) = part_of_inval g code (page_of plan gpa)
 part_of_hypervisor plan g vid cpu bytes a cmd = g
 
 -- after a step of a call in progress

@@ -14,6 +14,7 @@ pub mod SlotCalls
 pub mod Memory
 pub mod PageOut
 pub mod PageIn
+pub mod PageInval
 pub mod Entry
 pub mod Deed
 pub mod History
@@ -33,6 +34,7 @@ pub mod Clash
 pub mod Sound
 pub mod FreshLaw
 pub mod TransitionLaw
+pub mod InvalLaw
 pub mod CountLaw
 pub mod NormalLaw
 pub mod View

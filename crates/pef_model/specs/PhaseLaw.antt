@@ -17,12 +17,12 @@ use Rattle.pef_model.specs.declared.state.Ctx.{Ctx}
 use Rattle.pef_model.specs.declared.state.Ctx.TheVariants as ctx
 use Rattle.pef_model.specs.declared.command.Code.TheVariants.{USuccess, UParameter, UP2, UP3, UP5, UBusy, UPermission, UInvalid}
 use Rattle.pef_model.specs.declared.command.Cmd.{Cmd}
-use Rattle.pef_model.specs.declared.command.Cmd.TheVariants.{HEnter, UPate, URegslot, UUnregslot, UReturn, GLd, GIrq, Go}
+use Rattle.pef_model.specs.declared.command.Cmd.TheVariants.{HEnter, UPate, URegslot, UUnregslot, UInval, UReturn, GLd, GIrq, Go}
 use Rattle.pef_model.specs.declared.entry.Exit.TheVariants as exit
 use Rattle.pef_model.specs.declared.entry.Answer.{Answer}
 use Rattle.pef_model.specs.declared.entry.Answer.TheVariants.{Val, Ret, Step, Enter, Exit, Again, Hole, Context, Nothing}
 use Rattle.pef_model.specs.Plan.{Plan, plan_of}
-use Rattle.pef_model.specs.GuestPart.{Page, Meeting, NoPlace, Moves, Private, Normal, Unshared, Unbacked, Away, invalid_page, new_vcpu, start_part, meets}
+use Rattle.pef_model.specs.GuestPart.{Page, Meeting, NoPlace, Moves, Private, Normal, Unshared, Unbacked, Away, invalid_page, new_vcpu, start_part, meets, part_of_hypervisor}
 use Rattle.pef_model.specs.Guest.{Guest, start_guest, registers_of_hypervisor}
 use Rattle.pef_model.specs.Deed.{Deed, deed_guest}
 use Rattle.pef_model.specs.RunLaw.{small_config, return_with}
@@ -164,6 +164,32 @@ pub record PageInByPhase : Type 0 where
   -- an Invalid page of a guest that is Secure
   pub invalid : map (λ free. answers_in phase.Secure (at_rest Invalid ∷ []) free (page_in_from 0x0)) (true ∷ false ∷ []) ≡ replicate 2 (Ret UP3 ∷ [])
 
+-- UV_PAGE_INVAL of page 0 with all else as it has to be
+abbrev pub inval_page : Cmd
+inval_page = UInval 1 0x0 8
+
+-- the pages above, and an Invalid one on the move
+abbrev pub all_pages : List Page
+all_pages = pages ++ on_the_move Invalid Inward ∷ []
+
+-- what UV_PAGE_INVAL leaves of such a page in a guest that is Secure
+abbrev pub page_left : Page → Page
+page_left page = let g = guest_in phase.Secure page Idle in (part_of_hypervisor small_plan g.part 0 0 [] (answer_at ctx.Hv g true inval_page) inval_page).pages 0
+
+-- what UV_PAGE_INVAL answers, whether a secure frame is free or not, and what it leaves
+pub record InvalByPhase : Type 0 where
+  -- a row for each phase
+  pub answers :
+      map (λ free. map (λ phase. answers_in phase all_pages free inval_page) phases) (true ∷ false ∷ [])
+      ≡ replicate 2
+      (replicate 2 (replicate 8 (Ret UParameter))
+      ++ (replicate 2 (Ret USuccess ∷ Ret UP2 ∷ Ret UP2 ∷ Ret USuccess ∷ Ret USuccess ∷ Ret UP2 ∷ Ret UP2 ∷ Ret USuccess ∷ [])
+      ++ replicate 8 (Ret UParameter) ∷ []))
+  -- a Shared page has no frame, and the mark that it had; every other is as it was
+  pub left :
+      map page_left all_pages
+      ≡ at_rest Invalid ∷ at_rest Secure ∷ at_rest Out ∷ at_rest (Shared None true) ∷ at_rest (Shared None false) ∷ on_the_move Secure Outward ∷ on_the_move Out Inward ∷ on_the_move Invalid Inward ∷ []
+
 -- what no row does yet, a field for each
 pub record NotHereYet : Type 0 where
   pub aborting_page_out : answers_in phase.Aborting pages true (page_out_to 0x0) ≡ replicate 7 (Ret UParameter)
@@ -230,6 +256,7 @@ pub record TablesByPhase : Type 0 where
   pub each : ReturnsToEach
   pub page_out : PageOutByPhase
   pub page_in : PageInByPhase
+  pub inval : InvalByPhase
   pub yet : NotHereYet
   pub meets_ : MeetsByPhase
   pub loads : LoadsByKind

@@ -4,7 +4,7 @@ use Rattle.pef_model.specs.declared.config.Config.{Config}
 use Rattle.pef_model.specs.declared.command.Code.{Code}
 use Rattle.pef_model.specs.declared.command.Code.TheVariants.{USuccess, UParameter, UP2, UP3, UP4, UP5, UFunction, UBusy, UPermission, UInvalid}
 use Rattle.pef_model.specs.declared.command.Cmd.{Cmd}
-use Rattle.pef_model.specs.declared.command.Cmd.TheVariants.{HLd, HSt, UPagein, UPageout, GLi, GLd, GSt, GIrq, Go}
+use Rattle.pef_model.specs.declared.command.Cmd.TheVariants.{HLd, HSt, UPagein, UPageout, UInval, GLi, GLd, GSt, GIrq, Go}
 use Rattle.pef_model.specs.declared.entry.Exit.TheVariants.{Irq}
 use Rattle.pef_model.specs.declared.entry.Answer.{Answer}
 use Rattle.pef_model.specs.declared.entry.Answer.TheVariants.{Done, Val, Ret, Step, Enter, Exit, Hole, Again, Context}
@@ -48,6 +48,21 @@ PageInRefusals =
     ∷ line_at 15 0 (UPagein 1 0x400 0x0 8 9) ∷ line_at 16 0 (UPagein 1 0x400 0x0 7 9)
     ∷ line_at 17 1 (UPagein 1 0x0 0x0 7 8) ∷ line_at 18 0 (UPagein 1 0x0 0x0 7 9) ∷ line_at 19 0 (page_in_from 0x0) ∷ go_all_at 20 1 ∷ line_at 21 0 (page_in_from 0x0) ∷ [])))
     ≡ stored ++ (moved ++ (rets (UParameter ∷ UParameter ∷ UParameter ∷ UP2 ∷ UP2 ∷ UP3 ∷ UP3 ∷ UP3 ∷ UP4 ∷ UP5 ∷ []) ++ (Step ∷ Ret UP5 ∷ Ret UBusy ∷ Step ∷ Ret USuccess ∷ Ret UP3 ∷ [])))
+
+-- UV_PAGE_INVAL: the guests as above; an address in a page, one past the last page, a page that is Secure; the orders beside the page's size; a page that is Invalid, and once more; the Secure page as it goes
+-- out, once it is Out, and as it comes in; and a guest's own call
+abbrev pub InvalRefusals : Type 0
+InvalRefusals =
+    answers_of
+    (store_lines
+    ++ (line_at 5 0 (UInval 0 0x80 9) ∷ line_at 6 0 (UInval 4 0x80 9) ∷ line_at 7 0 (UInval 2 0x80 9)
+    ∷ line_at 8 0 (UInval 1 0x80 9) ∷ line_at 9 0 (UInval 1 0x400 9) ∷ line_at 10 0 (UInval 1 0x0 9)
+    ∷ line_at 11 0 (UInval 1 0x100 9) ∷ line_at 12 0 (UInval 1 0x100 7) ∷ line_at 13 0 (UInval 1 0x100 8) ∷ line_at 14 0 (UInval 1 0x100 8)
+    ∷ line_at 15 1 (page_out_to 0x0) ∷ line_at 16 0 (UInval 1 0x0 8) ∷ go_all_at 17 1 ∷ line_at 18 0 (UInval 1 0x0 8)
+    ∷ line_at 19 1 (page_in_from 0x0) ∷ line_at 20 0 (UInval 1 0x0 8) ∷ line_at 21 0 (return_with 0) ∷ line_at 22 0 (UInval 0 0x80 9) ∷ []))
+    ≡ stored
+    ++ (rets (UParameter ∷ UParameter ∷ UParameter ∷ UP2 ∷ UP2 ∷ UP2 ∷ UP3 ∷ UP3 ∷ USuccess ∷ USuccess ∷ [])
+    ++ (Step ∷ Ret UP2 ∷ Step ∷ Ret USuccess ∷ Ret UP2 ∷ Step ∷ Ret UP2 ∷ Enter ∷ Ret UPermission ∷ []))
 
 -- a page-in for which no frame is free, with another order and without: the guest has taken the one that there is for another page
 abbrev pub NoFrameIsFree : Type 0

@@ -1,10 +1,10 @@
 -- Registers as lists of 32, and what a call loads into them.
 use Rattle.std.specs.Prelude.{ℕ, ◌+◌, ◌-◌, ◌==◌, nat_le, if◌then◌else◌, List, [], ◌∷◌, ◌++◌, length, take, drop, slice_get, slice_set, replicate, Option, Some, None}
-use Rattle.pef_model.specs.declared.command.TheConstants.{UV_WRITE_PATE, UV_REGISTER_MEM_SLOT, UV_UNREGISTER_MEM_SLOT, UV_PAGE_IN, UV_PAGE_OUT, UV_RETURN, EXTERNAL_INTERRUPT}
+use Rattle.pef_model.specs.declared.command.TheConstants.{UV_WRITE_PATE, UV_REGISTER_MEM_SLOT, UV_UNREGISTER_MEM_SLOT, UV_PAGE_IN, UV_PAGE_OUT, UV_PAGE_INVAL, UV_RETURN, EXTERNAL_INTERRUPT}
 use Rattle.pef_model.specs.declared.command.Code.{Code}
 use Rattle.pef_model.specs.declared.command.Code.TheVariants.{USuccess, UParameter, UP2, UP3, UP4, UP5, UFunction, UBusy, UPermission, UInvalid, HSuccess, HUnsupported, HFunction, HHardware}
 use Rattle.pef_model.specs.declared.command.Cmd.{Cmd}
-use Rattle.pef_model.specs.declared.command.Cmd.TheVariants.{UPate, URegslot, UUnregslot, UPagein, UPageout, UReturn}
+use Rattle.pef_model.specs.declared.command.Cmd.TheVariants.{UPate, URegslot, UUnregslot, UPagein, UPageout, UInval, UReturn}
 use Rattle.pef_model.specs.declared.state.Regs.{Regs}
 
 -- the number of a code
@@ -52,6 +52,7 @@ call_of (URegslot lpid start size flags id) = Some (record { number = UV_REGISTE
 call_of (UUnregslot lpid id) = Some (record { number = UV_UNREGISTER_MEM_SLOT; operands = lpid ∷ id ∷ [] })
 call_of (UPagein lpid src gpa flags order) = Some (record { number = UV_PAGE_IN; operands = lpid ∷ src ∷ gpa ∷ flags ∷ order ∷ [] })
 call_of (UPageout lpid dest gpa flags order) = Some (record { number = UV_PAGE_OUT; operands = lpid ∷ dest ∷ gpa ∷ flags ∷ order ∷ [] })
+call_of (UInval lpid gpa order) = Some (record { number = UV_PAGE_INVAL; operands = lpid ∷ gpa ∷ order ∷ [] })
 call_of (UReturn r0 r2 outs) = Some (record { number = UV_RETURN; operands = outs })
 call_of cmd = None
 

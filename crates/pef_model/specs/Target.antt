@@ -11,7 +11,7 @@ use Rattle.pef_model.specs.declared.state.Ctx.TheVariants as ctx
 use Rattle.pef_model.specs.declared.aim.Aim.{Aim}
 use Rattle.pef_model.specs.declared.aim.Aim.TheVariants as aim
 use Rattle.pef_model.specs.declared.command.Cmd.{Cmd}
-use Rattle.pef_model.specs.declared.command.Cmd.TheVariants.{HLd, HSt, HSelect, HEnter, UPate, URegslot, UUnregslot, UPagein, UPageout, UReturn, GLi, GAdd, GXor, GLd, GSt, GHcall, GIrq, Go, Dump}
+use Rattle.pef_model.specs.declared.command.Cmd.TheVariants.{HLd, HSt, HSelect, HEnter, UPate, URegslot, UUnregslot, UPagein, UPageout, UInval, UReturn, GLi, GAdd, GXor, GLd, GSt, GHcall, GIrq, Go, Dump}
 use Rattle.pef_model.specs.declared.entry.Answer.{Answer}
 use Rattle.pef_model.specs.declared.entry.Answer.TheVariants as answer
 use Rattle.pef_model.specs.Plan.{Plan}
@@ -34,6 +34,7 @@ is_command_in ctx.Hv (URegslot lpid start size flags id) = true
 is_command_in ctx.Hv (UUnregslot lpid id) = true
 is_command_in ctx.Hv (UPagein lpid src gpa flags order) = true
 is_command_in ctx.Hv (UPageout lpid dest gpa flags order) = true
+is_command_in ctx.Hv (UInval lpid gpa order) = true
 is_command_in ctx.Hv (UReturn r0 r2 outs) = true
 is_command_in ctx.Hv (Dump reg) = true
 is_command_in (ctx.Uv (Inward move)) Go = true
@@ -43,6 +44,7 @@ is_command_in (ctx.Guest run) (URegslot lpid start size flags id) = true
 is_command_in (ctx.Guest run) (UUnregslot lpid id) = true
 is_command_in (ctx.Guest run) (UPagein lpid src gpa flags order) = true
 is_command_in (ctx.Guest run) (UPageout lpid dest gpa flags order) = true
+is_command_in (ctx.Guest run) (UInval lpid gpa order) = true
 is_command_in (ctx.Guest run) (UReturn r0 r2 outs) = true
 is_command_in (ctx.Guest run) (GLi rd value) = true
 is_command_in (ctx.Guest run) (GAdd rd ra rb) = true
@@ -150,7 +152,7 @@ frame_of plan ra = ra / 2 ^ plan.shift
 abbrev pub has_real_place : Plan → ℕ → Bool
 has_real_place plan ra = (ra % 8 == 0) && nat_lt (frame_of plan ra) plan.normal
 
--- in the hypervisor UV_RETURN aims at the selected guest, h.enter, UV_WRITE_PATE, the calls for slots and a page's move at the one that they name, a load or store at its address, and every other command at nothing
+-- in the hypervisor UV_RETURN aims at the selected guest, h.enter, UV_WRITE_PATE, the calls for slots and for pages at the one that they name, a load or store at its address, and every other command at nothing
 abbrev pub aim_of_hypervisor : ℕ → Cmd → Aim
 aim_of_hypervisor selected (HLd ra) = aim.Address ra
 aim_of_hypervisor selected (HSt ra value) = aim.Address ra
@@ -160,6 +162,7 @@ aim_of_hypervisor selected (URegslot lpid start size flags id) = aim.NamedGuest 
 aim_of_hypervisor selected (UUnregslot lpid id) = aim.NamedGuest lpid
 aim_of_hypervisor selected (UPagein lpid src gpa flags order) = aim.NamedGuest lpid
 aim_of_hypervisor selected (UPageout lpid dest gpa flags order) = aim.NamedGuest lpid
+aim_of_hypervisor selected (UInval lpid gpa order) = aim.NamedGuest lpid
 aim_of_hypervisor selected (UReturn r0 r2 outs) = aim.Guest selected
 aim_of_hypervisor selected cmd = aim.Nothing
 

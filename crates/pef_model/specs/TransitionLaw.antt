@@ -14,7 +14,7 @@ use Rattle.pef_model.specs.declared.state.Slot.{Slot}
 use Rattle.pef_model.specs.declared.state.Ctx.{Ctx}
 use Rattle.pef_model.specs.declared.state.Ctx.TheVariants as ctx
 use Rattle.pef_model.specs.declared.command.Cmd.{Cmd}
-use Rattle.pef_model.specs.declared.command.Cmd.TheVariants.{HEnter, UPate, URegslot, UUnregslot, UReturn, GLd, GSt, GHcall}
+use Rattle.pef_model.specs.declared.command.Cmd.TheVariants.{HEnter, UPate, URegslot, UUnregslot, UInval, UReturn, GLd, GSt, GHcall}
 use Rattle.pef_model.specs.declared.command.Code.TheVariants.{USuccess}
 use Rattle.pef_model.specs.declared.entry.Exit.TheVariants as exit
 use Rattle.pef_model.specs.declared.entry.Answer.{Answer}
@@ -24,19 +24,20 @@ use Rattle.pef_model.specs.Plan.{Plan}
 use Rattle.pef_model.specs.Event.{Event}
 use Rattle.pef_model.specs.Target.{vcpu_in}
 use Rattle.pef_model.specs.Slots.{without}
-use Rattle.pef_model.specs.GuestPart.{GuestPart, PartitionEntry, page_of, ends_guest, slot_asked}
+use Rattle.pef_model.specs.GuestPart.{GuestPart, PartitionEntry, page_of, unmapped_kind, ends_guest, slot_asked}
 use Rattle.pef_model.specs.History.{guest_after, Extends, page_after}
 
 -- a kind for one page of a guest, and none for another
 abbrev pub for_page : ℕ → ℕ → ℕ → ℕ → Kind → Option Kind
 for_page lpid gfn at_lpid at_gfn new = if (at_lpid == lpid) && (at_gfn == gfn) then Some new else None
 
--- the kind that a step gives a guest's page, by the guest that it finds: Secure to one that an access backed and to one whose page-in is accepted, Out to one whose page-out ends; None where it gives it none
+-- the kind that a step gives a guest's page, by the guest that it finds: Secure to one that an access backed and to one whose page-in is accepted, Out to one whose page-out ends, and a Shared one without a frame where UV_PAGE_INVAL is accepted; None where it gives it none
 abbrev pub kind_given : Plan → GuestPart → ℕ → ℕ → Ctx → Cmd → Answer → Option PoolSaw → Option Kind
 kind_given plan g lpid gfn (ctx.Guest run) (GLd rd gpa) (answer.Val value) (Some saw) = for_page lpid gfn run.lpid (page_of plan gpa) Secure
 kind_given plan g lpid gfn (ctx.Guest run) (GSt rs gpa) answer.Done (Some saw) = for_page lpid gfn run.lpid (page_of plan gpa) Secure
 kind_given plan g lpid gfn (ctx.Uv (Inward move)) cmd (answer.Ret USuccess) pool = for_page lpid gfn move.lpid move.gfn Secure
 kind_given plan g lpid gfn (ctx.Uv (Outward move)) cmd (answer.Ret USuccess) pool = for_page lpid gfn move.lpid move.gfn Out
+kind_given plan g lpid gfn ctx.Hv (UInval named gpa order) (answer.Ret USuccess) pool = for_page lpid gfn named (page_of plan gpa) (unmapped_kind (g.pages gfn).kind)
 kind_given plan g lpid gfn before cmd a pool = None
 
 -- the kind of a page after an entry: the one that its step gives it, and else as it was

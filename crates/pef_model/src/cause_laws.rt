@@ -1,6 +1,7 @@
 //! The laws of answers and their causes, and of what guests keep: each is the contract of a function that does nothing.
 
 ghost use Rattle.pef_model.specs.CauseLaw.{BusyExactlyWhere, BeginsExactlyWhere, EntersExactlyWhere, EntersNormalExactlyWhere, WritesExactlyWhere, RegistersExactlyWhere, UnregistersExactlyWhere, SelectsExactlyWhere, AgainExactlyWhere, HoleExactlyWhere, ExitsExactlyWhere, ContextExactlyWhere, GoneExactlyWhere};
+ghost use Rattle.pef_model.specs.InvalLaw.{InvalExactlyWhere};
 ghost use Rattle.pef_model.specs.AnswerLaw.{EachAnswerIsOfItsRow};
 ghost use Rattle.pef_model.specs.OldMoveLaw.{OldMovesChangeNothing};
 ghost use Rattle.pef_model.specs.ToldLaw.{AccessTellsItsFrame, PrivateAccessTellsNoFrame, EntryAtGuestIsTold};
@@ -55,6 +56,12 @@ pub fn registers_exactly_where()
 /// id of a slot of it.
 pub fn unregisters_exactly_where()
     ensures { UnregistersExactlyWhere }
+{}
+
+/// UV_PAGE_INVAL of the hypervisor is accepted exactly where it names a guest that is Starting or Secure, a page of it that is
+/// Invalid or Shared, and the order of a page's size.
+pub fn inval_exactly_where()
+    ensures { InvalExactlyWhere }
 {}
 
 /// h.select selects exactly where it names a vCPU of a guest of the machine.

@@ -21,6 +21,9 @@ pub const UV_PAGE_IN: u64 = 4;
 /// The number of the ultracall UV_PAGE_OUT, which its caller puts into R3. This project's own.
 pub const UV_PAGE_OUT: u64 = 5;
 
+/// The number of the ultracall UV_PAGE_INVAL, which its caller puts into R3. This project's own.
+pub const UV_PAGE_INVAL: u64 = 6;
+
 /// The number of the ultracall UV_RETURN, which its caller puts into R3. This project's own.
 pub const UV_RETURN: u64 = 8;
 
@@ -195,6 +198,13 @@ pub enum Cmd {
         flags: u64,
         order: u64,
     },
+    /// The ultracall UV_PAGE_INVAL: the page at a guest address, in bytes, of the guest of a number, from 1, loses its normal
+    /// frame if it is Shared; the order is a page's size as a power of two.
+    UInval {
+        lpid: u64,
+        gpa: u64,
+        order: u64,
+    },
     /// The ultracall UV_RETURN, with the values that the caller loads: R0 a hypercall's return value, R2 the
     /// address of a synthesized interrupt or 0, and R4 to R12 a hypercall's outputs.
     UReturn {
@@ -256,6 +266,7 @@ impl Cmd {
             Cmd::UUnregslot { .. } => {}
             Cmd::UPagein { .. } => {}
             Cmd::UPageout { .. } => {}
+            Cmd::UInval { .. } => {}
             Cmd::UReturn { outs, .. } => {
                 let [_r4, _r5, _r6, _r7, _r8, _r9, _r10, _r11, _r12] = outs;
             }

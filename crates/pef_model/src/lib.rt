@@ -17,8 +17,9 @@ pub mod step_laws;
 
 pub use aim::Aim;
 pub use command::{
-    Cmd, Code, Directive, EXTERNAL_INTERRUPT, PAGE_IN_FLAGS, Reg, UV_PAGE_IN, UV_PAGE_OUT,
-    UV_REGISTER_MEM_SLOT, UV_RETURN, UV_SNAPSHOT, UV_UNREGISTER_MEM_SLOT, UV_WRITE_PATE,
+    Cmd, Code, Directive, EXTERNAL_INTERRUPT, PAGE_IN_FLAGS, Reg, UV_PAGE_IN, UV_PAGE_INVAL,
+    UV_PAGE_OUT, UV_REGISTER_MEM_SLOT, UV_RETURN, UV_SNAPSHOT, UV_UNREGISTER_MEM_SLOT,
+    UV_WRITE_PATE,
 };
 pub use config::{Config, EntropyWord, EntropyWords, Lpids};
 pub use entry::{Answer, Entry, Exit, Exposed, History, PoolSaw, Saw, Trace};

@@ -1,6 +1,6 @@
 //! Refusals, names and numbers, computed from the definitions: each is the contract of a function that does nothing.
 
-ghost use Rattle.pef_model.specs.RefusalLaw.{PageOutRefusals, PageInRefusals, NoFrameIsFree, TheLastGuest, AGuestMeanwhile, AGuestMeanwhileIn, NormalAtTheEdge, PagesOf512Bytes};
+ghost use Rattle.pef_model.specs.RefusalLaw.{PageOutRefusals, PageInRefusals, InvalRefusals, NoFrameIsFree, TheLastGuest, AGuestMeanwhile, AGuestMeanwhileIn, NormalAtTheEdge, PagesOf512Bytes};
 ghost use Rattle.pef_model.specs.PhaseLaw.{TablesByPhase};
 ghost use Rattle.pef_model.specs.NameLaw.{EachNameIsWritten, FrameHasItsLine, AreNumbers};
 ghost use Rattle.pef_model.specs.EntryLaw.{ANormalGuest, AGuestEndsAsItRuns, AllRegistersAreLeft, PateRefusals, SelectRefusals, EnterRefusals};
@@ -15,6 +15,12 @@ pub fn page_out_refusals()
 /// The codes of UV_PAGE_IN, each where what would be refused later is wrong too.
 pub fn page_in_refusals()
     ensures { PageInRefusals }
+{}
+
+/// The codes of UV_PAGE_INVAL, each where what would be refused later is wrong too; and what it answers of a page that is
+/// Invalid, on the move or Out, and to a guest.
+pub fn inval_refusals()
+    ensures { InvalRefusals }
 {}
 
 /// A page-in for which no secure frame is free answers U_BUSY.
@@ -47,8 +53,9 @@ pub fn pages_of_512_bytes()
     ensures { PagesOf512Bytes }
 {}
 
-/// What UV_RETURN, UV_PAGE_OUT, UV_PAGE_IN and a load answer, and what an access meets, in a guest of each phase with a page of
-/// each kind, and what UV_RETURN does by what the vCPU waits for; also where no script brings a guest, a page or a vCPU there.
+/// What UV_RETURN, UV_PAGE_OUT, UV_PAGE_IN, UV_PAGE_INVAL and a load answer, and what an access meets, in a guest of each phase
+/// with a page of each kind, what UV_PAGE_INVAL leaves of the page, and what UV_RETURN does by what the vCPU waits for; also
+/// where no script brings a guest, a page or a vCPU there.
 pub fn tables_by_phase()
     ensures { TablesByPhase }
 {}

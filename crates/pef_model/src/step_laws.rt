@@ -2,6 +2,7 @@
 
 ghost use Rattle.pef_model.specs.StepLaw.{EachEntryLeavesCpu, EachEntryLeavesRegisters, EachEntryTells};
 ghost use Rattle.pef_model.specs.HypercallLaw.{EachHypercallIsScrubbed};
+ghost use Rattle.pef_model.specs.InvalLaw.{InvalTakesFrame};
 ghost use Rattle.pef_model.specs.TransitionLaw.{EachEntryLeavesKinds, EachEntryLeavesStates, EachEntryLeavesLives, EachEntryLeavesSlots};
 ghost use Rattle.pef_model.specs.CountLaw.{EachCpuRunsItsVcpu, EachRunIsOfAGeneration, NoVcpuRunsTwice, FramesAreCounted, OrderHasSecurePages, OrderGrows, EachNormalGuestIsPlain, EachGuestHasItsSlots};
 
@@ -55,10 +56,16 @@ pub fn order_grows()
     ensures { OrderGrows }
 {}
 
-/// A page becomes Secure by an access that was done or by a page-in that was accepted, and Out by a page-out that ends; no
-/// other entry changes its kind.
+/// A page becomes Secure by an access that was done or by a page-in that was accepted, Out by a page-out that ends, and a Shared
+/// one loses its frame and keeps its mark by UV_PAGE_INVAL that is accepted; no other entry changes its kind.
 pub fn each_entry_leaves_kinds()
     ensures { EachEntryLeavesKinds }
+{}
+
+/// UV_PAGE_INVAL that is accepted takes its frame from the Shared page that it names, which keeps its mark, and leaves every
+/// other page, all else of the guests, the number of free frames and the normal frames.
+pub fn inval_takes_frame()
+    ensures { InvalTakesFrame }
 {}
 
 /// A vCPU runs on a CPU from where UV_RETURN or `h.enter` takes it up there, in the guest's generation, until an interrupt parks

@@ -14,6 +14,7 @@ returns c = record {
   loaded = refl;
   registered = refl;
   unregistered = refl;
+  invalidated = refl;
   numbers = refl;
   calls = refl;
 }
