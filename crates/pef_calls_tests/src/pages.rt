@@ -14,6 +14,11 @@ const SHARED: Kind = Kind::Shared {
     fresh: false,
 };
 
+const UNBACKED: Kind = Kind::Shared {
+    frame: None,
+    fresh: false,
+};
+
 const OUTWARD: Mover = Mover {
     cpu: 3,
     way: Way::Outward,
@@ -115,6 +120,12 @@ fn share(rt: &impl Abort, pages: &mut Pages<SecFrame>) -> Option<SecFrame> {
     pages.put_shared(0, Some(9), false)
 }
 
+// Page 0 loses the normal frame that backs it.
+fn unmap(rt: &impl Abort, pages: &mut Pages<SecFrame>) {
+    assert!(rt; pages.count() > 0);
+    pages.unmap(0);
+}
+
 fn drop_to_invalid(rt: &impl Abort, pages: &mut Pages<SecFrame>, gfn: u32) -> Option<SecFrame> {
     assert!(rt; gfn < pages.count());
     pages.drop_to_invalid(gfn)
@@ -175,6 +186,8 @@ fn a_page_that_becomes_shared_or_invalid_gives_its_frame_away(rt: HostRuntime) -
     assert!(rt; dropped.number() == 1);
     has(&rt, &pages, 0, SHARED, 0, None, None);
     has(&rt, &pages, 1, Kind::Invalid, 0, None, None);
+    unmap(&rt, &mut pages);
+    has(&rt, &pages, 0, UNBACKED, 0, None, None);
     Ok(())
 }
 

@@ -7,7 +7,7 @@ use Rattle.pef_model.specs.declared.state.Ctx.{Ctx}
 use Rattle.pef_model.specs.declared.state.Ctx.TheVariants as ctx
 use Rattle.pef_model.specs.declared.state.Tag.{Tag}
 use Rattle.pef_model.specs.declared.command.Cmd.{Cmd}
-use Rattle.pef_model.specs.declared.command.Cmd.TheVariants.{UPagein, UPageout, GLd, GSt}
+use Rattle.pef_model.specs.declared.command.Cmd.TheVariants.{UPagein, UPageout, UInval, GLd, GSt}
 use Rattle.pef_model.specs.Plan.{Plan}
 use Rattle.pef_model.specs.Event.{Mark}
 use Rattle.pef_model.specs.Target.{touches_pool}
@@ -47,6 +47,7 @@ frame_wanted (want.Frame n) = Some n
 abbrev pub is_page_call : Cmd → Bool
 is_page_call (UPagein lpid src gpa flags order) = true
 is_page_call (UPageout lpid dest gpa flags order) = true
+is_page_call (UInval lpid gpa order) = true
 is_page_call cmd = false
 
 -- whether a call of the hypervisor asks for a free frame: UV_PAGE_IN does, where its operands are right

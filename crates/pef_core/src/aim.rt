@@ -33,6 +33,7 @@ pub fn aim_of(own: &Cpu, cmd: &Cmd) -> Aim
         (Ctx::Hv, Cmd::UUnregslot { lpid, .. }) => Aim::NamedGuest(*lpid),
         (Ctx::Hv, Cmd::UPagein { lpid, .. }) => Aim::NamedGuest(*lpid),
         (Ctx::Hv, Cmd::UPageout { lpid, .. }) => Aim::NamedGuest(*lpid),
+        (Ctx::Hv, Cmd::UInval { lpid, .. }) => Aim::NamedGuest(*lpid),
         (Ctx::Hv, Cmd::UReturn { .. }) => Aim::Guest(own.lpid),
         (Ctx::Uv(Work::Inward(page)), Cmd::Go) => Aim::Move(page),
         (Ctx::Uv(Work::Outward(page)), Cmd::Go) => Aim::Move(page),

@@ -226,6 +226,9 @@ fn page_call<S: Seal>(guest: &mut Guest<S>, cpu: &mut Cpu, cmd: &Cmd) -> Answer
                 order: *order,
             },
         ),
+        Cmd::UInval { lpid, gpa, order } => {
+            pef_move::page_inval(guest, cpu, *lpid, *gpa, *order)
+        }
         _ => unreachable!(),
     }
 }
@@ -244,6 +247,7 @@ fn command<S: Seal>(guest: &mut Guest<S>, cpu: &mut Cpu, run: Run, cmd: &Cmd) ->
         | Cmd::UUnregslot { .. }
         | Cmd::UPagein { .. }
         | Cmd::UPageout { .. }
+        | Cmd::UInval { .. }
         | Cmd::UReturn { .. } => pef_reflect::refuse_call(guest, cpu, run, cmd),
         Cmd::GLi { rd, value } => pef_reflect::load_immediate(guest, cpu, run, *rd, *value),
         Cmd::GAdd { rd, ra, rb } => pef_reflect::add(guest, cpu, run, *rd, *ra, *rb),

@@ -129,6 +129,7 @@ fn arguments(cmd: &Cmd) -> Exposed
             flags,
             order,
         } => Exposed::of(&[lpid, dest, gpa, flags, order]),
+        Cmd::UInval { lpid, gpa, order } => Exposed::of(&[lpid, gpa, order]),
         Cmd::UReturn { r0, r2, outs } => {
             let mut values = [0; 11];
             values[0] = r0;

@@ -37,7 +37,8 @@ fn hypervisor(cpu: &mut Cpu, cmd: &Cmd, guests: u16, vcpus: u8) -> Answer
         | Cmd::URegslot { .. }
         | Cmd::UUnregslot { .. }
         | Cmd::UPagein { .. }
-        | Cmd::UPageout { .. } => names_no_guest(cpu, cmd),
+        | Cmd::UPageout { .. }
+        | Cmd::UInval { .. } => names_no_guest(cpu, cmd),
         Cmd::UReturn { .. } => unreachable!(),
         Cmd::GLi { .. } => Answer::Context,
         Cmd::GAdd { .. } => Answer::Context,

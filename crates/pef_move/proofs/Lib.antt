@@ -9,5 +9,6 @@ pub mod OnWayIn
 pub mod Come
 pub mod ComeRows
 pub mod Bundle
+pub mod InvalRow
 mod Asking
 mod LateEnds

@@ -1,4 +1,5 @@
 pub mod PageOut
 pub mod Route
 pub mod PageIn
+pub mod PageInval
 pub mod Unseal

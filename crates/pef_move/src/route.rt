@@ -5,6 +5,7 @@ ghost use Rattle.pef_model.specs.Plan.{Plan, IsWithin};
 ghost use Rattle.pef_model.specs.PageOut.{may_page_out_in, can_go_out};
 ghost use Rattle.pef_model.specs.GuestPart.{GuestPart, is_shared};
 ghost use Rattle.pef_model.specs.PageIn.{may_page_in_in, can_come_in};
+ghost use Rattle.pef_model.specs.PageInval.{may_be_dropped};
 ghost use Rattle.pef_pages.specs.Pages.{kind_at};
 ghost use Rattle.pef_move.specs.Route.{code_for, operands_for, has_page_at, are_right_in, code_of, has_value, IsRoute, IsRouteIn};
 
@@ -83,8 +84,8 @@ pub(crate) fn route_in<S: Seal>(guest: &Guest<S>, call: &PageCall) -> Result<Rou
     Ok(Route { gfn, frame })
 }
 
-/// Whether a call that moves a page is for a guest in this phase: one that is Starting or Secure.
-fn is_for(phase: Phase) -> bool
+/// Whether a call for a page is for a guest in this phase: one that is Starting or Secure.
+pub(crate) fn is_for(phase: Phase) -> bool
     ensures out { result ≡ may_page_out_in phase }
     ensures inward { result ≡ may_page_in_in phase }
 {
@@ -123,6 +124,26 @@ fn page_to_come_in<S: Seal>(guest: &Guest<S>, gpa: u64) -> Option<u32>
 {
     let gfn = frame_below(gpa, guest.shift, guest.pages.count())?;
     can_come_in(guest.phase, guest.pages.kind(gfn)).then_some(gfn)
+}
+
+/// The page that begins at a guest address, where there is one that is Invalid or Shared.
+pub(crate) fn page_to_drop<S: Seal>(guest: &Guest<S>, gpa: u64) -> Option<u32>
+    requires { IsWithin 8 16 guest.now.shift }
+    ensures number { result ≡ (if has_page_at guest.now gpa && may_be_dropped (kind_at guest.now.pages (gpa / 2 ^ guest.now.shift)) then Some (gpa / 2 ^ guest.now.shift) else None) }
+    ensures below { IfSome result (λ gfn. gfn < length guest.now.pages.pages) }
+{
+    let gfn = frame_below(gpa, guest.shift, guest.pages.count())?;
+    may_be_dropped(guest.pages.kind(gfn)).then_some(gfn)
+}
+
+/// Whether a page of this kind has nothing that would be lost: it is Invalid or Shared.
+fn may_be_dropped(kind: Kind) -> bool
+    ensures { result ≡ may_be_dropped kind }
+{
+    match kind {
+        Kind::Invalid | Kind::Shared { .. } => true,
+        Kind::Secure | Kind::Out => false,
+    }
 }
 
 /// Whether a page of this kind can come in, in a guest of this phase: it is Out.

@@ -80,6 +80,11 @@ module _ {F : Type 0} where
   shared_by None fresh = cell.Unbacked fresh
   shared_by (Some frame) fresh = cell.Shared frame
 
+  -- a page without a normal frame that backs it; a Shared one that had one is not fresh, as it was
+  abbrev pub unmapped : Cell F → Cell F
+  unmapped (cell.Shared frame) = cell.Unbacked false
+  unmapped other = other
+
   -- a Secure page begins to move outward
   abbrev pub begun_out : Cell F → ℕ → Option Digest32 → Cell F
   begun_out (cell.Secure frame) cpu digest = cell.MovesOut frame cpu digest

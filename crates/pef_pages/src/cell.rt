@@ -3,7 +3,7 @@
 ghost use Rattle.std.specs.Prelude.{◌≡◌, option_copied};
 ghost use Rattle.std.specs.Option.{option_copied_mut};
 ghost use Rattle.std.specs.Borrow.{LendsIf, sem};
-ghost use Rattle.pef_pages.specs.Cells.{kind_of, mover_of, way_of, digest_of, frame_in, with_frame, without_frame, shared_by, begun_out, ended_out, accepted_in, refused_in};
+ghost use Rattle.pef_pages.specs.Cells.{kind_of, mover_of, way_of, digest_of, frame_in, with_frame, without_frame, shared_by, unmapped, begun_out, ended_out, accepted_in, refused_in};
 
 use pef_model::{Digest32, Kind, Mover, Way};
 use std::mem;
@@ -151,6 +151,15 @@ impl<F: Drop> Cell<F> {
                 Some(frame)
             }
             _ => None,
+        }
+    }
+
+    /// No normal frame backs it any longer. Whether it is fresh stays.
+    pub(crate) fn unmap(&mut self)
+        ensures { self.new ≡ unmapped self.old }
+    {
+        if let Cell::Shared { .. } = self {
+            *self = Cell::Unbacked { fresh: false };
         }
     }
 

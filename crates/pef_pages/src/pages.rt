@@ -3,7 +3,7 @@
 ghost use Rattle.std.specs.Prelude.{◌≡◌, ◌↔◌, ℕ, ◌<◌, ◌+◌, ◌-◌, ◌^◌, true, false, length, count_by, if◌then◌else◌, IfOk, IfSome, IsTrue, IsSome, IsNone, is_none, option_copied};
 ghost use Rattle.std.specs.Option.{option_copied_mut};
 ghost use Rattle.std.specs.Borrow.{LendsIf, sem};
-ghost use Rattle.pef_pages.specs.Cells.{kind_of, way_of, shared_by, begun_out, ended_out};
+ghost use Rattle.pef_pages.specs.Cells.{kind_of, way_of, shared_by, unmapped, begun_out, ended_out};
 ghost use Rattle.pef_pages.specs.Pages.{is_secure_kind, IsAbsent, with_frame_at, ended_in, invalid_pages, page_at, cell_at, kind_at, mover_at, digest_at, frame_at, version_at, is_moving, with_cell, with_page, joins_order, leaves_order, oldest_of, IsOrdered, RestsSecure};
 
 use crate::cell::Cell;
@@ -248,6 +248,14 @@ impl<F: Drop> Pages<F> {
         ensures pages { self.new ≡ leaves_order (with_cell self.old gfn (shared_by frame fresh)) gfn }
     {
         self.put(gfn, Cell::shared(frame, fresh))
+    }
+
+    /// No normal frame backs a page any longer, if one did. Whether it is fresh, its version and the order stay.
+    pub fn unmap(&mut self, gfn: u32)
+        requires { gfn < length self.old.pages }
+        ensures { self.new ≡ with_cell self.old gfn (unmapped (cell_at self.old gfn)) }
+    {
+        self.pages[gfn as usize].cell.unmap();
     }
 
     /// A page becomes Invalid, whatever it was. It leaves the order and gives the secure frame away that it had. Its version

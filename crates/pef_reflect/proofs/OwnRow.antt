@@ -8,7 +8,7 @@ use Rattle.pef_model.specs.declared.state.Regs.{Regs}
 use Rattle.pef_model.specs.declared.state.Tag.{Tag}
 use Rattle.pef_model.specs.declared.state.Ctx.TheVariants as ctx
 use Rattle.pef_model.specs.declared.command.Cmd.{Cmd}
-use Rattle.pef_model.specs.declared.command.Cmd.TheVariants.{HLd, UPate, URegslot, UUnregslot, UPagein, UPageout, UReturn, GLd, GSt}
+use Rattle.pef_model.specs.declared.command.Cmd.TheVariants.{HLd, UPate, URegslot, UUnregslot, UPagein, UPageout, UInval, UReturn, GLd, GSt}
 use Rattle.pef_model.specs.declared.entry.Answer.TheVariants.{Ret}
 use Rattle.pef_model.specs.Plan.{Plan}
 use Rattle.pef_model.specs.Event.{Mark}
@@ -75,6 +75,8 @@ module _ {S : Type 0} (stands : S → Tag → List ℕ → List ℕ → Type 0) 
       record { row = record { answered = refl; guest = shows_registers stands image plan old g run.vid shows runs.vid (refused_registers (UPagein lpid src gpa flags order)); cpu_is = stays }; pool = refl }
   refused_row (UPageout lpid dest gpa flags order) k =
       record { row = record { answered = refl; guest = shows_registers stands image plan old g run.vid shows runs.vid (refused_registers (UPageout lpid dest gpa flags order)); cpu_is = stays }; pool = refl }
+  refused_row (UInval lpid gpa order) k =
+      record { row = record { answered = refl; guest = shows_registers stands image plan old g run.vid shows runs.vid (refused_registers (UInval lpid gpa order)); cpu_is = stays }; pool = refl }
   refused_row (UReturn r0 r2 outs) k =
       record { row = record { answered = refl; guest = shows_registers stands image plan old g run.vid shows runs.vid (refused_registers (UReturn r0 r2 outs)); cpu_is = stays }; pool = refl }
   refused_row (HLd ra) k = absurd cc

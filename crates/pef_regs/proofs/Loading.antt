@@ -4,7 +4,7 @@ use Rattle.std.specs.Prelude.{unwrap_or}
 use Rattle.std.proofs.lemmas.Bool.Decides.{nat_tests}
 use Rattle.std.proofs.lemmas.Option.{slice_get_past}
 use Rattle.pef_model.specs.declared.command.Cmd.{Cmd}
-use Rattle.pef_model.specs.declared.command.Cmd.TheVariants.{HLd, UPate, URegslot, UUnregslot, UPagein, UPageout, UReturn}
+use Rattle.pef_model.specs.declared.command.Cmd.TheVariants.{HLd, UPate, URegslot, UUnregslot, UPagein, UPageout, UInval, UReturn}
 use Rattle.pef_model.specs.Commands.{IsCommand}
 use Rattle.pef_model.specs.Registers.{loaded, value_loaded}
 use Rattle.pef_model.proofs.Called.{loads_value}
@@ -17,6 +17,7 @@ first_stays (URegslot lpid start size flags id) = refl
 first_stays (UUnregslot lpid id) = refl
 first_stays (UPagein lpid src gpa flags order) = refl
 first_stays (UPageout lpid dest gpa flags order) = refl
+first_stays (UInval lpid gpa order) = refl
 first_stays (UReturn r0 r2 outs) = refl
 first_stays (HLd ra) = refl
 first_stays cmd = refl
@@ -28,6 +29,7 @@ others_stay (URegslot lpid start size flags id) r k above = grind (arith, nat_te
 others_stay (UUnregslot lpid id) r k above = grind (arith, nat_tests, slice_get_past (lpid ∷ id ∷ []) (r - 4))
 others_stay (UPagein lpid src gpa flags order) r k above = grind (arith, nat_tests, slice_get_past (lpid ∷ src ∷ gpa ∷ flags ∷ order ∷ []) (r - 4))
 others_stay (UPageout lpid dest gpa flags order) r k above = grind (arith, nat_tests, slice_get_past (lpid ∷ dest ∷ gpa ∷ flags ∷ order ∷ []) (r - 4))
+others_stay (UInval lpid gpa order) r k above = grind (arith, nat_tests, slice_get_past (lpid ∷ gpa ∷ order ∷ []) (r - 4))
 others_stay (UReturn r0 r2 outs) r k above = grind (arith, nat_tests, slice_get_past outs (r - 4))
 others_stay (HLd ra) r k above = refl
 others_stay cmd r k above = refl

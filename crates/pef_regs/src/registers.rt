@@ -6,7 +6,7 @@ ghost use Rattle.pef_model.specs.Guest.{at_next_instruction, entered_at};
 ghost use Rattle.pef_regs.specs.Loads.{LoadsCall};
 
 use pef_model::{
-    Cmd, Code, Reg, Regs, UV_PAGE_IN, UV_PAGE_OUT, UV_REGISTER_MEM_SLOT, UV_RETURN,
+    Cmd, Code, Reg, Regs, UV_PAGE_IN, UV_PAGE_INVAL, UV_PAGE_OUT, UV_REGISTER_MEM_SLOT, UV_RETURN,
     UV_UNREGISTER_MEM_SLOT, UV_WRITE_PATE,
 };
 
@@ -46,6 +46,7 @@ pub fn load(gpr: &mut [u64; 32], cmd: &Cmd)
             flags,
             order,
         } => put(gpr, UV_PAGE_OUT, &[*lpid, *dest, *gpa, *flags, *order]),
+        Cmd::UInval { lpid, gpa, order } => put(gpr, UV_PAGE_INVAL, &[*lpid, *gpa, *order]),
         Cmd::UReturn { r0, r2, outs } => {
             gpr[0] = *r0;
             gpr[2] = *r2;

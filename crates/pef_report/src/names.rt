@@ -20,6 +20,7 @@ pub fn name_of(cmd: &Cmd) -> &'static [u8]
         Cmd::UUnregslot { .. } => b"u.unregslot",
         Cmd::UPagein { .. } => b"u.pagein",
         Cmd::UPageout { .. } => b"u.pageout",
+        Cmd::UInval { .. } => b"u.inval",
         Cmd::UReturn { .. } => b"u.return",
         Cmd::GLi { .. } => b"g.li",
         Cmd::GAdd { .. } => b"g.add",

@@ -3,7 +3,7 @@ use Rattle.std.specs.Prelude.{◌≡◌, ℕ, ◌+◌, List, [], ◌∷◌, ◌+
 use Rattle.std.specs.List.{flat_map}
 use Rattle.pef_model.specs.declared.command.Directive.{Directive}
 use Rattle.pef_model.specs.declared.command.Directive.TheVariants.{Once, GoAll}
-use Rattle.pef_model.specs.declared.command.Cmd.TheVariants.{HLd, HSt, HSelect, HEnter, UPate, URegslot, UUnregslot, UPagein, UPageout, UReturn, GLi, GAdd, GXor, GLd, GSt, GHcall, GIrq, Go, Dump}
+use Rattle.pef_model.specs.declared.command.Cmd.TheVariants.{HLd, HSt, HSelect, HEnter, UPate, URegslot, UUnregslot, UPagein, UPageout, UInval, UReturn, GLi, GAdd, GXor, GLd, GSt, GHcall, GIrq, Go, Dump}
 use Rattle.pef_model.specs.Plan.{default_config}
 use Rattle.pef_model.specs.RunLaw.{store_script}
 use Rattle.pef_script.specs.declared.fault.Cause.{Cause}
@@ -42,6 +42,7 @@ pub record EachCommandIsRead : Type 0 where
   pub unregister : IsRead (codes "0 u.unregslot 1 2\n") (Once (UUnregslot 1 2))
   pub page_in : IsRead (codes "0 u.pagein 1 2 3 4 5\n") (Once (UPagein 1 2 3 4 5))
   pub page_out : IsRead (codes "0 u.pageout 1 2 3 4 5\n") (Once (UPageout 1 2 3 4 5))
+  pub invalidate : IsRead (codes "0 u.inval 1 2 3\n") (Once (UInval 1 2 3))
   pub returns : IsRead (codes "0 u.return 1 2\n") (Once (UReturn 1 2 (replicate 9 0)))
   pub returns_one : IsRead (codes "0 u.return 1 2 3\n") (Once (UReturn 1 2 (3 ∷ replicate 8 0)))
   pub returns_nine : IsRead (codes "0 u.return 1 2 3 4 5 6 7 8 9 10 11\n") (Once (UReturn 1 2 (3 ∷ 4 ∷ 5 ∷ 6 ∷ 7 ∷ 8 ∷ 9 ∷ 10 ∷ 11 ∷ [])))
@@ -109,6 +110,7 @@ commands =
     ∷ command (codes "u.unregslot") (codes "0" ∷ codes "0" ∷ [])
     ∷ command (codes "u.pagein") (codes "0" ∷ codes "0" ∷ codes "0" ∷ codes "0" ∷ codes "0" ∷ [])
     ∷ command (codes "u.pageout") (codes "0" ∷ codes "0" ∷ codes "0" ∷ codes "0" ∷ codes "0" ∷ [])
+    ∷ command (codes "u.inval") (codes "0" ∷ codes "0" ∷ codes "0" ∷ [])
     ∷ record { name = codes "u.return"; operands = codes "0" ∷ codes "0" ∷ []; more = 9 }
     ∷ command (codes "g.li") (codes "r0" ∷ codes "0" ∷ [])
     ∷ command (codes "g.add") (codes "r0" ∷ codes "r0" ∷ codes "r0" ∷ [])

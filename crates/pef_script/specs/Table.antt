@@ -2,7 +2,7 @@
 use Rattle.std.specs.Prelude.{ℕ, List, [], ◌∷◌, map, replicate, slice_index, codes, Option}
 use Rattle.std.specs.List.{find}
 use Rattle.std.specs.Str.{bytes_eq}
-use Rattle.pef_model.specs.declared.command.Cmd.TheVariants.{HLd, HSt, HSelect, HEnter, UPate, URegslot, UUnregslot, UPagein, UPageout, UReturn, GLi, GAdd, GXor, GLd, GSt, GHcall, GIrq, Go, Dump}
+use Rattle.pef_model.specs.declared.command.Cmd.TheVariants.{HLd, HSt, HSelect, HEnter, UPate, URegslot, UUnregslot, UPagein, UPageout, UInval, UReturn, GLi, GAdd, GXor, GLd, GSt, GHcall, GIrq, Go, Dump}
 use Rattle.pef_model.specs.declared.command.Directive.{Directive}
 use Rattle.pef_model.specs.declared.command.Directive.TheVariants.{Once, GoAll}
 use Rattle.pef_script.specs.declared.table.Kind.{Kind}
@@ -50,6 +50,7 @@ shape w.URegslot = row (codes "u.regslot") (Number ∷ Number ∷ Number ∷ Num
 shape w.UUnregslot = row (codes "u.unregslot") (Number ∷ Number ∷ []) (λ o. Once (UUnregslot (at o 0) (at o 1)))
 shape w.UPagein = row (codes "u.pagein") (Number ∷ Number ∷ Number ∷ Number ∷ Number ∷ []) (λ o. Once (UPagein (at o 0) (at o 1) (at o 2) (at o 3) (at o 4)))
 shape w.UPageout = row (codes "u.pageout") (Number ∷ Number ∷ Number ∷ Number ∷ Number ∷ []) (λ o. Once (UPageout (at o 0) (at o 1) (at o 2) (at o 3) (at o 4)))
+shape w.UInval = row (codes "u.inval") (Number ∷ Number ∷ Number ∷ []) (λ o. Once (UInval (at o 0) (at o 1) (at o 2)))
 shape w.UReturn = record (row (codes "u.return") (Number ∷ Number ∷ []) (λ o. Once (UReturn (at o 0) (at o 1) (outputs o)))) { more = 9 }
 shape w.GLi = row (codes "g.li") (Register ∷ Pair ∷ []) (λ o. Once (GLi (reg o 0) (at o 1)))
 shape w.GAdd = row (codes "g.add") (Register ∷ Register ∷ Register ∷ []) (λ o. Once (GAdd (reg o 0) (reg o 1) (reg o 2)))
@@ -64,7 +65,7 @@ shape w.Dump = row (codes "dump") (Register ∷ []) (λ o. Once (Dump (reg o 0))
 
 -- the commands that there are
 abbrev pub words : List Word
-words = w.HLd ∷ w.HSt ∷ w.HSelect ∷ w.HEnter ∷ w.UPate ∷ w.URegslot ∷ w.UUnregslot ∷ w.UPagein ∷ w.UPageout ∷ w.UReturn ∷ w.GLi ∷ w.GAdd ∷ w.GXor ∷ w.GLd ∷ w.GSt ∷ w.GHcall ∷ w.GIrq ∷ w.Go ∷ w.GoAll ∷ w.Dump ∷ []
+words = w.HLd ∷ w.HSt ∷ w.HSelect ∷ w.HEnter ∷ w.UPate ∷ w.URegslot ∷ w.UUnregslot ∷ w.UPagein ∷ w.UPageout ∷ w.UInval ∷ w.UReturn ∷ w.GLi ∷ w.GAdd ∷ w.GXor ∷ w.GLd ∷ w.GSt ∷ w.GHcall ∷ w.GIrq ∷ w.Go ∷ w.GoAll ∷ w.Dump ∷ []
 
 -- the command of a name
 unfoldable pub word_named : List ℕ → Option Word

@@ -8,7 +8,7 @@ use Rattle.pef_model.specs.declared.config.EntropyWord.{EntropyWord}
 use Rattle.pef_model.specs.declared.command.Directive.{Directive}
 use Rattle.pef_model.specs.declared.command.Directive.TheVariants.{Once, GoAll}
 use Rattle.pef_model.specs.declared.command.Cmd.{Cmd}
-use Rattle.pef_model.specs.declared.command.Cmd.TheVariants.{HLd, HSt, HSelect, HEnter, UPate, URegslot, UUnregslot, UPagein, UPageout, UReturn, GLi, GAdd, GXor, GLd, GSt, Dump}
+use Rattle.pef_model.specs.declared.command.Cmd.TheVariants.{HLd, HSt, HSelect, HEnter, UPate, URegslot, UUnregslot, UPagein, UPageout, UInval, UReturn, GLi, GAdd, GXor, GLd, GSt, Dump}
 use Rattle.pef_model.specs.Plan.{IsInRange}
 use Rattle.pef_model.specs.Report.{command_name}
 use Rattle.pef_script.specs.Line.{ReadLine}
@@ -55,6 +55,7 @@ command_operands right (URegslot lpid start size flags id) = Number lpid ∷ Num
 command_operands right (UUnregslot lpid id) = Number lpid ∷ Number id ∷ []
 command_operands right (UPagein lpid src gpa flags order) = Number lpid ∷ Number src ∷ Number gpa ∷ Number flags ∷ Number order ∷ []
 command_operands right (UPageout lpid dest gpa flags order) = Number lpid ∷ Number dest ∷ Number gpa ∷ Number flags ∷ Number order ∷ []
+command_operands right (UInval lpid gpa order) = Number lpid ∷ Number gpa ∷ Number order ∷ []
 command_operands right (UReturn r0 r2 outs) = Number r0 ∷ Number r2 ∷ map (λ out. Number out) outs
 command_operands right (GLi rd value) = Register rd ∷ Pair value right ∷ []
 command_operands right (GAdd rd ra rb) = Register rd ∷ Register ra ∷ Register rb ∷ []

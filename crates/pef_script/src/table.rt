@@ -30,6 +30,7 @@ pub enum Word {
     UUnregslot,
     UPagein,
     UPageout,
+    UInval,
     UReturn,
     GLi,
     GAdd,
@@ -79,7 +80,7 @@ macro_rules! row {
 }
 
 /// The commands of a script.
-pub static TABLE: [Row; 20] = [
+pub static TABLE: [Row; 21] = [
     row!(b"h.ld", [N], 0, HLd),
     row!(b"h.st", [N, N], 0, HSt),
     row!(b"h.select", [N, N], 0, HSelect),
@@ -89,6 +90,7 @@ pub static TABLE: [Row; 20] = [
     row!(b"u.unregslot", [N, N], 0, UUnregslot),
     row!(b"u.pagein", [N, N, N, N, N], 0, UPagein),
     row!(b"u.pageout", [N, N, N, N, N], 0, UPageout),
+    row!(b"u.inval", [N, N, N], 0, UInval),
     row!(b"u.return", [N, N], 9, UReturn),
     row!(b"g.li", [R, P], 0, GLi),
     row!(b"g.add", [R, R, R], 0, GAdd),
@@ -166,6 +168,11 @@ pub fn made(word: Word, o: &Operands) -> Directive
             gpa: n[2],
             flags: n[3],
             order: n[4],
+        },
+        Word::UInval => Cmd::UInval {
+            lpid: n[0],
+            gpa: n[1],
+            order: n[2],
         },
         Word::UReturn => Cmd::UReturn {
             r0: n[0],
